@@ -1,0 +1,30 @@
+-- The figures of 01 and of the encoding document, each named once for the definitions and for the laws.
+--
+--    mostIdent == bytes of an identifier
+--     mostPath == bytes of a path as written
+--    mostWords == words of a list to lower
+--   mostNumber == the largest field number
+--   mostVarint == bytes of a varint
+--
+-- Assumes nothing.
+use Prim.Native.Nat.{ℕ}
+
+-- 01, Sheet and request: "Identifiers are 1 to 64 bytes"
+abbrev pub mostIdent : ℕ
+mostIdent = 64
+
+-- 01, Sheet and request: "Paths, at most 255 bytes"
+abbrev pub mostPath : ℕ
+mostPath = 255
+
+-- 01, Listing and lowering: "at most 4,096 words a list"
+abbrev pub mostWords : ℕ
+mostWords = 4096
+
+-- 01, Sheet and request: "Field numbers are 1 to 536,870,911"
+abbrev pub mostNumber : ℕ
+mostNumber = 536870911
+
+-- Encoding, "Base 128 Varints": up to ten bytes hold the 64 bits
+abbrev pub mostVarint : ℕ
+mostVarint = 10

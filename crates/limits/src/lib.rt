@@ -1,0 +1,16 @@
+// The figures of 01, each named once for the code; specs/Figures.antt names the same ones for the definitions.
+
+// An identifier has at most so many bytes.
+pub const MOST_IDENT: usize = 64;
+
+// A path as written has at most so many bytes, a leading dot counted.
+pub const MOST_PATH: usize = 255;
+
+// A list to lower has at most so many words.
+pub const MOST_WORDS: usize = 4096;
+
+// Field numbers are 1 to this one.
+pub const MOST_NUMBER: u64 = 536_870_911;
+
+// A varint has at most so many bytes.
+pub const MOST_VARINT: usize = 10;

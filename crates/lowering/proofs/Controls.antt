@@ -1,0 +1,77 @@
+-- Closed cases of the definitions, which the checker computes: of each rule one that holds, one at the limit, one refused just past it.
+-- Assumes nothing.
+use mathlib.Core.Path.{_≡_, refl}
+use mathlib.Core.List.{List, [], _∷_, map}
+use Prim.Native.Nat.{ℕ}
+use lib.IntN.{ℤ, pos, negsuc}
+use lib.ListN.{replicate}
+use Rattle.reply.specs.declared.Refusal.the-variants.{BadRequest, BeyondLimit, RangeEnd}
+use Rattle.reply.specs.Outcome.{Outcome, refuse, give}
+use Rattle.lowering.specs.Ranges.{endOf, pairs, lowerRanges}
+use Rattle.lowering.specs.Fields.{oneofs, lowerFields}
+
+-- 01, example 10: extension 100 to 199; the last end, refused and, for an enum, kept; the end before it; a start above its end; -1; no words
+ranges :
+    map (λ (ws : List ℤ). lowerRanges 0 ws)
+    ((pos 100 ∷ pos 199 ∷ [])
+    ∷ (pos 1 ∷ pos 2147483647 ∷ [])
+    ∷ (pos 1 ∷ pos 2147483646 ∷ [])
+    ∷ (pos 9 ∷ pos 3 ∷ [])
+    ∷ (negsuc 4 ∷ negsuc 0 ∷ [])
+    ∷ []
+    ∷ [])
+    ≡ give (pos 100 ∷ pos 200 ∷ [])
+    ∷ refuse RangeEnd
+    ∷ give (pos 1 ∷ pos 2147483647 ∷ [])
+    ∷ give (pos 9 ∷ pos 4 ∷ [])
+    ∷ give (negsuc 4 ∷ pos 0 ∷ [])
+    ∷ give []
+    ∷ []
+unfolding lowerRanges pairs endOf
+ranges = refl
+
+-- kinds 1, 2 and 3; an odd count comes before a last end, and a kind before an odd count
+kinds :
+    map (λ (k : ℕ). lowerRanges k (pos 1 ∷ pos 2147483647 ∷ [])) (1 ∷ 2 ∷ 3 ∷ [])
+    ≡ refuse RangeEnd ∷ give (pos 1 ∷ pos 2147483647 ∷ []) ∷ refuse BadRequest ∷ []
+unfolding lowerRanges pairs endOf
+kinds = refl
+
+odd : lowerRanges 0 (pos 1 ∷ pos 2147483647 ∷ pos 5 ∷ []) ≡ refuse BadRequest
+unfolding lowerRanges pairs endOf
+odd = refl
+
+-- each of the words; a stray member at the start, after a plain field and after an optional one; two oneofs, the first empty; another word
+fields :
+    map lowerFields
+    ((0 ∷ 1 ∷ 2 ∷ 3 ∷ 3 ∷ 0 ∷ 1 ∷ [])
+    ∷ (3 ∷ [])
+    ∷ (2 ∷ 0 ∷ 3 ∷ [])
+    ∷ (1 ∷ 3 ∷ [])
+    ∷ (2 ∷ 2 ∷ 3 ∷ [])
+    ∷ (4 ∷ [])
+    ∷ []
+    ∷ [])
+    ≡ give (0 ∷ 1 ∷ 2 ∷ 2 ∷ 0 ∷ 3 ∷ [])
+    ∷ refuse BadRequest
+    ∷ refuse BadRequest
+    ∷ refuse BadRequest
+    ∷ give (2 ∷ [])
+    ∷ refuse BadRequest
+    ∷ give []
+    ∷ []
+unfolding lowerFields oneofs
+fields = refl
+
+-- 4,096 words are taken and 4,097 are not; too many words come before a wrong one and an odd count
+at-most : lowerFields (replicate 4096 0) ≡ give (replicate 4096 0)
+unfolding lowerFields oneofs
+at-most = refl
+
+too-many : lowerFields (replicate 4097 7) ≡ refuse BeyondLimit
+unfolding lowerFields
+too-many = refl
+
+too-many-words : lowerRanges 0 (replicate 4097 (pos 1)) ≡ refuse BeyondLimit
+unfolding lowerRanges
+too-many-words = refl

@@ -1,0 +1,210 @@
+-- Fields: the loop of `put_fields`, and the ways through `lower_fields`.
+-- Assumes nothing.
+use mathlib.Core.Path.{_≡_, refl, sym, ap, _∙_}
+use mathlib.Core.Bool.{Bool, true, false}
+use mathlib.Core.List.{List, [], _∷_}
+use Prim.Native.Nat.{ℕ, suc, _+_, _≤_, _<_}
+use native.Mathlib.Numerals.{add-one}
+use native.Mathlib.Omega.{arith}
+use borrow.Author.Tests.{lt-ltb, le-ltb, eq-eqb, ne-eqb}
+use lib.Dec.{eqb}
+use lib.ListN.{length, getD, drop, drop-of-length-le}
+use lib.Seq.{sets, drop-cons}
+use mir.Syntax.{w32}
+use mir.Val.{Fits}
+use Rattle.limits.specs.Figures.{mostWords}
+use Rattle.reply.specs.declared.Refusal.the-variants.{BadRequest, BeyondLimit}
+use Rattle.reply.specs.declared.Answer.{Answer}
+use Rattle.reply.specs.Reply.{refusedBy}
+use Rattle.reply.specs.Outcome.{Outcome, refuse, nothing, give, push, Answered}
+use Rattle.reply.proofs.Outcomes.{answered-refused}
+use Rattle.lowering.specs.declared.Put.{Put}
+use Rattle.lowering.specs.declared.Put.the-variants.{Wrote, Refused}
+use Rattle.lowering.specs.Puts.{Puts}
+use Rattle.lowering.specs.Fields.{oneofs, lowerFields}
+use Rattle.lowering.proofs.WriteLaws.{
+  Front,
+  front-start,
+  front-put,
+  front-pass,
+  front-length,
+  front-refused,
+  front-done,
+  give-inv,
+  Settled,
+  gives,
+  refuses,
+  Given,
+  put-wrote,
+  call-refused,
+  call-no-room,
+  call-done,
+}
+
+-- ---- a word at the front
+module _ (count member w : ℕ) (ws : List ℕ) where
+  oneofs-plain : w ≡ 0 → oneofs count member (w ∷ ws) ≡ push (0 ∷ []) (oneofs count 0 ws)
+  unfolding oneofs
+  oneofs-plain e = simp (oneofs, eq-eqb w 0 e)
+
+  module _ (a : w ≡ 0 → ⊥) where
+    oneofs-optional : w ≡ 1 → oneofs count member (w ∷ ws) ≡ push ((count + 1) ∷ []) (oneofs (count + 1) 0 ws)
+    unfolding oneofs
+    oneofs-optional e = simp (oneofs, ne-eqb w 0 a, eq-eqb w 1 e, add-one)
+
+    module _ (b : w ≡ 1 → ⊥) where
+      oneofs-opens : w ≡ 2 → oneofs count member (w ∷ ws) ≡ oneofs (count + 1) (count + 1) ws
+      unfolding oneofs
+      oneofs-opens e = simp (oneofs, ne-eqb w 0 a, ne-eqb w 1 b, eq-eqb w 2 e, add-one)
+
+      module _ (d : w ≡ 2 → ⊥) where
+        oneofs-other : (w ≡ 3 → ⊥) → oneofs count member (w ∷ ws) ≡ refuse BadRequest
+        unfolding oneofs
+        oneofs-other e = simp (oneofs, ne-eqb w 0 a, ne-eqb w 1 b, ne-eqb w 2 d, ne-eqb w 3 e)
+
+        oneofs-stray : w ≡ 3 → member ≡ 0 → oneofs count member (w ∷ ws) ≡ refuse BadRequest
+        unfolding oneofs
+        oneofs-stray e m = simp (oneofs, ne-eqb w 0 a, ne-eqb w 1 b, ne-eqb w 2 d, eq-eqb w 3 e, eq-eqb member 0 m)
+
+        oneofs-member : w ≡ 3 → (member ≡ 0 → ⊥) → oneofs count member (w ∷ ws) ≡ push (member ∷ []) (oneofs count member ws)
+        unfolding oneofs
+        oneofs-member e m = simp (oneofs, ne-eqb w 0 a, ne-eqb w 1 b, ne-eqb w 2 d, eq-eqb w 3 e, ne-eqb member 0 m)
+
+-- ---- the loop: the first i words are read, and n words written
+pub record Numbering (ws l l′ : List ℕ) (count member n i : ℕ) : Type 0 where
+  pub reached : i ≤ length ws
+  pub most : length ws ≤ mostWords
+  pub few : n ≤ i
+  pub counted : count ≤ i
+  pub laid : Front (oneofs 0 0 ws) (oneofs count member (drop i ws)) l l′ n
+
+pub numbering-start : (ws l : List ℕ) → length ws ≤ mostWords → Numbering ws l l 0 0 0 0
+numbering-start ws l h = record { reached = omega arith; most = h; few = omega arith; counted = omega arith; laid = front-start _ l }
+
+module _ (ws l m : List ℕ) (count member n i : ℕ) (u : Numbering ws l m count member n i) where
+  pub numbering-length : length m ≡ length l
+  numbering-length = front-length _ _ l m n (u .laid)
+
+  pub numbering-count : i < length ws → Fits w32 (count + 1)
+  numbering-count h = record { fits = omega (arith, u .counted, u .most) }
+
+  pub numbering-next : i < length ws → n + 1 ≤ 4096
+  numbering-next h = omega (arith, u .few, u .most)
+
+  pub numbering-done : length ws ≤ i → Puts (oneofs 0 0 ws) l m (Wrote n)
+  unfolding oneofs
+  numbering-done h = front-done _ _ l m n (u .laid) (rw (drop-of-length-le ws h))
+
+  module _ (h : i < length ws) where
+    here : drop i ws ≡ getD ws i 0 ∷ drop (i + 1) ws
+    here = rw (drop-cons ws i 0 h, add-one i)
+
+    -- a word that is read, and writes one word x or none
+    wrote : (count′ member′ x : ℕ) → oneofs count member (getD ws i 0 ∷ drop (i + 1) ws) ≡ push (x ∷ []) (oneofs count′ member′ (drop (i + 1) ws))
+        → count′ ≤ i + 1 → (l′ : List ℕ) → l′ ≡ sets m n (x ∷ []) → Numbering ws l l′ count′ member′ (n + 1) (i + 1)
+    wrote count′ member′ x e g l′ p = record {
+      reached = omega arith;
+      most = u .most;
+      few = omega (arith, u .few);
+      counted = g;
+      laid = front-put _ _ l m n (u .laid) (x ∷ []) _ l′ (ap (oneofs count member) here ∙ e) p;
+    }
+
+    pub numbering-plain : getD ws i 0 ≡ 0 → (l′ : List ℕ) → l′ ≡ sets m n (0 ∷ []) → Numbering ws l l′ count 0 (n + 1) (i + 1)
+    numbering-plain a = wrote count 0 0 (oneofs-plain count member _ _ a) (omega (arith, u .counted))
+
+    module _ (a : getD ws i 0 ≡ 0 → ⊥) where
+      pub numbering-optional : getD ws i 0 ≡ 1 → (l′ : List ℕ) → l′ ≡ sets m n ((count + 1) ∷ []) → Numbering ws l l′ (count + 1) 0 (n + 1) (i + 1)
+      numbering-optional b = wrote (count + 1) 0 (count + 1) (oneofs-optional count member _ _ a b) (omega (arith, u .counted))
+
+      module _ (b : getD ws i 0 ≡ 1 → ⊥) where
+        pub numbering-opens : getD ws i 0 ≡ 2 → Numbering ws l m (count + 1) (count + 1) n (i + 1)
+        numbering-opens d = record {
+          reached = omega arith;
+          most = u .most;
+          few = omega (arith, u .few);
+          counted = omega (arith, u .counted);
+          laid = front-pass _ _ l m n (u .laid) _ (ap (oneofs count member) here ∙ oneofs-opens count member _ _ a b d);
+        }
+
+        module _ (d : getD ws i 0 ≡ 2 → ⊥) where
+          pub numbering-other : (getD ws i 0 ≡ 3 → ⊥) → Puts (oneofs 0 0 ws) l m Refused
+          numbering-other e = front-refused _ _ l m n (u .laid) BadRequest (ap (oneofs count member) here ∙ oneofs-other count member _ _ a b d e)
+
+          module _ (e : getD ws i 0 ≡ 3) where
+            pub numbering-stray : member ≡ 0 → Puts (oneofs 0 0 ws) l m Refused
+            numbering-stray g = front-refused _ _ l m n (u .laid) BadRequest (ap (oneofs count member) here ∙ oneofs-stray count member _ _ a b d e g)
+
+            pub numbering-member : (member ≡ 0 → ⊥) → (l′ : List ℕ) → l′ ≡ sets m n (member ∷ []) → Numbering ws l l′ count member (n + 1) (i + 1)
+            numbering-member g = wrote count member member (oneofs-member count member _ _ a b d e g) (omega (arith, u .counted))
+
+pub ruleset numbering-laws = (
+  numbering-start,
+  numbering-length,
+  numbering-count,
+  numbering-next,
+  numbering-done,
+  numbering-plain,
+  numbering-optional,
+  numbering-opens,
+  numbering-other,
+  numbering-stray,
+  numbering-member,
+)
+
+-- ---- the public call
+
+-- what is refused is a BadRequest, and no more words are given than read
+pub record Sized (o : Outcome ℕ) (n : ℕ) : Type 0 where
+  pub settled : Settled BadRequest o
+  pub short : (words : List ℕ) → o ≡ give words → length words ≤ n
+
+sized-give : Sized (give []) 0
+sized-give = record { settled = gives []; short = λ words q. omega (arith, ap length (give-inv q)) }
+
+sized-refuse : (n : ℕ) → Sized (refuse BadRequest) n
+sized-refuse n = record { settled = refuses; short = λ words q. absurd (let z : _≡_ {A = ℕ} 0 1 = cc in omega arith) }
+
+sized-push : (x n : ℕ) (o : Outcome ℕ) → Sized o n → Sized (push (x ∷ []) o) (suc n)
+sized-push x n o s = go o (s .settled) (s .short)
+  where
+    go : (o : Outcome ℕ) → Settled BadRequest o → ((words : List ℕ) → o ≡ give words → length words ≤ n) → Sized (push (x ∷ []) o) (suc n)
+    go _ refuses p = sized-refuse (suc n)
+    go _ (gives l) p = record { settled = gives (x ∷ l); short = λ words q. omega (arith, ap length (give-inv q), p l refl) }
+
+sized-more : (n : ℕ) (o : Outcome ℕ) → Sized o n → Sized o (suc n)
+sized-more n o s = record { settled = s .settled; short = λ words q. omega (arith, s .short words q) }
+
+sized-if : (t : Bool) {n : ℕ} {o o′ : Outcome ℕ} → Sized o n → Sized o′ n → Sized (elim t [ true ↦ o | false ↦ o′ ]) n
+sized-if true s s′ = s
+sized-if false s s′ = s′
+
+oneofs-sized : (count member : ℕ) (ws : List ℕ) → Sized (oneofs count member ws) (length ws)
+unfolding oneofs
+oneofs-sized count member [] = sized-give
+oneofs-sized count member (w ∷ ws) =
+    let n = length ws in
+    sized-if (eqb w 0) (sized-push 0 n _ (oneofs-sized count 0 ws))
+    (sized-if (eqb w 1) (sized-push (suc count) n _ (oneofs-sized (suc count) 0 ws))
+    (sized-if (eqb w 2) (sized-more n _ (oneofs-sized (suc count) (suc count) ws))
+    (sized-if (eqb w 3)
+    (sized-if (eqb member 0) (sized-refuse (suc n)) (sized-push member n _ (oneofs-sized count member ws)))
+    (sized-refuse (suc n)))))
+
+pub fields-long : (ws l : List ℕ) (r : Answer) → mostWords < length ws → r ≡ refusedBy BeyondLimit → Answered (lowerFields ws) l l r
+unfolding lowerFields
+fields-long ws l r h a = rw a (answered-refused _ l BeyondLimit (simp (lowerFields, lt-ltb _ _ h)))
+
+pub fields-settled : (ws : List ℕ) → Settled BadRequest (oneofs 0 0 ws)
+fields-settled ws = oneofs-sized 0 0 ws .settled
+
+pub fields-left : (ws : List ℕ) → length ws ≤ mostWords → lowerFields ws ≡ oneofs 0 0 ws
+unfolding lowerFields
+fields-left ws h = simp (lowerFields, le-ltb _ _ h)
+
+pub fields-fit : (ws z z′ : List ℕ) (p : Put) (n : ℕ) → Puts (oneofs 0 0 ws) z z′ p → p ≡ Wrote n → length ws ≤ mostWords → Fits w32 n
+fields-fit ws z z′ p n u e h =
+    let g = put-wrote (oneofs 0 0 ws) n p (u .answer) e in
+    record { fits = omega (arith, oneofs-sized 0 0 ws .short (g .words) (g .is), g .size) }
+
+pub ruleset fields-laws = (fields-long, fields-settled, fields-left, fields-fit, call-refused, call-no-room, call-done)

@@ -1,0 +1,5 @@
+pub mod EndLaws
+pub mod WriteLaws
+pub mod RangeLaws
+pub mod FieldLaws
+pub mod Controls

@@ -1,0 +1,25 @@
+use Rattle.lowering.proofs.FieldLaws.{fields-laws}
+use borrow.Author.Needs.{needs}
+use Rattle.lowering.proofs.fields.lower_fields.Statement.{statement}
+use Rattle.lowering.proofs.fields.lower_fields.Tie as tie
+
+pub lower-fields-spec : {M : Type 1} → statement M
+lower-fields-spec = tie.close (tie.spec
+    (λ c κs. search (needs, fields-laws))
+    (λ c. search (needs, fields-laws))
+    (λ c. search (needs, fields-laws))
+    (λ c. search (needs, fields-laws))
+    (λ c κs. search (needs, fields-laws))
+    (λ c. search (needs, fields-laws))
+    (λ c. search (needs, fields-laws))
+    (λ c κs. search (needs, fields-laws))
+    (λ c. search (needs, fields-laws))
+    (λ c. search (needs, fields-laws))
+    (λ c κs. search (needs, fields-laws))
+    (λ c. search (needs, fields-laws))
+    (λ c. search (needs, fields-laws))
+    (λ c κs. search (needs, fields-laws))
+    (λ c. search (needs, fields-laws))
+    (λ c κs. search (needs, fields-laws))
+    (λ c. search (needs, fields-laws))
+    (λ c. search (needs, fields-laws)))

@@ -1,0 +1,44 @@
+use Prim.Native.Nat.{_-_}
+use lib.ListN.{length}
+use Rattle.lowering.proofs.FieldLaws.{Numbering, numbering-laws, numbering-optional}
+use borrow.Author.Needs.{needs}
+use Rattle.lowering.proofs.fields.put_fields.Statement.{statement}
+use Rattle.lowering.proofs.fields.put_fields.Tie as tie
+
+abbrev Inv-loop : tie.InvT-loop
+Inv-loop words out₀ count₀ member₀ n₀ i₀ out count member n i = Numbering words out₀ out count member n i
+
+abbrev μ-loop : tie.MeasureT-loop
+μ-loop words out₀ count₀ member₀ n₀ i₀ out count member n i = length words - i
+
+pub put-fields-spec : {M : Type 1} → statement M
+put-fields-spec = tie.close (tie.spec Inv-loop μ-loop
+    (λ c. search (needs, numbering-laws))
+    (λ c. search (needs, numbering-laws))
+    (λ c. search (needs, numbering-laws))
+    (λ c κs. search (needs, numbering-laws))
+    (λ c. search (needs, numbering-laws))
+    (λ c. search (needs, numbering-laws))
+    (λ c. search (needs, numbering-laws))
+    (λ c. search (needs, numbering-laws))
+    (λ c. search (needs, numbering-laws))
+    (λ c κs. search (needs, numbering-laws))
+    (λ c. search (needs, numbering-laws))
+    (λ c. search (needs, numbering-laws))
+    (λ c. search (needs, numbering-laws))
+    (λ c. search numbering-optional)
+    (λ c. search (needs, numbering-laws))
+    (λ c. search (needs, numbering-laws))
+    (λ c. search (needs, numbering-laws))
+    (λ c. search (needs, numbering-laws))
+    (λ c. search (needs, numbering-laws))
+    (λ c. search (needs, numbering-laws))
+    (λ c. search (needs, numbering-laws))
+    (λ c. search (needs, numbering-laws))
+    (λ c κs. search (needs, numbering-laws))
+    (λ c. search (needs, numbering-laws))
+    (λ c. search (needs, numbering-laws))
+    (λ c. search (needs, numbering-laws))
+    (λ c. search (needs, numbering-laws))
+    (λ c. search (needs, numbering-laws))
+    (λ c. search (needs, numbering-laws)))

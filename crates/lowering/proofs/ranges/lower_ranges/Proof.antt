@@ -1,0 +1,29 @@
+use Rattle.lowering.proofs.RangeLaws.{ranges-laws}
+use borrow.Author.Needs.{needs}
+use Rattle.lowering.proofs.ranges.lower_ranges.Statement.{statement}
+use Rattle.lowering.proofs.ranges.lower_ranges.Tie as tie
+
+pub lower-ranges-spec : {M : Type 1} → statement M
+lower-ranges-spec = tie.close (tie.spec
+    (λ c κs. search (needs, ranges-laws))
+    (λ c. search (needs, ranges-laws))
+    (λ c κs. search (needs, ranges-laws))
+    (λ c. search (needs, ranges-laws))
+    (λ c κs. search (needs, ranges-laws))
+    (λ c. search (needs, ranges-laws))
+    (λ c. search (needs, ranges-laws))
+    (λ c. search (needs, ranges-laws))
+    (λ c κs. search (needs, ranges-laws))
+    (λ c. search (needs, ranges-laws))
+    (λ c. search (needs, ranges-laws))
+    (λ c κs. search (needs, ranges-laws))
+    (λ c. search (needs, ranges-laws))
+    (λ c. search (needs, ranges-laws))
+    (λ c κs. search (needs, ranges-laws))
+    (λ c. search (needs, ranges-laws))
+    (λ c. search (needs, ranges-laws))
+    (λ c κs. search (needs, ranges-laws))
+    (λ c. search (needs, ranges-laws))
+    (λ c κs. search (needs, ranges-laws))
+    (λ c. search (needs, ranges-laws))
+    (λ c. search (needs, ranges-laws)))

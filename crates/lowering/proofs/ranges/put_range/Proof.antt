@@ -1,0 +1,12 @@
+use Rattle.lowering.proofs.RangeLaws.{range-put}
+use borrow.Author.Needs.{needs}
+use Rattle.lowering.proofs.ranges.put_range.Statement.{statement}
+use Rattle.lowering.proofs.ranges.put_range.Tie as tie
+
+pub put-range-spec : {M : Type 1} → statement M
+put-range-spec = tie.close (tie.spec
+    (λ c κs. search (needs, range-put))
+    (λ c. search (needs, range-put))
+    (λ c κs. search (needs, range-put))
+    (λ c. search (needs, range-put))
+    (λ c. search (needs, range-put)))

@@ -1,0 +1,33 @@
+use Prim.Native.Nat.{_-_}
+use lib.ListN.{length}
+use Rattle.lowering.proofs.RangeLaws.{Ranging}
+use Rattle.lowering.proofs.RangeLaws.{ranging-laws}
+use borrow.Author.Needs.{needs}
+use Rattle.lowering.proofs.ranges.put_ranges.Statement.{statement}
+use Rattle.lowering.proofs.ranges.put_ranges.Tie as tie
+
+abbrev Inv-loop : tie.InvT-loop
+Inv-loop kind words out₀ i₀ out i = Ranging kind words out₀ out i
+
+abbrev μ-loop : tie.MeasureT-loop
+μ-loop kind words out₀ i₀ out i = length words - i
+
+pub put-ranges-spec : {M : Type 1} → statement M
+put-ranges-spec = tie.close (tie.spec Inv-loop μ-loop
+    (λ c. search (needs, ranging-laws))
+    (λ c. search (needs, ranging-laws))
+    (λ c. search (needs, ranging-laws))
+    (λ c. search (needs, ranging-laws))
+    (λ c. search (needs, ranging-laws))
+    (λ c. search (needs, ranging-laws))
+    (λ c κs. search (needs, ranging-laws))
+    (λ c. search (needs, ranging-laws))
+    (λ c. search (needs, ranging-laws))
+    (λ c. search (needs, ranging-laws))
+    (λ c. search (needs, ranging-laws))
+    (λ c κs. search (needs, ranging-laws))
+    (λ c. search (needs, ranging-laws))
+    (λ c. search (needs, ranging-laws))
+    (λ c. search (needs, ranging-laws))
+    (λ c. search (needs, ranging-laws))
+    (λ c. search (needs, ranging-laws)))

@@ -1,0 +1,3 @@
+pub mod Ranges
+pub mod Fields
+pub mod Puts

@@ -1,0 +1,78 @@
+// Fields: the oneof that each belongs to.
+ghost use mathlib.Core.Path.{_≡_};
+ghost use mathlib.Core.List.{[], _∷_};
+ghost use Prim.Native.Nat.{_≤_};
+ghost use lib.ListN.{length};
+ghost use lib.Seq.{sets};
+ghost use Rattle.limits.specs.Figures.{mostWords};
+ghost use Rattle.reply.specs.Outcome.{Answered};
+ghost use Rattle.lowering.specs.Fields.{oneofs, lowerFields};
+ghost use Rattle.lowering.specs.Puts.{Puts};
+use crate::Put;
+use limits::MOST_WORDS;
+use reply::Answer;
+use reply::Refusal;
+
+fn put(out: &mut [u32], at: usize, word: u32)
+    ensures { λ _. ⌜ now (out .exit) ≡ sets (now (out .entry)) at (word ∷ []) ⌝ }
+{
+    if at < out.len() {
+        out[at] = word;
+    }
+}
+
+fn put_fields(words: &[u32], out: &mut [u32]) -> Put
+    requires { ⌜ length (now words) ≤ mostWords ⌝ }
+    ensures { λ r. ⌜ Puts (oneofs 0 0 (now (words .entry))) (now (out .entry)) (now (out .exit)) r ⌝ }
+{
+    let mut count: u32 = 0;
+    let mut member: u32 = 0;
+    let mut n = 0;
+    let mut i = 0;
+    while i < words.len() {
+        let w = words[i];
+        if w == 0 {
+            put(out, n, 0);
+            member = 0;
+            n += 1;
+            i += 1;
+        } else if w == 1 {
+            count += 1;
+            put(out, n, count);
+            member = 0;
+            n += 1;
+            i += 1;
+        } else if w == 2 {
+            count += 1;
+            member = count;
+            i += 1;
+        } else {
+            if w != 3 {
+                return Put::Refused;
+            }
+            if member == 0 {
+                return Put::Refused;
+            }
+            put(out, n, member);
+            n += 1;
+            i += 1;
+        }
+    }
+    Put::Wrote(n)
+}
+
+pub fn lower_fields(words: &[u32], out: &mut [u32]) -> Answer
+    ensures { λ r. ⌜ Answered (lowerFields (now (words .entry))) (now (out .entry)) (now (out .exit)) r ⌝ }
+{
+    if MOST_WORDS < words.len() {
+        return reply::refused(Refusal::BeyondLimit);
+    }
+    let Put::Wrote(n) = put_fields(words, &mut out[..0]) else {
+        return reply::refused(Refusal::BadRequest);
+    };
+    if out.len() < n {
+        return reply::refused(Refusal::NoRoom);
+    }
+    put_fields(words, out);
+    reply::done(n as u32)
+}

@@ -1,0 +1,89 @@
+// Ranges: of extensions, of reserved numbers of a message, of reserved numbers of an enum.
+ghost use mathlib.Core.Path.{_≡_};
+ghost use mathlib.Core.List.{[], _∷_};
+ghost use Prim.Native.Nat.{_%_, _^_, _<_};
+ghost use lib.ListN.{length};
+ghost use lib.Seq.{sets};
+ghost use Rattle.reply.specs.Outcome.{Answered};
+ghost use Rattle.lowering.specs.Ranges.{endOf, pairs, lowerRanges};
+ghost use Rattle.lowering.specs.Puts.{Puts};
+use crate::Put;
+use limits::MOST_WORDS;
+use reply::Answer;
+use reply::Refusal;
+
+// What an end becomes.
+pub enum End {
+    At(i32),
+    NoNext,
+}
+
+// The kind whose ends stay: an enum's reserved ranges include them.
+const ENUM_RESERVED: u32 = 2;
+
+fn end_of(kind: u32, end: i32) -> End
+    ensures { λ r. ⌜ r ≡ endOf kind end ⌝ }
+{
+    if kind == ENUM_RESERVED {
+        return End::At(end);
+    }
+    if end == i32::MAX {
+        return End::NoNext;
+    }
+    End::At(end + 1)
+}
+
+fn put(out: &mut [i32], at: usize, word: i32)
+    ensures { λ _. ⌜ now (out .exit) ≡ sets (now (out .entry)) at (word ∷ []) ⌝ }
+{
+    if at < out.len() {
+        out[at] = word;
+    }
+}
+
+fn put_range(out: &mut [i32], at: usize, start: i32, end: i32)
+    requires { ⌜ at < 2 ^ 63 ⌝ }
+    ensures { λ _. ⌜ now (out .exit) ≡ sets (now (out .entry)) at (start ∷ end ∷ []) ⌝ }
+{
+    put(out, at, start);
+    put(out, at + 1, end);
+}
+
+fn put_ranges(kind: u32, words: &[i32], out: &mut [i32]) -> Put
+    requires { ⌜ length (now words) % 2 ≡ 0 ⌝ }
+    ensures { λ r. ⌜ Puts (pairs kind (now (words .entry))) (now (out .entry)) (now (out .exit)) r ⌝ }
+{
+    let mut i = 0;
+    while i < words.len() {
+        let start = words[i];
+        let end = words[i + 1];
+        let End::At(next) = end_of(kind, end) else {
+            return Put::Refused;
+        };
+        put_range(out, i, start, next);
+        i += 2;
+    }
+    Put::Wrote(i)
+}
+
+pub fn lower_ranges(kind: u32, words: &[i32], out: &mut [i32]) -> Answer
+    ensures { λ r. ⌜ Answered (lowerRanges kind (now (words .entry))) (now (out .entry)) (now (out .exit)) r ⌝ }
+{
+    if ENUM_RESERVED < kind {
+        return reply::refused(Refusal::BadRequest);
+    }
+    if MOST_WORDS < words.len() {
+        return reply::refused(Refusal::BeyondLimit);
+    }
+    if words.len() % 2 == 1 {
+        return reply::refused(Refusal::BadRequest);
+    }
+    let Put::Wrote(n) = put_ranges(kind, words, &mut out[..0]) else {
+        return reply::refused(Refusal::RangeEnd);
+    };
+    if out.len() < n {
+        return reply::refused(Refusal::NoRoom);
+    }
+    put_ranges(kind, words, out);
+    reply::done(n as u32)
+}

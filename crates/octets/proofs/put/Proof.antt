@@ -1,0 +1,11 @@
+use Rattle.octets.proofs.Overlay.{put-out}
+use borrow.Author.Needs.{needs}
+use Rattle.octets.proofs.put.Statement.{statement}
+use Rattle.octets.proofs.put.Tie as tie
+
+pub put-spec : {M : Type 1} → statement M
+put-spec = tie.close (tie.spec
+    (λ c. search (needs, put-out))
+    (λ c. search (needs, put-out))
+    (λ c. search (needs, put-out))
+    (λ c. search (needs, put-out)))

@@ -1,0 +1,47 @@
+-- The laws of outcomes: the ways to a public call's answer, and that there is one answer only.
+-- Assumes nothing.
+use mathlib.Core.Path.{_≡_, refl, sym, ap, _∙_}
+use mathlib.Core.Bool.{true, false}
+use mathlib.Core.List.{List, [], _∷_, _++_, append-assoc}
+use Prim.Native.Nat.{ℕ, _≤_, _<_}
+use borrow.Author.Tests.{lt-ltb, le-ltb}
+use lib.ListN.{length, drop}
+use Rattle.reply.specs.declared.Refusal.{Refusal}
+use Rattle.reply.specs.declared.Refusal.the-variants.{NoRoom}
+use Rattle.reply.specs.declared.Answer.{Answer}
+use Rattle.reply.specs.Reply.{refusedBy, doneWith, absentAnswer}
+use Rattle.reply.specs.Outcome.{Outcome, refuse, nothing, give, push, within, answerOf, leftOf, Answered}
+
+module _ {A : Type 0} where
+  pub push-push : (xs ys : List A) (o : Outcome A) → push xs (push ys o) ≡ push (xs ++ ys) o
+  push-push xs ys (refuse w) = refl
+  push-push xs ys nothing = refl
+  push-push xs ys (give l) = ap give (sym (append-assoc xs ys l))
+
+  pub push-nil : (o : Outcome A) → push [] o ≡ o
+  push-nil (refuse w) = refl
+  push-nil nothing = refl
+  push-nil (give l) = refl
+
+  -- the ways to an answer
+  module _ (o : Outcome A) (before : List A) where
+    pub answered-refused : (w : Refusal) → o ≡ refuse w → Answered o before before (refusedBy w)
+    answered-refused w e = record { answer = rw e; left = rw e }
+
+    pub answered-absent : o ≡ nothing → Answered o before before absentAnswer
+    answered-absent e = record { answer = rw e; left = rw e }
+
+    module _ (l : List A) (e : o ≡ give l) where
+      pub answered-no-room : length before < length l → Answered o before before (refusedBy NoRoom)
+      answered-no-room h = record { answer = rw e (simp (within, lt-ltb _ _ h)); left = rw e (simp (within, lt-ltb _ _ h)) }
+
+      pub answered-done : length l ≤ length before → Answered o before (l ++ drop (length l) before) (doneWith (length l))
+      answered-done h = record { answer = rw e (simp (within, le-ltb _ _ h)); left = rw e (simp (within, le-ltb _ _ h)) }
+
+  -- any two outcomes that the contract allows coincide
+  module _ (o : Outcome A) (before after after′ : List A) (r r′ : Answer) (a : Answered o before after r) (b : Answered o before after′ r′) where
+    pub answered-unique-answer : r ≡ r′
+    answered-unique-answer = a .answer ∙ sym (b .answer)
+
+    pub answered-unique-left : after ≡ after′
+    answered-unique-left = a .left ∙ sym (b .left)

@@ -1,0 +1,9 @@
+use Rattle.reply.proofs.Rows.{row-laws}
+use borrow.Author.Needs.{needs}
+use Rattle.reply.proofs.refused.Statement.{statement}
+use Rattle.reply.proofs.refused.Tie as tie
+
+pub refused-spec : {M : Type 1} → statement M
+refused-spec = tie.close (tie.spec
+    (λ c κs. search (needs, row-laws))
+    (λ c. search (needs, row-laws)))

@@ -1,0 +1,22 @@
+use Prim.Native.Nat.{_-_}
+use lib.ListN.{length}
+use Rattle.reply.proofs.Spelling.{Spelling, spelling-laws}
+use borrow.Author.Needs.{needs}
+use Rattle.reply.proofs.spelled.Statement.{statement}
+use Rattle.reply.proofs.spelled.Tie as tie
+
+abbrev Inv-loop : tie.InvT-loop
+Inv-loop text bytes₀ i₀ bytes i = Spelling text bytes i
+
+abbrev μ-loop : tie.MeasureT-loop
+μ-loop text bytes₀ i₀ bytes i = length text - i
+
+pub spelled-spec : {M : Type 1} → statement M
+spelled-spec = tie.close (tie.spec Inv-loop μ-loop
+    (λ c. search (needs, spelling-laws))
+    (λ c. search (needs, spelling-laws))
+    (λ c. search (needs, spelling-laws))
+    (λ c. search (needs, spelling-laws))
+    (λ c. search (needs, spelling-laws))
+    (λ c. search (needs, spelling-laws))
+    (λ c. search (needs, spelling-laws)))

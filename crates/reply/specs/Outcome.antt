@@ -1,0 +1,51 @@
+-- What a public call comes to, and what its answer and the lent memory then are, for every input and every room.
+--
+--       Outcome A == a refusal, Absent, or elements for the lent memory
+--    push front o == the outcome with elements in front of what it gives
+--     within n o == the outcome where there is room for n elements
+--    answerOf o == the answer record
+--  leftOf o before == the lent memory afterwards
+--  Answered o before after r <-> r is the answer of o, and the lent memory, `before` the call, is `after` it
+--
+-- Assumes nothing.
+use mathlib.Core.Path.{_≡_}
+use mathlib.Core.Bool.{true, false}
+use mathlib.Core.List.{List, _++_}
+use Prim.Native.Nat.{ℕ}
+use lib.Dec.{ltb}
+use lib.ListN.{length, drop}
+use Rattle.reply.specs.declared.Refusal.{Refusal}
+use Rattle.reply.specs.declared.Refusal.the-variants.{NoRoom}
+use Rattle.reply.specs.declared.Answer.{Answer}
+use Rattle.reply.specs.Reply.{refusedBy, doneWith, absentAnswer}
+
+pub data Outcome (A : Type 0) : Type 0 where
+  refuse : Refusal → Outcome A
+  nothing : Outcome A
+  give : List A → Outcome A
+
+abbrev pub push : {A : Type 0} → List A → Outcome A → Outcome A
+push front (refuse w) = refuse w
+push front nothing = nothing
+push front (give l) = give (front ++ l)
+
+-- demand 1: "NoRoom comes only when all else has passed"
+abbrev pub within : {A : Type 0} → ℕ → Outcome A → Outcome A
+within n (refuse w) = refuse w
+within n nothing = nothing
+within n (give l) = elim (ltb n (length l)) [ true ↦ refuse NoRoom | false ↦ give l ]
+
+abbrev pub answerOf : {A : Type 0} → Outcome A → Answer
+answerOf (refuse w) = refusedBy w
+answerOf nothing = absentAnswer
+answerOf (give l) = doneWith (length l)
+
+-- 01, Replies: "Refusals write nothing ..; on 0, bytes past the answer stay"
+abbrev pub leftOf : {A : Type 0} → Outcome A → List A → List A
+leftOf (refuse w) before = before
+leftOf nothing before = before
+leftOf (give l) before = l ++ drop (length l) before
+
+pub record Answered {A : Type 0} (o : Outcome A) (before after : List A) (r : Answer) : Type 0 where
+  pub answer : r ≡ answerOf (within (length before) o)
+  pub left : after ≡ leftOf (within (length before) o) before

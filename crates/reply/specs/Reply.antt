@@ -1,0 +1,100 @@
+-- 01's table of replies: the number and the second word of each refusal, and the answer record.
+--
+--         row w == the refusal's row in 01's table: number, second word, name
+--      number w == the reply's number
+--      second w == the reply's second word
+--        name w == the bytes of its name
+--      mostName == the bytes that the array of a name has
+--      textOf n == the bytes of a name that the code has made
+--  NameOf n s t <-> t is the name of the refusal that has the number n and the second word s
+--   refusedBy w == the answer of a refusal
+--    doneWith n == the answer of a call that wrote n elements
+--  absentAnswer == the answer Absent
+--
+-- Assumes nothing.
+use mathlib.Core.Path.{_≡_}
+use Prim.Native.Nat.{ℕ}
+use Prim.Native.Char.{code}
+use Prim.Native.String.{String, [], _∷_}
+use mathlib.Core.List.{List, [] as []ᴸ, _∷_ as _∷ᴸ_}
+use Rattle.reply.specs.declared.Refusal.{Refusal}
+use Rattle.reply.specs.declared.Refusal.the-variants.{
+  BadSheet,
+  BadRequest,
+  BeyondLimit,
+  ExtensionNotFound,
+  WrongExtensionType,
+  ExtensionIsNotMessage,
+  MessageNotFound,
+  MessageFoundMoreThanOnce,
+  UnknownFieldName,
+  BuiltinOptionNotFound,
+  BuiltinOptionPointsToNonSingularField,
+  MessageFieldRequiresMessageConstant,
+  UnsupportedExtensionType,
+  UnknownEnumValue,
+  ValueRange,
+  StrLitDecodeError,
+  RangeEnd,
+  NoRoom,
+  BadBytes,
+  WireMismatch,
+}
+use lib.ListN.{take}
+use Rattle.reply.specs.declared.Answer.{Answer}
+use Rattle.reply.specs.declared.Name.{Name}
+
+-- 01, Replies: the number; the second word, which is 1 for BuiltinOptionPointsToNonSingularField and 0 for every other; the name
+abbrev pub row : Refusal → ℕ × ℕ × String
+row BadSheet = (1, 0, "BadSheet")
+row BadRequest = (2, 0, "BadRequest")
+row BeyondLimit = (3, 0, "BeyondLimit")
+row ExtensionNotFound = (4, 0, "ExtensionNotFound")
+row WrongExtensionType = (5, 0, "WrongExtensionType")
+row ExtensionIsNotMessage = (6, 0, "ExtensionIsNotMessage")
+row MessageNotFound = (7, 0, "MessageNotFound")
+row MessageFoundMoreThanOnce = (8, 0, "MessageFoundMoreThanOnce")
+row UnknownFieldName = (9, 0, "UnknownFieldName")
+row BuiltinOptionNotFound = (10, 0, "BuiltinOptionNotFound")
+row BuiltinOptionPointsToNonSingularField = (10, 1, "BuiltinOptionPointsToNonSingularField")
+row MessageFieldRequiresMessageConstant = (11, 0, "MessageFieldRequiresMessageConstant")
+row UnsupportedExtensionType = (12, 0, "UnsupportedExtensionType")
+row UnknownEnumValue = (13, 0, "UnknownEnumValue")
+row ValueRange = (14, 0, "ValueRange")
+row StrLitDecodeError = (15, 0, "StrLitDecodeError")
+row RangeEnd = (16, 0, "RangeEnd")
+row NoRoom = (17, 0, "NoRoom")
+row BadBytes = (18, 0, "BadBytes")
+row WireMismatch = (19, 0, "WireMismatch")
+
+abbrev pub number : Refusal → ℕ
+number w = row w .0
+
+abbrev pub second : Refusal → ℕ
+second w = row w .1
+
+abbrev pub ascii : String → List ℕ
+ascii [] = []ᴸ
+ascii (c ∷ s) = code c ∷ᴸ ascii s
+
+abbrev pub name : Refusal → List ℕ
+name w = ascii (row w .2)
+
+abbrev pub mostName : ℕ
+mostName = 40
+
+abbrev pub textOf : Name → List ℕ
+textOf n = take (n .length) (n .bytes)
+
+pub record NameOf (n s : ℕ) (t : List ℕ) : Type 0 where
+  pub is : (w : Refusal) → n ≡ number w → s ≡ second w → t ≡ name w
+
+-- 01, Replies: "Refusals write nothing and return zero length"
+abbrev pub refusedBy : Refusal → Answer
+refusedBy w = record { reply = number w; second = second w; absent = 0; length = 0 }
+
+abbrev pub doneWith : ℕ → Answer
+doneWith n = record { reply = 0; second = 0; absent = 0; length = n }
+
+abbrev pub absentAnswer : Answer
+absentAnswer = record { reply = 0; second = 0; absent = 1; length = 0 }

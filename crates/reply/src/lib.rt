@@ -1,0 +1,229 @@
+// 01's table of replies, once: the refusals, the answer that every public call returns, and the names that programs print.
+ghost use mathlib.Core.Path.{_≡_};
+ghost use Prim.Native.Nat.{_≤_};
+ghost use lib.ListN.{length, take};
+ghost use Rattle.reply.specs.Reply.{number as numberOf, second as secondOf, NameOf, refusedBy, doneWith, absentAnswer, mostName, textOf};
+
+// Why a call is refused, by the names of 01 and of protobuf-parse's OptionResolverError.
+pub enum Refusal {
+    BadSheet,
+    BadRequest,
+    BeyondLimit,
+    ExtensionNotFound,
+    WrongExtensionType,
+    ExtensionIsNotMessage,
+    MessageNotFound,
+    MessageFoundMoreThanOnce,
+    UnknownFieldName,
+    BuiltinOptionNotFound,
+    BuiltinOptionPointsToNonSingularField,
+    MessageFieldRequiresMessageConstant,
+    UnsupportedExtensionType,
+    UnknownEnumValue,
+    ValueRange,
+    StrLitDecodeError,
+    RangeEnd,
+    NoRoom,
+    BadBytes,
+    WireMismatch,
+}
+
+// What every public call returns: the reply's number, its second word, 1 for Absent, and how much was written to the lent memory.
+pub struct Answer {
+    pub reply: u32,
+    pub second: u32,
+    pub absent: u32,
+    pub length: u32,
+}
+
+// A row of 01's table: the number, and the second word that tells two refusals of one number apart.
+pub struct Row {
+    pub number: u32,
+    pub second: u32,
+}
+
+impl Refusal {
+    pub fn row(self) -> Row
+        ensures { λ r. ⌜ (r .number ≡ numberOf self) × (r .second ≡ secondOf self) ⌝ }
+    {
+        match self {
+            Refusal::BadSheet => Row {
+                number: 1,
+                second: 0,
+            },
+            Refusal::BadRequest => Row {
+                number: 2,
+                second: 0,
+            },
+            Refusal::BeyondLimit => Row {
+                number: 3,
+                second: 0,
+            },
+            Refusal::ExtensionNotFound => Row {
+                number: 4,
+                second: 0,
+            },
+            Refusal::WrongExtensionType => Row {
+                number: 5,
+                second: 0,
+            },
+            Refusal::ExtensionIsNotMessage => Row {
+                number: 6,
+                second: 0,
+            },
+            Refusal::MessageNotFound => Row {
+                number: 7,
+                second: 0,
+            },
+            Refusal::MessageFoundMoreThanOnce => Row {
+                number: 8,
+                second: 0,
+            },
+            Refusal::UnknownFieldName => Row {
+                number: 9,
+                second: 0,
+            },
+            Refusal::BuiltinOptionNotFound => Row {
+                number: 10,
+                second: 0,
+            },
+            Refusal::BuiltinOptionPointsToNonSingularField => Row {
+                number: 10,
+                second: 1,
+            },
+            Refusal::MessageFieldRequiresMessageConstant => Row {
+                number: 11,
+                second: 0,
+            },
+            Refusal::UnsupportedExtensionType => Row {
+                number: 12,
+                second: 0,
+            },
+            Refusal::UnknownEnumValue => Row {
+                number: 13,
+                second: 0,
+            },
+            Refusal::ValueRange => Row {
+                number: 14,
+                second: 0,
+            },
+            Refusal::StrLitDecodeError => Row {
+                number: 15,
+                second: 0,
+            },
+            Refusal::RangeEnd => Row {
+                number: 16,
+                second: 0,
+            },
+            Refusal::NoRoom => Row {
+                number: 17,
+                second: 0,
+            },
+            Refusal::BadBytes => Row {
+                number: 18,
+                second: 0,
+            },
+            Refusal::WireMismatch => Row {
+                number: 19,
+                second: 0,
+            },
+        }
+    }
+}
+
+// The answer of a refusal: nothing was written.
+pub fn refused(why: Refusal) -> Answer
+    ensures { λ r. ⌜ r ≡ refusedBy why ⌝ }
+{
+    let row = why.row();
+    Answer {
+        reply: row.number,
+        second: row.second,
+        absent: 0,
+        length: 0,
+    }
+}
+
+// The answer of a call that wrote so much.
+pub fn done(length: u32) -> Answer
+    ensures { λ r. ⌜ r ≡ doneWith length ⌝ }
+{
+    Answer {
+        reply: 0,
+        second: 0,
+        absent: 0,
+        length: length,
+    }
+}
+
+// The answer of a call that found nothing to answer.
+pub fn absent() -> Answer
+    ensures { λ r. ⌜ r ≡ absentAnswer ⌝ }
+{
+    Answer {
+        reply: 0,
+        second: 0,
+        absent: 1,
+        length: 0,
+    }
+}
+
+// The longest name has 37 bytes.
+const MOST_NAME: usize = 40;
+
+// A name as bytes, the rest of the array 0.
+pub struct Name {
+    pub bytes: [u8; MOST_NAME],
+    pub length: usize,
+}
+
+// A text as a name.
+fn spelled(text: &[u8]) -> Name
+    requires { ⌜ length (now text) ≤ mostName ⌝ }
+    ensures { λ r. ⌜ textOf r ≡ now (text .entry) ⌝ }
+{
+    let mut bytes = [0u8; MOST_NAME];
+    let mut i = 0;
+    while i < text.len() {
+        bytes[i] = text[i];
+        i += 1;
+    }
+    Name {
+        bytes: bytes,
+        length: i,
+    }
+}
+
+// The name of the refusal that has this number and this second word.
+pub fn name_of(reply: u32, second: u32) -> Name
+    ensures { λ r. ⌜ NameOf reply second (textOf r) ⌝ }
+{
+    match reply {
+        1 => spelled(b"BadSheet"),
+        2 => spelled(b"BadRequest"),
+        3 => spelled(b"BeyondLimit"),
+        4 => spelled(b"ExtensionNotFound"),
+        5 => spelled(b"WrongExtensionType"),
+        6 => spelled(b"ExtensionIsNotMessage"),
+        7 => spelled(b"MessageNotFound"),
+        8 => spelled(b"MessageFoundMoreThanOnce"),
+        9 => spelled(b"UnknownFieldName"),
+        10 => {
+            if second == 1 {
+                spelled(b"BuiltinOptionPointsToNonSingularField")
+            } else {
+                spelled(b"BuiltinOptionNotFound")
+            }
+        }
+        11 => spelled(b"MessageFieldRequiresMessageConstant"),
+        12 => spelled(b"UnsupportedExtensionType"),
+        13 => spelled(b"UnknownEnumValue"),
+        14 => spelled(b"ValueRange"),
+        15 => spelled(b"StrLitDecodeError"),
+        16 => spelled(b"RangeEnd"),
+        17 => spelled(b"NoRoom"),
+        18 => spelled(b"BadBytes"),
+        19 => spelled(b"WireMismatch"),
+        _ => spelled(b""),
+    }
+}

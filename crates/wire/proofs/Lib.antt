@@ -1,0 +1,10 @@
+pub mod Bytes
+pub mod Halfway
+pub mod Parts
+pub mod VarintLaws
+pub mod VarintLoops
+pub mod VarintReading
+pub mod TagLaws
+pub mod FixedLaws
+pub mod FixedLoops
+pub mod Controls

@@ -1,0 +1,20 @@
+-- A part of a list, byte by byte: the laws of `part` that the readers cite.
+-- Assumes nothing.
+use mathlib.Core.Path.{_≡_}
+use mathlib.Core.List.{List, [], _∷_}
+use Prim.Native.Nat.{ℕ, suc, _-_, _≤_, _<_}
+use native.Mathlib.Nat.{sub-eq-zero-of-le}
+use native.Mathlib.Omega.{arith}
+use lib.ListN.{length, getD}
+use lib.Seq.{drop-cons}
+use Rattle.octets.specs.Octets.{part}
+
+module _ (s : List ℕ) (a e : ℕ) where
+  pub part-nil : e ≤ a → part s a e ≡ []
+  part-nil h = rw (sub-eq-zero-of-le h)
+
+  pub part-cons : a < e → e ≤ length s → part s a e ≡ getD s a 0 ∷ part s (suc a) e
+  part-cons h k =
+      let l : a < length s = omega arith in
+      let q : e - a ≡ suc (e - suc a) = omega arith in
+      rw (drop-cons s a 0 l, q)

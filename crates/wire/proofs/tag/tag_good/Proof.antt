@@ -1,0 +1,10 @@
+use Rattle.wire.proofs.TagLaws.{tag-good-is}
+use borrow.Author.Needs.{needs}
+use Rattle.wire.proofs.tag.tag_good.Statement.{statement}
+use Rattle.wire.proofs.tag.tag_good.Tie as tie
+
+pub tag-good-spec : {M : Type 1} → statement M
+tag-good-spec = tie.close (tie.spec
+    (λ c κs. search needs)
+    (λ c κs. search needs)
+    (λ c. search (needs, tag-good-is)))

@@ -1,0 +1,16 @@
+-- Numbers of a fixed width, from Encoding, "Non-varint Numbers": the lowest byte first.
+--
+--   littleOf k v == the k bytes of v, the lowest first
+--      little bs == the number that bytes are, the lowest first
+--
+-- Assumes nothing.
+use mathlib.Core.List.{List, [], _∷_}
+use Prim.Native.Nat.{ℕ, zero, suc, _+_, _*_, _/_, _%_}
+
+unfoldable pub littleOf : ℕ → ℕ → List ℕ
+littleOf zero v = []
+littleOf (suc k) v = (v % 256) ∷ littleOf k (v / 256)
+
+unfoldable pub little : List ℕ → ℕ
+little [] = 0
+little (b ∷ bs) = b + 256 * little bs

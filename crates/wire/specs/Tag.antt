@@ -1,0 +1,28 @@
+-- The tag in front of a record, from Encoding, "Message Structure": the field number, then three bits of wire type.
+--
+--    tagOf n w == the tag of a field number and a wire type
+--   numberOf t == the field number of a tag
+--  wireTypeOf t == the wire type of a tag
+--     tagGood t <=> a tag that 01 takes: a field number in its range, and a wire type that is read
+--
+-- Assumes nothing.
+use mathlib.Core.Bool.{Bool, _&&_, _||_}
+use Prim.Native.Nat.{ℕ, _+_, _*_, _/_, _%_}
+use lib.Dec.{leb, eqb}
+use Rattle.limits.specs.Figures.{mostNumber}
+
+abbrev pub tagOf : ℕ → ℕ → ℕ
+tagOf n w = n * 8 + w
+
+abbrev pub numberOf : ℕ → ℕ
+numberOf t = t / 8
+
+abbrev pub wireTypeOf : ℕ → ℕ
+wireTypeOf t = t % 8
+
+-- 01, Listing: "Wire types 3, 4, 6, 7, a number outside the range above, .. are 18"
+unfoldable pub tagGood : ℕ → Bool
+tagGood t =
+    leb 1 (numberOf t)
+    && leb (numberOf t) mostNumber
+    && (eqb (wireTypeOf t) 0 || eqb (wireTypeOf t) 1 || eqb (wireTypeOf t) 2 || eqb (wireTypeOf t) 5)

@@ -1,0 +1,43 @@
+-- Varints, from Encoding, "Base 128 Varints": seven bits a byte, the lowest group first, the top bit set on every byte but the last;
+-- ten bytes at the most, which hold 64 bits.
+--
+--   varintWithin k v == the shortest varint of v, where k bytes at the most follow its first
+--           varint v == the shortest varint of v
+--          onto b r == a byte b with its top bit set, in front of what r is
+--    readWithin k bs == the varint at the front of bs, where k bytes at the most follow its first: its value and how many bytes it has
+--      readVarint bs == the varint at the front of bs, or that there is none
+--        placed at r == what was read at the place `at`, with the place after it
+--
+-- Assumes nothing.
+use mathlib.Core.Bool.{Bool, true, false}
+use mathlib.Core.List.{List, [], _∷_}
+use Prim.Native.Nat.{ℕ, zero, suc, _+_, _-_, _*_, _/_, _%_}
+use lib.Dec.{ltb}
+use Rattle.limits.specs.Figures.{mostVarint}
+use Rattle.wire.specs.declared.varint.Read.{Read}
+use Rattle.wire.specs.declared.varint.Read.the-variants.{Varint, Bad}
+
+unfoldable pub varintWithin : ℕ → ℕ → List ℕ
+varintWithin zero v = v ∷ []
+varintWithin (suc k) v = elim (ltb v 128) [ true ↦ v ∷ [] | false ↦ (128 + v % 128) ∷ varintWithin k (v / 128) ]
+
+unfoldable pub varint : ℕ → List ℕ
+varint v = varintWithin (mostVarint - 1) v
+
+abbrev pub onto : ℕ → Read → Read
+onto b (Varint v n) = Varint (b % 128 + 128 * v) (suc n)
+onto b Bad = Bad
+
+-- the tenth byte holds one bit: above 1 it would pass 64 bits, or an eleventh byte would follow
+unfoldable pub readWithin : ℕ → List ℕ → Read
+readWithin k [] = Bad
+readWithin zero (b ∷ bs) = elim (ltb b 2) [ true ↦ Varint b 1 | false ↦ Bad ]
+readWithin (suc k) (b ∷ bs) = elim (ltb b 128) [ true ↦ Varint b 1 | false ↦ onto b (readWithin k bs) ]
+
+-- 01, Listing: "Varints may be overlong, up to ten bytes and 64 bits"
+unfoldable pub readVarint : List ℕ → Read
+readVarint bs = readWithin (mostVarint - 1) bs
+
+abbrev pub placed : ℕ → Read → Read
+placed at (Varint v n) = Varint v (at + n)
+placed at Bad = Bad

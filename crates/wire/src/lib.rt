@@ -1,0 +1,4 @@
+// The wire forms of protobuf's encoding document: varints, tags, zigzag and widths, fixed numbers, UTF-8, and each type's wire type.
+pub mod fixed;
+pub mod tag;
+pub mod varint;
