@@ -1,3 +1,7 @@
+pub mod Bytes
+pub mod Parts
 pub mod Overlay
+pub mod Halfway
 pub mod Alike
+pub mod SameBytes
 pub mod Big

@@ -1,4 +1,4 @@
--- Bytes laid over a list: the laws of `sets`, and the loop of `put_all`.
+-- Elements laid over a list: the laws of `sets` and of `Laid`.
 -- Assumes nothing.
 use mathlib.Core.Path.{_≡_, refl, sym, ap, _∙_}
 use mathlib.Core.List.{List, [], _∷_, _++_}
@@ -33,26 +33,3 @@ module _ {A : Type 0} where
 
   pub put-out : (l : List A) (at : ℕ) (b : A) → length l ≤ at → l ≡ sets l at (b ∷ [])
   put-out l at b h = sym (set-out l at b h)
-
--- ---- the loop of `put_all`: the first i bytes are laid
-pub record Laying (l : List ℕ) (at : ℕ) (src l′ : List ℕ) (i : ℕ) : Type 0 where
-  pub within : i ≤ length src
-  pub front : Laid l at (take i src) l′ (at + i)
-
-pub laying-start : (l : List ℕ) (at : ℕ) (src : List ℕ) → Laying l at src l 0
-laying-start l at src = record { within = omega arith; front = record { next = refl; left = refl } }
-
-pub laying-next : (l : List ℕ) (at : ℕ) (src m l′ : List ℕ) (i : ℕ) → Laying l at src m i → i < length src
-    → l′ ≡ sets m (at + i) (getD src i 0 ∷ []) → Laying l at src l′ (i + 1)
-laying-next l at src m l′ i k h e =
-    let one : Laid m (at + i) (getD src i 0 ∷ []) l′ (at + i + 1) = record { next = refl; left = e } in
-    let both : Laid l at (take i src ++ (getD src i 0 ∷ [])) l′ (at + i + 1) = laid-append (take i src) (getD src i 0 ∷ []) (k .front) one in
-    record { within = omega arith; front = rw (← (add-assoc at i 1), add-one i, take-suc src i 0) both }
-
-pub laying-end : (l : List ℕ) (at : ℕ) (src l′ : List ℕ) (i : ℕ) → Laying l at src l′ i → length src ≤ i → Laid l at src l′ (at + i)
-laying-end l at src l′ i k h = rw (take-all i src h) at (k .front)
-
-pub laying-length : (l : List ℕ) (at : ℕ) (src l′ : List ℕ) (i : ℕ) → Laying l at src l′ i → length l′ ≡ length l
-laying-length l at src l′ i k = laid-length (take i src) (k .front)
-
-pub ruleset laying-laws = (laying-start, laying-next, laying-end, laying-length)

@@ -8,7 +8,7 @@ use native.Mathlib.Omega.{arith}
 use lib.ListN.{length, take}
 use lib.Seq.{take-at}
 use Rattle.wire.specs.Fixed.{littleOf, little}
-use Rattle.wire.proofs.Bytes.{Bytes, bytes-nil, bytes-cons}
+use Rattle.octets.proofs.Bytes.{Bytes, bytes-nil, bytes-cons}
 
 pub little-of-length : (k v : ℕ) → length (littleOf k v) ≡ k
 unfolding littleOf

@@ -11,8 +11,8 @@ use mir.Syntax.{w64}
 use mir.Val.{Fits}
 use Rattle.octets.specs.Octets.{part, Laid}
 use Rattle.wire.specs.Fixed.{littleOf, little}
-use Rattle.wire.proofs.Halfway.{Halfway, halfway-start, halfway-next, halfway-end, halfway-length}
-use Rattle.wire.proofs.Parts.{part-nil, part-cons}
+use Rattle.octets.proofs.Halfway.{Halfway, halfway-start, halfway-next, halfway-end, halfway-length}
+use Rattle.octets.proofs.Parts.{part-nil, part-cons}
 
 -- ---- `put_little`: x is what is left of v after i bytes
 pub record Filling (l : List ℕ) (at v width : ℕ) (l′ : List ℕ) (x i : ℕ) : Type 0 where

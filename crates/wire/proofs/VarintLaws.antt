@@ -12,7 +12,7 @@ use Rattle.limits.specs.Figures.{mostVarint}
 use Rattle.wire.specs.declared.varint.Read.{Read}
 use Rattle.wire.specs.declared.varint.Read.the-variants.{Varint, Bad}
 use Rattle.wire.specs.Varint.{varintWithin, varint, onto, readWithin, readVarint}
-use Rattle.wire.proofs.Bytes.{Bytes, bytes-one, bytes-cons}
+use Rattle.octets.proofs.Bytes.{Bytes, bytes-one, bytes-cons}
 
 -- ---- the definitions as equations
 

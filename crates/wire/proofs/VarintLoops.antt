@@ -11,7 +11,7 @@ use mir.Val.{Fits}
 use Rattle.limits.specs.Figures.{mostVarint}
 use Rattle.octets.specs.Octets.{Laid}
 use Rattle.wire.specs.Varint.{varint}
-use Rattle.wire.proofs.Halfway.{Halfway, halfway-start, halfway-next, halfway-end, halfway-place, halfway-length}
+use Rattle.octets.proofs.Halfway.{Halfway, halfway-start, halfway-next, halfway-end, halfway-place, halfway-length}
 use Rattle.wire.proofs.VarintLaws.{Shortest, shortest-end, shortest-more, varint-shortened, varint-few}
 
 -- ---- `varint_len`: n counts the bytes before x and the last one

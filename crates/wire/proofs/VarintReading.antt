@@ -15,7 +15,7 @@ use Rattle.octets.specs.Octets.{part}
 use Rattle.wire.specs.declared.varint.Read.{Read}
 use Rattle.wire.specs.declared.varint.Read.the-variants.{Varint, Bad}
 use Rattle.wire.specs.Varint.{onto, readWithin, readVarint, placed}
-use Rattle.wire.proofs.Parts.{part-nil, part-cons}
+use Rattle.octets.proofs.Parts.{part-nil, part-cons}
 use Rattle.wire.proofs.VarintLaws.{read-last, read-over, read-one, read-more}
 
 -- ---- what was read of a varint, and what is read of its rest: k bytes of the value, and the scale of the next

@@ -1,3 +1,6 @@
 pub mod Varint
 pub mod Tag
 pub mod Fixed
+pub mod Numbers
+pub mod Types
+pub mod Utf8

@@ -1,7 +1,7 @@
 use Prim.Native.Nat.{_-_}
 use lib.ListN.{length}
-use Rattle.octets.proofs.Overlay.{Laying}
-use Rattle.octets.proofs.Overlay.{laying-laws}
+use Rattle.octets.proofs.Halfway.{Laying}
+use Rattle.octets.proofs.Halfway.{laying-laws}
 use borrow.Author.Needs.{needs}
 use Rattle.octets.proofs.put_all.Statement.{statement}
 use Rattle.octets.proofs.put_all.Tie as tie

@@ -1,0 +1,144 @@
+-- Closed cases of the definitions, computed: of each rule one that holds, one at the limit and one refused just past it.
+-- Assumes nothing.
+use mathlib.Core.Path.{_≡_, refl}
+use mathlib.Core.Bool.{true, false}
+use mathlib.Core.List.{List, [], _∷_, _++_, map}
+use Prim.Native.Nat.{ℕ}
+use lib.ListN.{length, replicate}
+use Rattle.path.specs.Ident.{isLetter, isDigit, allWord, isIdent}
+use Rattle.path.specs.Path.{Name, dot, onFirst, split, components, spell, allIdent, isRelPath, isRelOrEmpty}
+use Rattle.path.specs.Path.{isAbs, rootless, isPath, parent, ancestors}
+use Rattle.path.specs.Candidates.{candidates}
+
+abbrev a : Name
+a = 97 ∷ []
+
+abbrev b : Name
+b = 98 ∷ []
+
+-- a name of n bytes
+abbrev wide : ℕ → Name
+wide n = replicate n 97
+
+-- ---- bytes: `A` `Z` `a` `z` `_` and their neighbours `@` `[` `` ` `` `{` `^`, `0` `9` and their neighbours `/` `:`
+letters : map isLetter (65 ∷ 90 ∷ 97 ∷ 122 ∷ 95 ∷ []) ≡ replicate 5 true
+unfolding isLetter
+letters = refl
+
+no-letters : map isLetter (64 ∷ 91 ∷ 96 ∷ 123 ∷ 94 ∷ 48 ∷ dot ∷ []) ≡ replicate 7 false
+unfolding isLetter
+no-letters = refl
+
+digits : map isDigit (47 ∷ 48 ∷ 57 ∷ 58 ∷ []) ≡ false ∷ true ∷ true ∷ false ∷ []
+unfolding isDigit
+digits = refl
+
+-- ---- identifiers: `a`, `_`, `a9`, and 64 bytes
+idents : map isIdent (a ∷ (95 ∷ []) ∷ (97 ∷ 57 ∷ []) ∷ wide 64 ∷ []) ≡ replicate 4 true
+unfolding isIdent isLetter isDigit allWord
+idents = refl
+
+-- the empty name, `9a`, `a.` and 65 bytes
+no-idents : map isIdent ([] ∷ (57 ∷ 97 ∷ []) ∷ (97 ∷ dot ∷ []) ∷ wide 65 ∷ []) ≡ replicate 4 false
+unfolding isIdent isLetter isDigit allWord
+no-idents = refl
+
+-- ---- texts of paths
+abbrev a·b : List ℕ
+a·b = 97 ∷ dot ∷ 98 ∷ []
+
+-- three names of 63 bytes and one of n: 255 bytes where n is 63
+abbrev long : ℕ → List ℕ
+long n = spell (wide 63 ∷ wide 63 ∷ wide 63 ∷ wide n ∷ [])
+
+longs : map length (long 63 ∷ long 64 ∷ []) ≡ 255 ∷ 256 ∷ []
+unfolding spell
+longs = refl
+
+-- `a`, `a.b` and 255 bytes
+abbrev plain : List (List ℕ)
+plain = a ∷ a·b ∷ long 63 ∷ []
+
+-- `.`, `a.`, `a..b`, `..a` and 256 bytes
+abbrev odd : List (List ℕ)
+odd = (dot ∷ []) ∷ (97 ∷ dot ∷ []) ∷ (97 ∷ dot ∷ dot ∷ b) ∷ (dot ∷ dot ∷ a) ∷ long 64 ∷ []
+
+-- `.a.b` and 255 bytes with a leading dot
+abbrev rooted : List (List ℕ)
+rooted = (dot ∷ a·b) ∷ (dot ∷ long 62) ∷ []
+
+plain-rel : map isRelPath plain ≡ replicate 3 true
+unfolding isRelPath allIdent isIdent isLetter isDigit allWord split onFirst spell
+plain-rel = refl
+
+not-rel : map isRelPath ([] ∷ odd ++ rooted) ≡ replicate 8 false
+unfolding isRelPath allIdent isIdent isLetter isDigit allWord split onFirst spell
+not-rel = refl
+
+empty-too : map isRelOrEmpty ([] ∷ plain) ≡ replicate 4 true
+unfolding isRelOrEmpty components allIdent isIdent isLetter isDigit allWord split onFirst spell
+empty-too = refl
+
+not-or-empty : map isRelOrEmpty (odd ++ rooted) ≡ replicate 7 false
+unfolding isRelOrEmpty components allIdent isIdent isLetter isDigit allWord split onFirst spell
+not-or-empty = refl
+
+rooted-paths : map isPath (plain ++ rooted) ≡ replicate 5 true
+unfolding isPath rootless allIdent isIdent isLetter isDigit allWord split onFirst spell
+rooted-paths = refl
+
+-- the last has 256 bytes with its leading dot
+no-paths : map isPath ([] ∷ odd ++ ((dot ∷ long 63) ∷ [])) ≡ replicate 7 false
+unfolding isPath rootless allIdent isIdent isLetter isDigit allWord split onFirst spell
+no-paths = refl
+
+-- ---- paths and their texts
+read : map components ([] ∷ a ∷ a·b ∷ (dot ∷ []) ∷ []) ≡ [] ∷ (a ∷ []) ∷ (a ∷ b ∷ []) ∷ ([] ∷ [] ∷ []) ∷ []
+unfolding components split onFirst
+read = refl
+
+written : map spell ([] ∷ (a ∷ []) ∷ (a ∷ b ∷ []) ∷ []) ≡ [] ∷ a ∷ a·b ∷ []
+unfolding spell
+written = refl
+
+-- the path of one empty name is not read back: why a scope has to be a path of identifiers, or empty
+lost : components (spell ([] ∷ [])) ≡ []
+unfolding components spell
+lost = refl
+
+parents : map parent ([] ∷ (a ∷ []) ∷ (a ∷ b ∷ []) ∷ []) ≡ [] ∷ [] ∷ (a ∷ []) ∷ []
+unfolding parent
+parents = refl
+
+ancestors-none : ancestors [] ≡ [] ∷ []
+unfolding ancestors
+ancestors-none = refl
+
+ancestors-two : ancestors (a ∷ b ∷ []) ≡ (a ∷ b ∷ []) ∷ (a ∷ []) ∷ [] ∷ []
+unfolding ancestors
+ancestors-two = refl
+
+-- ---- candidates
+abbrev plant : Name
+plant = 112 ∷ 108 ∷ 97 ∷ 110 ∷ 116 ∷ []
+
+abbrev Dispatch : Name
+Dispatch = 68 ∷ 105 ∷ 115 ∷ 112 ∷ 97 ∷ 116 ∷ 99 ∷ 104 ∷ []
+
+abbrev rank : Name
+rank = 114 ∷ 97 ∷ 110 ∷ 107 ∷ []
+
+abbrev inner : List ℕ
+inner = plant ++ dot ∷ Dispatch
+
+relative : candidates inner rank ≡ (plant ∷ Dispatch ∷ rank ∷ []) ∷ (plant ∷ rank ∷ []) ∷ (rank ∷ []) ∷ []
+unfolding candidates ancestors components split onFirst isAbs
+relative = refl
+
+absolute : candidates inner (dot ∷ plant ++ dot ∷ rank) ≡ (plant ∷ rank ∷ []) ∷ []
+unfolding candidates components split onFirst isAbs rootless
+absolute = refl
+
+empty-scope : candidates [] rank ≡ (rank ∷ []) ∷ []
+unfolding candidates ancestors components split onFirst isAbs
+empty-scope = refl

@@ -1,0 +1,9 @@
+pub mod IdentLaws
+pub mod Pieces
+pub mod PathLaws
+pub mod AbsLaws
+pub mod Scans
+pub mod FormLaws
+pub mod JoinLaws
+pub mod CandidateLaws
+pub mod Controls

@@ -1,0 +1,250 @@
+-- Paths and their texts, identifiers, parents, ancestors and candidates: the laws that the crates above cite.
+-- Assumes nothing.
+use mathlib.Core.Path.{_≡_, refl, ap, _∙_}
+use mathlib.Core.Bool.{true, false, and-eq-true-iff}
+use mathlib.Core.List.{List, [], _∷_, _++_, map}
+use Prim.Native.Nat.{ℕ, zero, suc, _-_, _≤_, _<_}
+use native.Mathlib.Decide.{decLt}
+use native.Mathlib.Omega.{arith}
+use lib.Dec.{leb}
+use lib.ListN.{length, getD, take, drop, length-append, length-map, List·getD-append}
+use lib.Seq.{getD-at}
+use Rattle.limits.specs.Figures.{mostPath}
+use Rattle.path.specs.Ident.{isIdent}
+use Rattle.path.specs.Path.{Name, Path, dot, untilDot, split, components, spell, allIdent, isRelOrEmpty}
+use Rattle.path.specs.Path.{isAbs, rootless, parent, ancestors}
+use Rattle.path.specs.Candidates.{candidates, candidate}
+pub use Rattle.path.proofs.IdentLaws.{ident-dotless, ident-some}
+use Rattle.path.proofs.Pieces.{text, piece-length-le, piece-take, piece-last, piece-more}
+use Rattle.path.proofs.Pieces.{pieces-append, pieces-length-le, pieces-spell, pieces-dotless, Dotless, none, more}
+
+-- ---- the pieces of a text
+module _ (t : List ℕ) where
+  pub until-length-le : length (untilDot t) ≤ length t
+  until-length-le = piece-length-le (text t)
+
+  pub until-take : take (length (untilDot t)) t ≡ untilDot t
+  until-take = piece-take (text t)
+
+  -- the text ends with its first piece
+  pub split-last : length (untilDot t) ≡ length t → split t ≡ untilDot t ∷ []
+  split-last = piece-last (text t)
+
+  -- a dot follows the first piece
+  pub split-more : length (untilDot t) < length t → split t ≡ untilDot t ∷ split (drop (suc (length (untilDot t))) t)
+  split-more = piece-more (text t)
+
+  -- what holds no dot is one piece
+  pub split-dotless : untilDot t ≡ t → split t ≡ t ∷ []
+  split-dotless e = split-last (ap length e) ∙ ap (λ (n : Name). n ∷ []) e
+
+  pub split-append : (b : List ℕ) → split (t ++ dot ∷ b) ≡ split t ++ split b
+  split-append = pieces-append (text t)
+
+  pub spell-split : spell (split t) ≡ t
+  spell-split = pieces-spell (text t)
+
+-- ---- the components of a text
+pub spell-components : (t : List ℕ) → spell (components t) ≡ t
+unfolding components spell
+spell-components [] = refl
+spell-components (c ∷ cs) = spell-split (c ∷ cs)
+
+pub components-nil : (t : List ℕ) → length t ≡ 0 → components t ≡ []
+unfolding components
+components-nil [] h = refl
+components-nil (c ∷ cs) h = absurd (omega arith)
+
+pub components-split : (t : List ℕ) → (length t ≡ 0 → ⊥) → components t ≡ split t
+unfolding components
+components-split [] h = absurd (h refl)
+components-split (c ∷ cs) h = refl
+
+pub components-length-le : (t : List ℕ) → length (components t) ≤ suc (length t)
+unfolding components
+components-length-le [] = omega arith
+components-length-le (c ∷ cs) = pieces-length-le (text (c ∷ cs))
+
+pub components-dotless : (t : List ℕ) → Dotless (components t)
+unfolding components
+components-dotless [] = none
+components-dotless (c ∷ cs) = pieces-dotless (text (c ∷ cs))
+
+-- two texts, neither empty, joined by a dot
+pub components-append : (a b : List ℕ) → (length a ≡ 0 → ⊥) → (length b ≡ 0 → ⊥) → components (a ++ dot ∷ b) ≡ components a ++ components b
+components-append a b h k =
+    components-split (a ++ dot ∷ b) (λ e. omega (arith, length-append a (dot ∷ b)))
+    ∙ rw (components-split a h, components-split b k) (split-append a b)
+
+-- ---- the text of a path
+spell-length-le : (n : Name) (p : Path) → length n ≤ length (spell (n ∷ p))
+unfolding spell
+spell-length-le n [] = omega arith
+spell-length-le n (m ∷ p) = omega (arith, length-append n (dot ∷ spell (m ∷ p)))
+
+pub spell-take-le : (k : ℕ) (p : Path) → length (spell (take k p)) ≤ length (spell p)
+unfolding spell
+spell-take-le zero p = omega arith
+spell-take-le (suc k) [] = omega arith
+spell-take-le (suc zero) (n ∷ p) = spell-length-le n p
+spell-take-le (suc (suc k)) (n ∷ []) = omega arith
+spell-take-le (suc (suc k)) (n ∷ m ∷ p) = simp length-append (omega (arith, spell-take-le (suc k) (m ∷ p)))
+
+split-spell : (n : Name) (p : Path) → Dotless (n ∷ p) → split (spell (n ∷ p)) ≡ n ∷ p
+unfolding spell
+split-spell n [] (more e d) = split-dotless n e
+split-spell n (m ∷ p) (more e d) = split-append n (spell (m ∷ p)) ∙ rw (split-dotless n e, split-spell m p d)
+
+pub dotless-take : (k : ℕ) (p : Path) → Dotless p → Dotless (take k p)
+dotless-take zero p d = none
+dotless-take (suc k) [] none = none
+dotless-take (suc k) (n ∷ p) (more e d) = more e (dotless-take k p d)
+
+-- ---- paths of identifiers
+pub ident-first : (n : Name) (p : Path) → allIdent (n ∷ p) ≡ true → isIdent n ≡ true
+unfolding allIdent
+ident-first n p h = and-eq-true-iff (isIdent n) (allIdent p) .0 h .0
+
+pub ident-rest : (n : Name) (p : Path) → allIdent (n ∷ p) ≡ true → allIdent p ≡ true
+unfolding allIdent
+ident-rest n p h = and-eq-true-iff (isIdent n) (allIdent p) .0 h .1
+
+pub ident-cons : (n : Name) (p : Path) → isIdent n ≡ true → allIdent p ≡ true → allIdent (n ∷ p) ≡ true
+unfolding allIdent
+ident-cons n p h k = and-eq-true-iff (isIdent n) (allIdent p) .1 (h, k)
+
+pub idents-append : (p q : Path) → allIdent p ≡ true → allIdent q ≡ true → allIdent (p ++ q) ≡ true
+idents-append [] q h k = k
+idents-append (n ∷ p) q h k = ident-cons n (p ++ q) (ident-first n p h) (idents-append p q (ident-rest n p h) k)
+
+pub idents-take : (k : ℕ) (p : Path) → allIdent p ≡ true → allIdent (take k p) ≡ true
+unfolding allIdent
+idents-take zero p h = refl
+idents-take (suc k) [] h = refl
+idents-take (suc k) (n ∷ p) h = ident-cons n (take k p) (ident-first n p h) (idents-take k p (ident-rest n p h))
+
+pub idents-dotless : (p : Path) → allIdent p ≡ true → Dotless p
+idents-dotless [] h = none
+idents-dotless (n ∷ p) h = more (ident-dotless n (ident-first n p h)) (idents-dotless p (ident-rest n p h))
+
+-- a path of identifiers is read back from its text
+pub components-spell : (p : Path) → allIdent p ≡ true → components (spell p) ≡ p
+unfolding components spell
+components-spell [] h = refl
+components-spell (n ∷ p) h =
+    let some : length (spell (n ∷ p)) ≡ 0 → ⊥ = λ e. ident-some n (ident-first n p h) (omega (arith, spell-length-le n p)) in
+    components-split (spell (n ∷ p)) some ∙ split-spell n p (idents-dotless (n ∷ p) h)
+
+pub rel-idents : (t : List ℕ) → isRelOrEmpty t ≡ true → allIdent (components t) ≡ true
+unfolding isRelOrEmpty
+rel-idents t h = and-eq-true-iff (leb (length t) mostPath) (allIdent (components t)) .0 h .1
+
+-- the text of one path followed by another
+pub components-joined : (a b : List ℕ) → isRelOrEmpty a ≡ true → isRelOrEmpty b ≡ true
+    → components (spell (components a ++ components b)) ≡ components a ++ components b
+components-joined a b h k =
+    components-spell (components a ++ components b) (idents-append (components a) (components b) (rel-idents a h) (rel-idents b k))
+
+-- ---- parents
+pub parent-snoc : (p : Path) (n : Name) → parent (p ++ (n ∷ [])) ≡ p
+unfolding parent
+parent-snoc [] n = refl
+parent-snoc (m ∷ []) n = refl
+parent-snoc (m ∷ l ∷ p) n = ap (λ (q : Path). m ∷ q) (parent-snoc (l ∷ p) n)
+
+pub parent-take : (k : ℕ) (p : Path) → k < length p → parent (take (suc k) p) ≡ take k p
+unfolding parent
+parent-take k [] h = absurd (omega arith)
+parent-take zero (n ∷ p) h = refl
+parent-take (suc k) (n ∷ []) h = absurd (omega arith)
+parent-take (suc k) (n ∷ m ∷ p) h = ap (λ (q : Path). n ∷ q) (parent-take k (m ∷ p) (omega arith))
+
+-- the path of one empty name has the text of the empty path, and the same parent
+pub parent-spell : (p : Path) → Dotless p → parent (components (spell p)) ≡ parent p
+unfolding parent components spell
+parent-spell [] d = refl
+parent-spell ([] ∷ []) d = refl
+parent-spell ((c ∷ n) ∷ []) d = ap parent (split-spell (c ∷ n) [] d)
+parent-spell ([] ∷ m ∷ p) d = ap parent (split-spell [] (m ∷ p) d)
+parent-spell ((c ∷ n) ∷ m ∷ p) d = ap parent (split-spell (c ∷ n) (m ∷ p) d)
+
+-- the text of the parent ends before the last dot, and is empty where there is none
+pub parent-append : (a b : List ℕ) → untilDot b ≡ b → spell (parent (components (a ++ dot ∷ b))) ≡ a
+parent-append a b h =
+    let some : length (a ++ dot ∷ b) ≡ 0 → ⊥ = λ e. omega (arith, length-append a (dot ∷ b)) in
+    rw (components-split (a ++ dot ∷ b) some, split-append a b, split-dotless b h, parent-snoc (split a) b) (spell-split a)
+
+pub parent-dotless : (t : List ℕ) → untilDot t ≡ t → spell (parent (components t)) ≡ []
+unfolding components parent spell
+parent-dotless [] h = refl
+parent-dotless (c ∷ cs) h = rw (split-dotless (c ∷ cs) h)
+
+-- ---- ancestors
+pub ancestors-length : (p : Path) → length (ancestors p) ≡ suc (length p)
+unfolding ancestors
+ancestors-length [] = refl
+ancestors-length (n ∷ p) = simp (length-append, length-map, ancestors-length p) (omega arith)
+
+getD-map-lt : {A B : Type 0} (f : A → B) (l : List A) (i : ℕ) (d : A) (e : B) → i < length l → getD (map f l) i e ≡ f (getD l i d)
+getD-map-lt f [] i d e h = absurd (omega arith)
+getD-map-lt f (x ∷ l) zero d e h = refl
+getD-map-lt f (x ∷ l) (suc i) d e h = getD-map-lt f l i d e (omega arith)
+
+module _ (n : Name) (p : Path) (i : ℕ) where
+  under : Path → Path
+  under q = n ∷ q
+
+  under-length : length (map under (ancestors p)) ≡ suc (length p)
+  under-length = length-map (ancestors p) under ∙ ancestors-length p
+
+  ancestor-under : i ≤ length p → getD (ancestors p) i [] ≡ take (length p - i) p
+      → getD (ancestors (n ∷ p)) i [] ≡ take (suc (length p) - i) (n ∷ p)
+  unfolding ancestors under
+  ancestor-under h e =
+      let one-more : suc (length p) - i ≡ suc (length p - i) = omega arith in
+      List·getD-append (map under (ancestors p)) ([] ∷ []) [] i (omega (arith, under-length))
+      ∙ getD-map-lt under (ancestors p) i [] [] (omega (arith, ancestors-length p))
+      ∙ rw (one-more, e)
+
+  ancestor-last : i ≡ suc (length p) → getD (ancestors (n ∷ p)) i [] ≡ take (suc (length p) - i) (n ∷ p)
+  unfolding ancestors under
+  ancestor-last e =
+      let no-more : suc (length p) - i ≡ 0 = omega arith in
+      getD-at (map under (ancestors p)) [] [] [] i (omega (arith, under-length)) ∙ rw no-more
+
+-- the i-th ancestor is the path without its last i components
+pub ancestors-at : (p : Path) (i : ℕ) → i ≤ length p → getD (ancestors p) i [] ≡ take (length p - i) p
+unfolding ancestors
+ancestors-at [] zero h = refl
+ancestors-at [] (suc i) h = absurd (omega arith)
+ancestors-at (n ∷ p) i h = elim (decLt i (suc (length p))) [
+  | yes k ↦ ancestor-under n p i (omega arith) (ancestors-at p i (omega arith))
+  | no k ↦ ancestor-last n p i (omega arith)
+]
+
+-- ---- candidates
+module _ (scope name : List ℕ) where
+  -- an absolute name has one candidate, itself
+  pub candidates-abs : isAbs name ≡ true → candidates scope name ≡ components (rootless name) ∷ []
+  unfolding candidates
+  candidates-abs h = simp (candidates, h)
+
+  candidates-rel : isAbs name ≡ false → candidates scope name ≡ map (λ (p : Path). p ++ components name) (ancestors (components scope))
+  unfolding candidates
+  candidates-rel h = simp (candidates, h)
+
+  pub candidates-length-abs : isAbs name ≡ true → length (candidates scope name) ≡ 1
+  candidates-length-abs h = rw (candidates-abs h)
+
+  pub candidates-length-rel : isAbs name ≡ false → length (candidates scope name) ≡ suc (length (components scope))
+  candidates-length-rel h = rw (candidates-rel h, length-map, ancestors-length)
+
+  -- the i-th candidate of a relative name is the scope without its last i components, plus the name
+  pub candidate-rel : isAbs name ≡ false → (i : ℕ) → i ≤ length (components scope)
+      → candidate scope name i ≡ take (length (components scope) - i) (components scope) ++ components name
+  unfolding candidate
+  candidate-rel h i w =
+      let join : Path → Path = λ p. p ++ components name in
+      rw (candidates-rel h)
+      (getD-map-lt join (ancestors (components scope)) i [] [] (omega (arith, ancestors-length (components scope)))
+      ∙ ap join (ancestors-at (components scope) i w))

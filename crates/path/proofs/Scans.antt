@@ -1,0 +1,187 @@
+-- The loops over a text: what is known at the head of each, and the laws of each way through.
+-- Assumes nothing.
+use mathlib.Core.Path.{_≡_, refl, sym, ap, _∙_}
+use mathlib.Core.Bool.{Bool, true, false}
+use mathlib.Core.List.{List, [], _∷_, _++_}
+use Prim.Native.Nat.{ℕ, suc, _+_, _-_, _≤_, _<_}
+use native.Mathlib.Numerals.{add-one}
+use native.Mathlib.Omega.{arith}
+use borrow.Author.Tests.{not-true, not-false}
+use lib.ListN.{length, getD, take, drop, length-drop, drop-of-length-le, take-append-drop}
+use lib.Seq.{drop-cons, drop-drop, take-take, take-length, length-take-le, getD-take}
+use Rattle.path.specs.Ident.{isIdent}
+use Rattle.path.specs.Path.{dot, untilDot, split, components, spell, allIdent, parent, ancestors}
+use Rattle.path.proofs.Pieces.{text, until-other, headed}
+use Rattle.path.proofs.PathLaws.{until-length-le, until-take, split-last, split-more, spell-components}
+use Rattle.path.proofs.PathLaws.{components-nil, components-split, components-dotless, dotless-take}
+use Rattle.path.proofs.PathLaws.{parent-dotless, parent-append, parent-spell, parent-take, ancestors-at}
+
+-- ---- component_end: no dot from `at` up to i
+pub record Ending (s : List ℕ) (at i : ℕ) : Type 0 where
+  pub within : i ≤ length s
+  pub rest : at + length (untilDot (drop at s)) ≡ i + length (untilDot (drop i s))
+
+pub ending-start : (s : List ℕ) (at : ℕ) → at ≤ length s → Ending s at at
+ending-start s at h = record { within = h; rest = refl }
+
+module _ (s : List ℕ) (at i : ℕ) (k : Ending s at i) where
+  pub ending-over : length s ≤ i → i ≡ at + length (untilDot (drop at s))
+  unfolding untilDot
+  ending-over h = rw (k .rest, drop-of-length-le s h) (omega arith)
+
+  pub ending-dot : i < length s → getD s i 0 ≡ dot → i ≡ at + length (untilDot (drop at s))
+  unfolding untilDot
+  ending-dot h e = rw (k .rest, drop-cons s i 0 h, e) (omega arith)
+
+  pub ending-next : i < length s → (getD s i 0 ≡ dot → ⊥) → Ending s at (i + 1)
+  ending-next h n =
+      let one : untilDot (drop i s) ≡ getD s i 0 ∷ untilDot (drop (i + 1) s) =
+      rw (add-one, drop-cons s i 0) (until-other (getD s i 0) (drop (suc i) s) n) in
+      record { within = omega arith; rest = k .rest ∙ rw one (omega arith) }
+
+pub ruleset ending-laws = (ending-start, ending-over, ending-dot, ending-next)
+
+-- ---- the component from `at` up to e, as `component_end` finds e
+module _ (s : List ℕ) (at e : ℕ) (q : e ≡ at + length (untilDot (drop at s))) where
+  pub end-after : at ≤ e
+  end-after = omega arith
+
+  piece-is : take (e - at) (drop at s) ≡ untilDot (drop at s)
+  piece-is = let n : e - at ≡ length (untilDot (drop at s)) = omega arith in rw n (until-take (drop at s))
+
+  module _ (h : at ≤ length s) where
+    pub end-within : e ≤ length s
+    end-within = omega (arith, until-length-le (drop at s), length-drop at s)
+
+    pieces-last : length s ≤ e → split (drop at s) ≡ take (e - at) (drop at s) ∷ []
+    pieces-last l = let w = end-within in rw piece-is (split-last (drop at s) (omega (arith, length-drop at s)))
+
+  module _ (l : e < length s) where
+    pub next-less : length s - (e + 1) < length s - at
+    next-less = omega arith
+
+    pieces-more : split (drop at s) ≡ take (e - at) (drop at s) ∷ split (drop (e + 1) s)
+    pieces-more =
+        let m : at + suc (length (untilDot (drop at s))) ≡ e + 1 = omega arith in
+        rw piece-is (split-more (drop at s) (omega (arith, length-drop at s)) ∙ rw (drop-drop, m))
+
+-- ---- all_ident: the components from `from` up to `at` are identifiers
+pub record Checked (s : List ℕ) (from at : ℕ) : Type 0 where
+  pub within : at ≤ length s
+  pub rest : allIdent (split (drop from s)) ≡ allIdent (split (drop at s))
+
+pub checked-start : (s : List ℕ) (from : ℕ) → from ≤ length s → Checked s from from
+checked-start s from h = record { within = h; rest = refl }
+
+module _ (s : List ℕ) (from at : ℕ) (k : Checked s from at) (e : ℕ) (q : e ≡ at + length (untilDot (drop at s))) where
+  module _ (r : Bool) (p : r ≡ isIdent (take (e - at) (drop at s))) where
+    pub checked-no : r ≡ false → false ≡ allIdent (split (drop from s))
+    unfolding allIdent
+    checked-no z = rw (k .rest, headed (text (drop at s)) .is, ← piece-is s at e q, ← p, z)
+
+    pub checked-last : r ≡ true → length s ≤ e → true ≡ allIdent (split (drop from s))
+    unfolding allIdent
+    checked-last z l = rw (k .rest, pieces-last s at e q (k .within) l, ← p, z)
+
+    pub checked-next : r ≡ true → e < length s → Checked s from (e + 1)
+    unfolding allIdent
+    checked-next z l = record { within = omega arith; rest = rw (k .rest, pieces-more s at e q l, ← p, z) }
+
+pub ruleset checked-laws = (not-true, not-false, end-after, end-within, next-less, checked-start, checked-no, checked-last, checked-next)
+
+-- ---- count: n components end before `at`
+pub record Counted (s : List ℕ) (n at : ℕ) : Type 0 where
+  pub within : at ≤ length s
+  pub few : n ≤ at
+  pub rest : length (components s) ≡ n + length (split (drop at s))
+
+pub count-empty : (s : List ℕ) → length s ≡ 0 → 0 ≡ length (components s)
+count-empty s h = rw (components-nil s h)
+
+pub counted-start : (s : List ℕ) → (length s ≡ 0 → ⊥) → Counted s 0 0
+counted-start s h = record { within = omega arith; few = omega arith; rest = rw (components-split s h) (omega arith) }
+
+module _ (s : List ℕ) (n at : ℕ) (k : Counted s n at) (e : ℕ) (q : e ≡ at + length (untilDot (drop at s))) where
+  pub counted-last : length s ≤ e → n + 1 ≡ length (components s)
+  counted-last l = rw (k .rest, pieces-last s at e q (k .within) l)
+
+  pub counted-next : e < length s → Counted s (n + 1) (e + 1)
+  counted-next l =
+      let r : length (components s) ≡ n + 1 + length (split (drop (e + 1) s)) =
+      rw (k .rest, pieces-more s at e q l) (omega arith) in
+      record { within = omega arith; few = omega arith; rest = r }
+
+pub ruleset counted-laws = (end-after, end-within, next-less, count-empty, counted-start, counted-last, counted-next)
+
+-- ---- parent_end: the first `end` bytes have no dot from i on
+pub record Tail (s : List ℕ) (end i : ℕ) : Type 0 where
+  pub within : i ≤ end
+  pub inside : end ≤ length s
+  pub clear : untilDot (drop i (take end s)) ≡ drop i (take end s)
+
+pub tail-start : (s : List ℕ) (end : ℕ) → end ≤ length s → Tail s end end
+unfolding untilDot
+tail-start s end h =
+    let short : length (take end s) ≤ end = omega (arith, length-take-le end s h) in
+    record { within = omega arith; inside = h; clear = rw (drop-of-length-le (take end s) short) }
+
+module _ (s : List ℕ) (end i : ℕ) (k : Tail s end i) where
+  pub tail-none : i ≤ 0 → take 0 s ≡ spell (parent (components (take end s)))
+  tail-none h = let z : i ≡ 0 = omega arith in sym (parent-dotless (take end s) (rw z at (k .clear)))
+
+  module _ (h : 0 < i) where
+    tail-cons : drop (i - 1) (take end s) ≡ getD s (i - 1) 0 ∷ drop i (take end s)
+    tail-cons =
+        let w : i - 1 < end = omega (arith, k .within) in
+        let one : suc (i - 1) ≡ i = omega arith in
+        drop-cons (take end s) (i - 1) 0 (omega (arith, length-take-le end s (k .inside))) ∙ rw (one, getD-take end s (i - 1) 0 w)
+
+    pub tail-next : (getD s (i - 1) 0 ≡ dot → ⊥) → Tail s end (i - 1)
+    tail-next n =
+        let clear = until-other (getD s (i - 1) 0) (drop i (take end s)) n ∙ ap (λ (t : List ℕ). getD s (i - 1) 0 ∷ t) (k .clear) in
+        record { within = omega (arith, k .within); inside = k .inside; clear = rw tail-cons clear }
+
+    pub tail-dot : getD s (i - 1) 0 ≡ dot → take (i - 1) s ≡ spell (parent (components (take end s)))
+    tail-dot e =
+        let cut : take end s ≡ take (i - 1) s ++ dot ∷ drop i (take end s) =
+        sym (take-append-drop (i - 1) (take end s)) ∙ rw (tail-cons, e, take-take (i - 1) end s (omega (arith, k .within))) in
+        sym (rw cut (parent-append (take (i - 1) s) (drop i (take end s)) (k .clear)))
+
+pub ruleset tail-laws = (tail-start, tail-none, tail-next, tail-dot)
+
+-- ---- parent_of: the parent of the first `length s` bytes
+pub front-length : (s : List ℕ) (r : ℕ) → r ≤ length s → r ≡ length (take r s)
+front-length s r h = sym (length-take-le r s h)
+
+pub parent-whole : (s : List ℕ) (r : ℕ) → take r s ≡ spell (parent (components (take (length s) s)))
+    → take r s ≡ spell (parent (components s))
+parent-whole s r p = p ∙ rw (take-length s)
+
+pub ruleset parent-laws = (front-length, parent-whole)
+
+-- ---- ancestor: the first `end` bytes are the k-th ancestor
+pub record Climbed (s : List ℕ) (i end k : ℕ) : Type 0 where
+  pub few : k ≤ i
+  pub inside : end ≤ length s
+  pub spelt : take end s ≡ spell (take (length (components s) - k) (components s))
+
+pub climbed-start : (s : List ℕ) (i : ℕ) → Climbed s i (length s) 0
+climbed-start s i =
+    let all : length (components s) - 0 ≡ length (components s) = omega arith in
+    let whole : take (length (components s) - 0) (components s) ≡ components s = rw (all, take-length (components s)) in
+    record { few = omega arith; inside = omega arith; spelt = take-length s ∙ rw whole (sym (spell-components s)) }
+
+module _ (s : List ℕ) (i end k : ℕ) (c : Climbed s i end k) (w : i ≤ length (components s)) where
+  pub climbed-end : i ≤ k → take end s ≡ spell (getD (ancestors (components s)) i [])
+  climbed-end h = let e : k ≡ i = omega arith in c .spelt ∙ rw (e, ancestors-at (components s) i w)
+
+  pub climbed-next : k < i → (r : ℕ) → r ≤ end → take r s ≡ spell (parent (components (take end s))) → Climbed s i r (k + 1)
+  climbed-next h r l p =
+      let n = length (components s) in
+      let one : n - k ≡ suc (n - (k + 1)) = omega arith in
+      let up : parent (components (take end s)) ≡ take (n - (k + 1)) (components s) =
+      rw (c .spelt, parent-spell (take (n - k) (components s)) (dotless-take (n - k) (components s) (components-dotless s)), one)
+      (parent-take (n - (k + 1)) (components s) (omega arith)) in
+      record { few = omega arith; inside = omega (arith, c .inside); spelt = p ∙ ap spell up }
+
+pub ruleset climbed-laws = (front-length, climbed-start, climbed-end, climbed-next)

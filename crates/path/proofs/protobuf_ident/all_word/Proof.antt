@@ -1,0 +1,25 @@
+-- `protobuf_ident::all_word` meets its contract.
+-- Assumes nothing.
+use Prim.Native.Nat.{_-_}
+use lib.ListN.{length}
+use Rattle.path.proofs.IdentLaws.{Words, words-laws}
+use borrow.Author.Needs.{needs}
+use Rattle.path.proofs.protobuf_ident.all_word.Statement.{statement}
+use Rattle.path.proofs.protobuf_ident.all_word.Tie as tie
+
+abbrev Inv-loop : tie.InvT-loop
+Inv-loop s from i₀ i = Words s from i
+
+abbrev μ-loop : tie.MeasureT-loop
+μ-loop s from i₀ i = length s - i
+
+pub all-word-spec : {M : Type 1} → statement M
+all-word-spec = tie.close (tie.spec Inv-loop μ-loop
+    (λ c. search (needs, words-laws))
+    (λ c. search (needs, words-laws))
+    (λ c κs. search (needs, words-laws))
+    (λ c. search (needs, words-laws))
+    (λ c. search (needs, words-laws))
+    (λ c. search (needs, words-laws))
+    (λ c. search (needs, words-laws))
+    (λ c. search (needs, words-laws)))

@@ -1,0 +1,13 @@
+-- `protobuf_path::is_path` meets its contract.
+-- Assumes nothing.
+use Rattle.path.proofs.FormLaws.{form-laws}
+use borrow.Author.Needs.{needs}
+use Rattle.path.proofs.protobuf_path.is_path.Statement.{statement}
+use Rattle.path.proofs.protobuf_path.is_path.Tie as tie
+
+pub is-path-spec : {M : Type 1} → statement M
+is-path-spec = tie.close (tie.spec
+    (λ c. search (needs, form-laws))
+    (λ c κs. search (needs, form-laws))
+    (λ c κs. search (needs, form-laws))
+    (λ c. search (needs, form-laws)))

@@ -1,0 +1,28 @@
+-- `protobuf_rel_path::all_ident` meets its contract.
+-- Assumes nothing.
+use Prim.Native.Nat.{_-_}
+use lib.ListN.{length}
+use Rattle.path.proofs.Scans.{Checked, checked-laws}
+use borrow.Author.Needs.{needs}
+use Rattle.path.proofs.protobuf_rel_path.all_ident.Statement.{statement}
+use Rattle.path.proofs.protobuf_rel_path.all_ident.Tie as tie
+
+abbrev Inv-loop : tie.InvT-loop
+Inv-loop s from at₀ at = Checked s from at
+
+abbrev μ-loop : tie.MeasureT-loop
+μ-loop s from at₀ at = length s - at
+
+pub all-ident-spec : {M : Type 1} → statement M
+all-ident-spec = tie.close (tie.spec Inv-loop μ-loop
+    (λ c. search (needs, checked-laws))
+    (λ c κs. search (needs, checked-laws))
+    (λ c. search (needs, checked-laws))
+    (λ c. search (needs, checked-laws))
+    (λ c. search (needs, checked-laws))
+    (λ c κs. search (needs, checked-laws))
+    (λ c. search (needs, checked-laws))
+    (λ c. search (needs, checked-laws))
+    (λ c. search (needs, checked-laws))
+    (λ c. search (needs, checked-laws))
+    (λ c. search (needs, checked-laws)))

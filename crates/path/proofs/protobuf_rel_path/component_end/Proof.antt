@@ -1,0 +1,24 @@
+-- `protobuf_rel_path::component_end` meets its contract.
+-- Assumes nothing.
+use Prim.Native.Nat.{_-_}
+use lib.ListN.{length}
+use Rattle.path.proofs.Scans.{Ending, ending-laws}
+use borrow.Author.Needs.{needs}
+use Rattle.path.proofs.protobuf_rel_path.component_end.Statement.{statement}
+use Rattle.path.proofs.protobuf_rel_path.component_end.Tie as tie
+
+abbrev Inv-loop : tie.InvT-loop
+Inv-loop s at i₀ i = Ending s at i
+
+abbrev μ-loop : tie.MeasureT-loop
+μ-loop s at i₀ i = length s - i
+
+pub component-end-spec : {M : Type 1} → statement M
+component-end-spec = tie.close (tie.spec Inv-loop μ-loop
+    (λ c. search (needs, ending-laws))
+    (λ c. search (needs, ending-laws))
+    (λ c. search (needs, ending-laws))
+    (λ c. search (needs, ending-laws))
+    (λ c. search (needs, ending-laws))
+    (λ c. search (needs, ending-laws))
+    (λ c. search (needs, ending-laws)))

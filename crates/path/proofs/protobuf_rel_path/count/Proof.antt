@@ -1,0 +1,25 @@
+-- `protobuf_rel_path::count` meets its contract.
+-- Assumes nothing.
+use Prim.Native.Nat.{_-_}
+use lib.ListN.{length}
+use Rattle.path.proofs.Scans.{Counted, counted-laws}
+use borrow.Author.Needs.{needs}
+use Rattle.path.proofs.protobuf_rel_path.count.Statement.{statement}
+use Rattle.path.proofs.protobuf_rel_path.count.Tie as tie
+
+abbrev Inv-loop : tie.InvT-loop
+Inv-loop s n₀ at₀ n at = Counted s n at
+
+abbrev μ-loop : tie.MeasureT-loop
+μ-loop s n₀ at₀ n at = length s - at
+
+pub count-spec : {M : Type 1} → statement M
+count-spec = tie.close (tie.spec Inv-loop μ-loop
+    (λ c. search (needs, counted-laws))
+    (λ c. search (needs, counted-laws))
+    (λ c κs. search (needs, counted-laws))
+    (λ c. search (needs, counted-laws))
+    (λ c. search (needs, counted-laws))
+    (λ c. search (needs, counted-laws))
+    (λ c. search (needs, counted-laws))
+    (λ c. search (needs, counted-laws)))

@@ -1,0 +1,12 @@
+-- `protobuf_rel_path::is_rel_path` meets its contract.
+-- Assumes nothing.
+use Rattle.path.proofs.FormLaws.{form-laws}
+use borrow.Author.Needs.{needs}
+use Rattle.path.proofs.protobuf_rel_path.is_rel_path.Statement.{statement}
+use Rattle.path.proofs.protobuf_rel_path.is_rel_path.Tie as tie
+
+pub is-rel-path-spec : {M : Type 1} → statement M
+is-rel-path-spec = tie.close (tie.spec
+    (λ c. search (needs, form-laws))
+    (λ c κs. search (needs, form-laws))
+    (λ c. search (needs, form-laws)))

@@ -1,0 +1,87 @@
+-- Paths: a path is the list of its components; its text has them joined by dots.
+--
+--          dot == the byte `.`
+--   untilDot t == the bytes of t before its first dot
+--      split t == the pieces of t between its dots, one at least
+-- components t == the components of a text, none of the empty text
+--      spell p == the text of a path
+--   isRelPath t <=> t is a path, not empty and with no leading dot
+-- isRelOrEmpty t <=> t is such a path, or empty
+--      isAbs t <=> t leads with a dot
+--    rootless t == t without its leading dot
+--      isPath t <=> t is a path that may lead with a dot
+--     parent p == p without its last component
+--  ancestors p == p and its parents, the longest first, the empty one last
+--
+-- Assumes nothing.
+use mathlib.Core.Bool.{Bool, true, false, _&&_}
+use mathlib.Core.List.{List, [], _∷_, _++_, map}
+use Prim.Native.Nat.{ℕ}
+use lib.Dec.{leb, eqb}
+use lib.ListN.{length}
+use Rattle.limits.specs.Figures.{mostPath}
+use Rattle.path.specs.Ident.{isIdent}
+
+abbrev pub Name : Type 0
+Name = List ℕ
+
+abbrev pub Path : Type 0
+Path = List Name
+
+abbrev pub dot : ℕ
+dot = 46
+
+unfoldable pub untilDot : List ℕ → Name
+untilDot [] = []
+untilDot (c ∷ cs) = elim (eqb c dot) [ true ↦ [] | false ↦ c ∷ untilDot cs ]
+
+unfoldable pub onFirst : ℕ → Path → Path
+onFirst c [] = (c ∷ []) ∷ []
+onFirst c (n ∷ ns) = (c ∷ n) ∷ ns
+
+unfoldable pub split : List ℕ → Path
+split [] = [] ∷ []
+split (c ∷ cs) = elim (eqb c dot) [ true ↦ [] ∷ split cs | false ↦ onFirst c (split cs) ]
+
+unfoldable pub components : List ℕ → Path
+components [] = []
+components (c ∷ cs) = split (c ∷ cs)
+
+-- 01, Sheet and request: "identifiers joined by dots"
+unfoldable pub spell : Path → List ℕ
+spell [] = []
+spell (n ∷ []) = n
+spell (n ∷ m ∷ ns) = n ++ dot ∷ spell (m ∷ ns)
+
+unfoldable pub allIdent : Path → Bool
+allIdent [] = true
+allIdent (n ∷ ns) = isIdent n && allIdent ns
+
+-- 01, Sheet and request: "Paths, at most 255 bytes, are identifiers joined by dots"; the one piece of the empty text is no identifier
+unfoldable pub isRelPath : List ℕ → Bool
+isRelPath t = leb (length t) mostPath && allIdent (split t)
+
+-- "only package and scope be empty"
+unfoldable pub isRelOrEmpty : List ℕ → Bool
+isRelOrEmpty t = leb (length t) mostPath && allIdent (components t)
+
+unfoldable pub isAbs : List ℕ → Bool
+isAbs [] = false
+isAbs (c ∷ cs) = eqb c dot
+
+unfoldable pub rootless : List ℕ → List ℕ
+rootless [] = []
+rootless (c ∷ cs) = elim (eqb c dot) [ true ↦ cs | false ↦ c ∷ cs ]
+
+-- "only 1B may lead with a dot"; the dot counts to the 255 bytes
+unfoldable pub isPath : List ℕ → Bool
+isPath t = leb (length t) mostPath && allIdent (split (rootless t))
+
+unfoldable pub parent : Path → Path
+parent [] = []
+parent (n ∷ []) = []
+parent (n ∷ m ∷ ns) = n ∷ parent (m ∷ ns)
+
+unfoldable pub ancestors : Path → List Path
+ancestors [] = [] ∷ []
+ancestors (n ∷ ns) = map (λ (p : Path). n ∷ p) (ancestors ns) ++ ([] ∷ [])

@@ -1,0 +1,134 @@
+// Relative paths: identifiers joined by dots, with no leading dot.
+ghost use mathlib.Core.Path.{_≡_};
+ghost use mathlib.Core.List.{[], _++_};
+ghost use Prim.Native.Nat.{ℕ, _+_, _^_, _≤_, _<_};
+ghost use lib.ListN.{length, drop, take, getD};
+ghost use Rattle.octets.specs.Octets.{Laid};
+ghost use Rattle.path.specs.Path.{untilDot, split, components, spell, allIdent, isRelPath, isRelOrEmpty, parent, ancestors};
+use crate::protobuf_ident::is_ident;
+use limits::MOST_PATH;
+
+// Where the component that starts at a place ends: the next dot, or the end.
+pub fn component_end(s: &[u8], at: usize) -> usize
+    requires { ⌜ at ≤ length (now s) ⌝ }
+    ensures { λ r. ⌜ r ≡ at + length (untilDot (drop at (now (s .entry)))) ⌝ }
+{
+    let mut i = at;
+    while i < s.len() {
+        if s[i] == b'.' {
+            return i;
+        }
+        i += 1;
+    }
+    i
+}
+
+// Whether each piece between two dots, from a place on, is an identifier.
+pub fn all_ident(s: &[u8], from: usize) -> bool
+    requires { ⌜ from ≤ length (now s) ⌝ }
+    ensures { λ r. ⌜ r ≡ allIdent (split (drop from (now (s .entry)))) ⌝ }
+{
+    let mut at = from;
+    loop {
+        let end = component_end(s, at);
+        if !is_ident(&s[at..end]) {
+            return false;
+        }
+        if s.len() <= end {
+            return true;
+        }
+        at = end + 1;
+    }
+}
+
+// Whether the text is a relative path, and not empty.
+pub fn is_rel_path(s: &[u8]) -> bool
+    ensures { λ r. ⌜ r ≡ isRelPath (now (s .entry)) ⌝ }
+{
+    if MOST_PATH < s.len() {
+        return false;
+    }
+    all_ident(s, 0)
+}
+
+// Whether the text is a relative path or empty, as a package and a scope may be.
+pub fn is_rel_or_empty(s: &[u8]) -> bool
+    ensures { λ r. ⌜ r ≡ isRelOrEmpty (now (s .entry)) ⌝ }
+{
+    if s.len() == 0 {
+        return true;
+    }
+    is_rel_path(s)
+}
+
+// How many components the path has.
+pub fn count(s: &[u8]) -> usize
+    ensures { λ r. ⌜ r ≡ length (components (now (s .entry))) ⌝ }
+{
+    if s.len() == 0 {
+        return 0;
+    }
+    let mut n = 0;
+    let mut at = 0;
+    loop {
+        let end = component_end(s, at);
+        n += 1;
+        if s.len() <= end {
+            return n;
+        }
+        at = end + 1;
+    }
+}
+
+// Where the parent of the first `end` bytes ends: their last dot, or the start.
+fn parent_end(s: &[u8], end: usize) -> usize
+    requires { ⌜ end ≤ length (now s) ⌝ }
+    ensures { λ r. ⌜ (r ≤ end) × (take r (now (s .entry)) ≡ spell (parent (components (take end (now (s .entry)))))) ⌝ }
+{
+    let mut i = end;
+    while 0 < i {
+        i -= 1;
+        if s[i] == b'.' {
+            return i;
+        }
+    }
+    0
+}
+
+// The path without its last component.
+pub fn parent_of(s: &[u8]) -> &[u8]
+    ensures { λ r. ⌜ now r ≡ spell (parent (components (now (s .entry)))) ⌝ }
+{
+    let end = parent_end(s, s.len());
+    &s[..end]
+}
+
+// The path itself for 0, its parent for 1, and so on up to the empty one.
+pub fn ancestor(s: &[u8], i: usize) -> &[u8]
+    requires { ⌜ i ≤ length (components (now s)) ⌝ }
+    ensures { λ r. ⌜ now r ≡ spell (getD (ancestors (components (now (s .entry)))) i []) ⌝ }
+{
+    let mut end = s.len();
+    let mut k = 0;
+    while k < i {
+        end = parent_end(s, end);
+        k += 1;
+    }
+    &s[..end]
+}
+
+// The text of one path followed by another, in a lent buffer as far as that reaches, and its length.
+pub fn append(a: &[u8], b: &[u8], out: &mut [u8]) -> usize
+    requires { ⌜ length (now a) + length (now b) < 2 ^ 63 ⌝ }
+    ensures { λ r. ⌜ Laid (now (out .entry)) 0 (spell (components (now (a .entry)) ++ components (now (b .entry)))) (now (out .exit)) r ⌝ }
+{
+    if a.len() == 0 {
+        return octets::put_all(out, 0, b);
+    }
+    let n = octets::put_all(out, 0, a);
+    if b.len() == 0 {
+        return n;
+    }
+    octets::put(out, n, b'.');
+    octets::put_all(out, n + 1, b)
+}

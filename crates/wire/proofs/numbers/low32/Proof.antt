@@ -1,0 +1,8 @@
+use Rattle.wire.proofs.NumberLaws.{number-laws}
+use borrow.Author.Needs.{needs}
+use Rattle.wire.proofs.numbers.low32.Statement.{statement}
+use Rattle.wire.proofs.numbers.low32.Tie as tie
+
+pub low32-spec : {M : Type 1} → statement M
+low32-spec = tie.close (tie.spec
+    (λ c. search (needs, number-laws)))

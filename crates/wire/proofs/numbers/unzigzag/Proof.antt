@@ -1,0 +1,10 @@
+use Rattle.wire.proofs.NumberLaws.{number-laws}
+use borrow.Author.Needs.{needs}
+use Rattle.wire.proofs.numbers.unzigzag.Statement.{statement}
+use Rattle.wire.proofs.numbers.unzigzag.Tie as tie
+
+pub unzigzag-spec : {M : Type 1} → statement M
+unzigzag-spec = tie.close (tie.spec
+    (λ c. search (needs, number-laws))
+    (λ c. search (needs, number-laws))
+    (λ c. search (needs, number-laws)))

@@ -1,0 +1,10 @@
+use Rattle.wire.proofs.NumberLaws.{number-laws}
+use borrow.Author.Needs.{needs}
+use Rattle.wire.proofs.numbers.widen32.Statement.{statement}
+use Rattle.wire.proofs.numbers.widen32.Tie as tie
+
+pub widen32-spec : {M : Type 1} → statement M
+widen32-spec = tie.close (tie.spec
+    (λ c. search (needs, number-laws))
+    (λ c. search (needs, number-laws))
+    (λ c. search (needs, number-laws)))

@@ -1,0 +1,13 @@
+use Rattle.wire.proofs.NumberLaws.{number-laws}
+use borrow.Author.Needs.{needs}
+use Rattle.wire.proofs.numbers.zigzag.Statement.{statement}
+use Rattle.wire.proofs.numbers.zigzag.Tie as tie
+
+pub zigzag-spec : {M : Type 1} → statement M
+zigzag-spec = tie.close (tie.spec
+    (λ c. search (needs, number-laws))
+    (λ c. search (needs, number-laws))
+    (λ c. search (needs, number-laws))
+    (λ c. search (needs, number-laws))
+    (λ c. search (needs, number-laws))
+    (λ c. search (needs, number-laws)))

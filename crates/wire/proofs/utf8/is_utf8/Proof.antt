@@ -1,0 +1,22 @@
+use Prim.Native.Nat.{_-_}
+use lib.ListN.{length}
+use Rattle.wire.proofs.Utf8Scan.{Scanned, scan-laws}
+use borrow.Author.Needs.{needs}
+use Rattle.wire.proofs.utf8.is_utf8.Statement.{statement}
+use Rattle.wire.proofs.utf8.is_utf8.Tie as tie
+
+abbrev Inv-loop : tie.InvT-loop
+Inv-loop s i₀ i = Scanned s i
+
+abbrev μ-loop : tie.MeasureT-loop
+μ-loop s i₀ i = length s - i
+
+pub is-utf8-spec : {M : Type 1} → statement M
+is-utf8-spec = tie.close (tie.spec Inv-loop μ-loop
+    (λ c. search (needs, scan-laws))
+    (λ c κs. search (needs, scan-laws))
+    (λ c. search (needs, scan-laws))
+    (λ c. search (needs, scan-laws))
+    (λ c. search (needs, scan-laws))
+    (λ c. search (needs, scan-laws))
+    (λ c. search (needs, scan-laws)))

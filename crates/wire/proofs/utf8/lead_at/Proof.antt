@@ -1,0 +1,18 @@
+use Rattle.wire.proofs.Utf8Lead.{lead-laws}
+use borrow.Author.Needs.{needs}
+use Rattle.wire.proofs.utf8.lead_at.Statement.{statement}
+use Rattle.wire.proofs.utf8.lead_at.Tie as tie
+
+pub lead-at-spec : {M : Type 1} → statement M
+lead-at-spec = tie.close (tie.spec
+    (λ c. search (needs, lead-laws))
+    (λ c. search (needs, lead-laws))
+    (λ c. search (needs, lead-laws))
+    (λ c κs. search (needs, lead-laws))
+    (λ c. search (needs, lead-laws))
+    (λ c κs. search (needs, lead-laws))
+    (λ c. search (needs, lead-laws))
+    (λ c κs. search (needs, lead-laws))
+    (λ c. search (needs, lead-laws))
+    (λ c κs. search (needs, lead-laws))
+    (λ c. search (needs, lead-laws)))
