@@ -5,3 +5,4 @@ pub mod Halfway
 pub mod Alike
 pub mod SameBytes
 pub mod Big
+pub mod Signs

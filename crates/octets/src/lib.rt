@@ -4,6 +4,8 @@ ghost use mathlib.Core.List.{[], _∷_};
 ghost use Prim.Native.Nat.{ℕ, _+_, _^_, _≤_, _<_};
 ghost use lib.ListN.{length, getD};
 ghost use lib.Seq.{sets};
+ghost use mir.Syntax.{w32};
+ghost use mir.Val.{toZ};
 ghost use Rattle.octets.specs.Octets.{sameBytes, bigAt, Laid};
 
 // A byte as a number.
@@ -35,6 +37,17 @@ pub fn u32_at(s: &[u8], at: usize) -> u32
     ensures { λ r. ⌜ (r ≡ bigAt 4 (now (s .entry)) at) × (r < 2 ^ 32) ⌝ }
 {
     (u16_at(s, at) * 0x1_0000 + u16_at(s, at + 2)) as u32
+}
+
+// The number that 32 bits are in two's complement.
+pub fn signed32(bits: u32) -> i32
+    ensures { λ r. ⌜ r ≡ toZ w32 bits ⌝ }
+{
+    if bits < 0x8000_0000 {
+        bits as i32
+    } else {
+        -1 - ((0xffff_ffff - bits) as i32)
+    }
 }
 
 // Eight bytes, the highest first.

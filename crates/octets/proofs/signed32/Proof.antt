@@ -1,0 +1,13 @@
+use Rattle.octets.proofs.Signs.{sign-laws}
+use borrow.Author.Needs.{needs}
+use Rattle.octets.proofs.signed32.Statement.{statement}
+use Rattle.octets.proofs.signed32.Tie as tie
+
+pub signed32-spec : {M : Type 1} → statement M
+signed32-spec = tie.close (tie.spec
+    (λ c. search (needs, sign-laws))
+    (λ c. search (needs, sign-laws))
+    (λ c. search (needs, sign-laws))
+    (λ c. search (needs, sign-laws))
+    (λ c. search (needs, sign-laws))
+    (λ c. search (needs, sign-laws)))

@@ -1,0 +1,37 @@
+// Gives each field of a message the oneof it belongs to. Input: 49 the words (4 bytes each).
+use console::input::Input;
+use console::input::Payload;
+
+const WORDS: u8 = 0x49;
+
+fn lower(payload: &[u8]) {
+    let mut words = [0u32; 16384];
+    let n = console::input::words_of(payload, &mut words);
+    let mut out = [0u32; 4096];
+    let a = lowering::lower_fields(&words[..n], &mut out);
+    console::output::answer(a);
+    if a.reply == 0 {
+        console::output::words(&out, a.length as usize);
+    }
+}
+
+fn run(s: &[u8]) {
+    let Payload::At { from, to } = console::input::field_of(s, 0, WORDS) else {
+        return;
+    };
+    if !console::input::has_units(WORDS, from, to, 4) {
+        return;
+    }
+    if !console::input::ends(s, to) {
+        return;
+    }
+    lower(&s[from..to]);
+}
+
+fn main() {
+    let mut bytes = [0u8; 131072];
+    let Input::Bytes(n) = console::input::read(&mut bytes) else {
+        return;
+    };
+    run(&bytes[..n]);
+}

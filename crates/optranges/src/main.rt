@@ -1,0 +1,44 @@
+// Lowers ranges. Input: 47 the kind (4 bytes), 48 the words, starts and ends in turn (4 bytes each).
+use console::input::Input;
+use console::input::Payload;
+
+const KIND: u8 = 0x47;
+const WORDS: u8 = 0x48;
+
+fn lower(kind: u32, payload: &[u8]) {
+    let mut words = [0i32; 16384];
+    let n = console::input::signed_words_of(payload, &mut words);
+    let mut out = [0i32; 4096];
+    let a = lowering::lower_ranges(kind, &words[..n], &mut out);
+    console::output::answer(a);
+    if a.reply == 0 {
+        console::output::signed_words(&out, a.length as usize);
+    }
+}
+
+fn run(s: &[u8]) {
+    let Payload::At { from: k, to: next } = console::input::field_of(s, 0, KIND) else {
+        return;
+    };
+    if !console::input::has_size(KIND, k, next, 4) {
+        return;
+    }
+    let Payload::At { from, to } = console::input::field_of(s, next, WORDS) else {
+        return;
+    };
+    if !console::input::has_units(WORDS, from, to, 4) {
+        return;
+    }
+    if !console::input::ends(s, to) {
+        return;
+    }
+    lower(octets::u32_at(s, k), &s[from..to]);
+}
+
+fn main() {
+    let mut bytes = [0u8; 131072];
+    let Input::Bytes(n) = console::input::read(&mut bytes) else {
+        return;
+    };
+    run(&bytes[..n]);
+}
