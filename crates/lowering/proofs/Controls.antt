@@ -6,11 +6,11 @@ use Prim.Native.Nat.{ℕ}
 use lib.IntN.{ℤ, pos, negsuc}
 use lib.ListN.{replicate}
 use Rattle.reply.specs.declared.Refusal.the-variants.{BadRequest, BeyondLimit, RangeEnd}
-use Rattle.reply.specs.Outcome.{Outcome, refuse, give}
+use Rattle.reply.specs.Outcome.{refuse, give}
 use Rattle.lowering.specs.Ranges.{endOf, pairs, lowerRanges}
 use Rattle.lowering.specs.Fields.{oneofs, lowerFields}
 
--- 01, example 10: extension 100 to 199; the last end, refused and, for an enum, kept; the end before it; a start above its end; -1; no words
+-- 01, example 10: extension 100 to 199; the last end; the end before it; a start above its end; an end of -1; no words
 ranges :
     map (λ (ws : List ℤ). lowerRanges 0 ws)
     ((pos 100 ∷ pos 199 ∷ [])

@@ -1,6 +1,6 @@
 -- Fields: the loop of `put_fields`, and the ways through `lower_fields`.
 -- Assumes nothing.
-use mathlib.Core.Path.{_≡_, refl, sym, ap, _∙_}
+use mathlib.Core.Path.{_≡_, refl, ap, _∙_}
 use mathlib.Core.Bool.{Bool, true, false}
 use mathlib.Core.List.{List, [], _∷_}
 use Prim.Native.Nat.{ℕ, suc, _+_, _≤_, _<_}
@@ -16,30 +16,14 @@ use Rattle.limits.specs.Figures.{mostWords}
 use Rattle.reply.specs.declared.Refusal.the-variants.{BadRequest, BeyondLimit}
 use Rattle.reply.specs.declared.Answer.{Answer}
 use Rattle.reply.specs.Reply.{refusedBy}
-use Rattle.reply.specs.Outcome.{Outcome, refuse, nothing, give, push, Answered}
+use Rattle.reply.specs.Outcome.{Outcome, refuse, give, push, Answered}
 use Rattle.reply.proofs.Outcomes.{answered-refused}
 use Rattle.lowering.specs.declared.Put.{Put}
 use Rattle.lowering.specs.declared.Put.the-variants.{Wrote, Refused}
 use Rattle.lowering.specs.Puts.{Puts}
 use Rattle.lowering.specs.Fields.{oneofs, lowerFields}
-use Rattle.lowering.proofs.WriteLaws.{
-  Front,
-  front-start,
-  front-put,
-  front-pass,
-  front-length,
-  front-refused,
-  front-done,
-  give-inv,
-  Settled,
-  gives,
-  refuses,
-  Given,
-  put-wrote,
-  call-refused,
-  call-no-room,
-  call-done,
-}
+use Rattle.lowering.proofs.WriteLaws.{Front, front-start, front-put, front-pass, front-length, front-refused, front-done}
+use Rattle.lowering.proofs.WriteLaws.{give-inv, Settled, gives, refuses, put-wrote, call-laws}
 
 -- ---- a word at the front
 module _ (count member w : ℕ) (ws : List ℕ) where
@@ -100,7 +84,8 @@ module _ (ws l m : List ℕ) (count member n i : ℕ) (u : Numbering ws l m coun
     here = rw (drop-cons ws i 0 h, add-one i)
 
     -- a word that is read, and writes one word x or none
-    wrote : (count′ member′ x : ℕ) → oneofs count member (getD ws i 0 ∷ drop (i + 1) ws) ≡ push (x ∷ []) (oneofs count′ member′ (drop (i + 1) ws))
+    wrote : (count′ member′ x : ℕ)
+        → oneofs count member (getD ws i 0 ∷ drop (i + 1) ws) ≡ push (x ∷ []) (oneofs count′ member′ (drop (i + 1) ws))
         → count′ ≤ i + 1 → (l′ : List ℕ) → l′ ≡ sets m n (x ∷ []) → Numbering ws l l′ count′ member′ (n + 1) (i + 1)
     wrote count′ member′ x e g l′ p = record {
       reached = omega arith;
@@ -110,11 +95,15 @@ module _ (ws l m : List ℕ) (count member n i : ℕ) (u : Numbering ws l m coun
       laid = front-put _ _ l m n (u .laid) (x ∷ []) _ l′ (ap (oneofs count member) here ∙ e) p;
     }
 
+    refused-here : oneofs count member (getD ws i 0 ∷ drop (i + 1) ws) ≡ refuse BadRequest → Puts (oneofs 0 0 ws) l m Refused
+    refused-here e = front-refused _ _ l m n (u .laid) BadRequest (ap (oneofs count member) here ∙ e)
+
     pub numbering-plain : getD ws i 0 ≡ 0 → (l′ : List ℕ) → l′ ≡ sets m n (0 ∷ []) → Numbering ws l l′ count 0 (n + 1) (i + 1)
     numbering-plain a = wrote count 0 0 (oneofs-plain count member _ _ a) (omega (arith, u .counted))
 
     module _ (a : getD ws i 0 ≡ 0 → ⊥) where
-      pub numbering-optional : getD ws i 0 ≡ 1 → (l′ : List ℕ) → l′ ≡ sets m n ((count + 1) ∷ []) → Numbering ws l l′ (count + 1) 0 (n + 1) (i + 1)
+      pub numbering-optional : getD ws i 0 ≡ 1 → (l′ : List ℕ) → l′ ≡ sets m n ((count + 1) ∷ [])
+          → Numbering ws l l′ (count + 1) 0 (n + 1) (i + 1)
       numbering-optional b = wrote (count + 1) 0 (count + 1) (oneofs-optional count member _ _ a b) (omega (arith, u .counted))
 
       module _ (b : getD ws i 0 ≡ 1 → ⊥) where
@@ -129,13 +118,14 @@ module _ (ws l m : List ℕ) (count member n i : ℕ) (u : Numbering ws l m coun
 
         module _ (d : getD ws i 0 ≡ 2 → ⊥) where
           pub numbering-other : (getD ws i 0 ≡ 3 → ⊥) → Puts (oneofs 0 0 ws) l m Refused
-          numbering-other e = front-refused _ _ l m n (u .laid) BadRequest (ap (oneofs count member) here ∙ oneofs-other count member _ _ a b d e)
+          numbering-other e = refused-here (oneofs-other count member _ _ a b d e)
 
           module _ (e : getD ws i 0 ≡ 3) where
             pub numbering-stray : member ≡ 0 → Puts (oneofs 0 0 ws) l m Refused
-            numbering-stray g = front-refused _ _ l m n (u .laid) BadRequest (ap (oneofs count member) here ∙ oneofs-stray count member _ _ a b d e g)
+            numbering-stray g = refused-here (oneofs-stray count member _ _ a b d e g)
 
-            pub numbering-member : (member ≡ 0 → ⊥) → (l′ : List ℕ) → l′ ≡ sets m n (member ∷ []) → Numbering ws l l′ count member (n + 1) (i + 1)
+            pub numbering-member : (member ≡ 0 → ⊥) → (l′ : List ℕ) → l′ ≡ sets m n (member ∷ [])
+                → Numbering ws l l′ count member (n + 1) (i + 1)
             numbering-member g = wrote count member member (oneofs-member count member _ _ a b d e g) (omega (arith, u .counted))
 
 pub ruleset numbering-laws = (
@@ -207,4 +197,4 @@ fields-fit ws z z′ p n u e h =
     let g = put-wrote (oneofs 0 0 ws) n p (u .answer) e in
     record { fits = omega (arith, oneofs-sized 0 0 ws .short (g .words) (g .is), g .size) }
 
-pub ruleset fields-laws = (fields-long, fields-settled, fields-left, fields-fit, call-refused, call-no-room, call-done)
+pub ruleset fields-laws = (fields-long, fields-settled, fields-left, fields-fit, call-laws)

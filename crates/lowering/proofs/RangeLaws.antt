@@ -1,10 +1,8 @@
 -- Ranges: the loop of `put_ranges`, and the ways through `lower_ranges`.
 -- Assumes nothing.
 use mathlib.Core.Path.{_≡_, refl, sym, ap, _∙_}
-use mathlib.Core.Bool.{true, false}
 use mathlib.Core.List.{List, [], _∷_}
-use Prim.Native.Nat.{ℕ, suc, _+_, _-_, _%_, _≤_, _<_}
-use native.Mathlib.Nat.{add-assoc}
+use Prim.Native.Nat.{ℕ, suc, _+_, _%_, _≤_, _<_}
 use native.Mathlib.Numerals.{add-one}
 use native.Mathlib.Omega.{arith}
 use borrow.Author.Tests.{lt-ltb, le-ltb, eq-eqb, ne-eqb}
@@ -16,7 +14,6 @@ use mir.Val.{Fits, SFits, toZ, ofZ}
 use mir.Facts.{toZ-ofZ}
 use lib.Signed.{mag}
 use Rattle.limits.specs.Figures.{mostWords}
-use Rattle.reply.specs.declared.Refusal.{Refusal}
 use Rattle.reply.specs.declared.Refusal.the-variants.{BadRequest, BeyondLimit, RangeEnd}
 use Rattle.reply.specs.declared.Answer.{Answer}
 use Rattle.reply.specs.Reply.{refusedBy}
@@ -28,7 +25,8 @@ use Rattle.lowering.specs.declared.ranges.End.{End}
 use Rattle.lowering.specs.declared.ranges.End.the-variants.{At, NoNext}
 use Rattle.lowering.specs.Puts.{Puts}
 use Rattle.lowering.specs.Ranges.{enumReserved, endOf, withEnd, pairs, lowerRanges}
-use Rattle.lowering.proofs.WriteLaws.{Front, front-start, front-put, front-pass, front-length, front-refused, front-done, give-inv, Settled, gives, refuses, Given, put-wrote, call-refused, call-no-room, call-done}
+use Rattle.lowering.proofs.WriteLaws.{Front, front-start, front-put, front-length, front-refused, front-done}
+use Rattle.lowering.proofs.WriteLaws.{give-inv, Settled, gives, refuses, put-wrote, call-laws}
 
 -- a word as the machine has it: written as bits, and read from them
 abbrev pub word : ℤ → ℤ
@@ -37,8 +35,8 @@ word z = toZ w32 (ofZ w32 z)
 word-back : (z : ℤ) → mag z < 2147483648 → word z ≡ z
 word-back z h = toZ-ofZ (record { sfits = h })
 
-pub range-put : (l m l′ : List ℤ) (at : ℕ) (s e : ℤ) → SFits w32 s → SFits w32 e → m ≡ sets l at (word s ∷ []) → l′ ≡ sets m (at + 1) (word e ∷ [])
-    → l′ ≡ sets l at (s ∷ e ∷ [])
+pub range-put : (l m l′ : List ℤ) (at : ℕ) (s e : ℤ) → SFits w32 s → SFits w32 e
+    → m ≡ sets l at (word s ∷ []) → l′ ≡ sets m (at + 1) (word e ∷ []) → l′ ≡ sets l at (s ∷ e ∷ [])
 range-put l m l′ at s e fs fe a b = b ∙ rw (a, toZ-ofZ fs, toZ-ofZ fe, add-one at)
 
 -- ---- the loop: the first i words are lowered
@@ -70,7 +68,8 @@ module _ (k : ℕ) (ws l m : List ℤ) (i : ℕ) (u : Ranging k ws l m i) where
         let two : suc (suc i) ≡ i + 2 = omega arith in
         rw (drop-cons ws i (pos 0) h, drop-cons ws (suc i) (pos 0) h′, two, ← (add-one i))
 
-    rest-here : (x : End) → x ≡ endOf k (getD ws (i + 1) (pos 0)) → pairs k (drop i ws) ≡ withEnd (getD ws i (pos 0)) x (pairs k (drop (i + 2) ws))
+    rest-here : (x : End) → x ≡ endOf k (getD ws (i + 1) (pos 0))
+        → pairs k (drop i ws) ≡ withEnd (getD ws i (pos 0)) x (pairs k (drop (i + 2) ws))
     unfolding pairs
     rest-here x q = ap (pairs k) range-here ∙ ap (λ y. withEnd (getD ws i (pos 0)) y (pairs k (drop (i + 2) ws))) (sym q)
 
@@ -84,8 +83,11 @@ module _ (k : ℕ) (ws l m : List ℤ) (i : ℕ) (u : Ranging k ws l m i) where
       module _ (fs : mag (getD ws i (pos 0)) < 2147483648) (e : ℤ) (fx : mag e < 2147483648) (g : x ≡ At e) where
         pub ranging-next : (l′ : List ℤ) → l′ ≡ sets m i (word (getD ws i (pos 0)) ∷ word e ∷ []) → Ranging k ws l l′ (i + 2)
         ranging-next l′ a =
-            let split : pairs k (drop i ws) ≡ push (getD ws i (pos 0) ∷ e ∷ []) (pairs k (drop (i + 2) ws)) = rest-here x end-here ∙ rw g in
-            let laid = front-put _ _ l m i (u .laid) (getD ws i (pos 0) ∷ e ∷ []) (pairs k (drop (i + 2) ws)) l′ split (rw (word-back _ fs, word-back _ fx) at a) in
+            let range = getD ws i (pos 0) ∷ e ∷ [] in
+            let after = pairs k (drop (i + 2) ws) in
+            let split : pairs k (drop i ws) ≡ push range after = rest-here x end-here ∙ rw g in
+            let here : l′ ≡ sets m i range = rw (word-back _ fs, word-back _ fx) at a in
+            let laid = front-put _ _ l m i (u .laid) range after l′ split here in
             record { reached = omega (arith, ranging-end-in h); turn = omega arith; whole = u .whole; laid = laid }
 
 pub ruleset ranging-laws = (ranging-start, ranging-end-in, ranging-length, ranging-done, ranging-none, ranging-next)
@@ -146,4 +148,4 @@ ranges-fit k ws z z′ p n u e h =
     let g = put-wrote (pairs k ws) n p (u .answer) e in
     record { fits = omega (arith, pairs-length k ws (g .words) (g .is), g .size) }
 
-pub ruleset ranges-laws = (ranges-kind, ranges-long, ranges-odd, ranges-even, ranges-settled, ranges-left, ranges-fit, call-refused, call-no-room, call-done)
+pub ruleset ranges-laws = (ranges-kind, ranges-long, ranges-odd, ranges-even, ranges-settled, ranges-left, ranges-fit, call-laws)

@@ -108,7 +108,9 @@ module _ {A : Type 0} where
           rw (a, same) (answered-no-room whole l (given .words) (e ∙ given .is) short)
 
   -- the second run writes what the first measured
-  module _ (whole o : Outcome A) (l l′ z z′ : List A) (n : ℕ) (r : Answer) (p p′ : Put) (a : r ≡ doneWith n) (written : Puts o (z′ ++ l) l′ p′) where
+  module _
+      (whole o : Outcome A) (l l′ z z′ : List A) (n : ℕ) (r : Answer) (p p′ : Put)
+      (a : r ≡ doneWith n) (written : Puts o (z′ ++ l) l′ p′) where
     pub call-done : Puts o z z′ p → p ≡ Wrote n → length z′ ≡ 0 → n ≤ length (z′ ++ l) → whole ≡ o → Answered whole l l′ r
     call-done measured q empty h e =
         let g = put-wrote o n p (measured .answer) q in

@@ -1,7 +1,9 @@
--- Oneof indices of a message's fields, from 01's "Listing and lowering": "u32 words, 0 plain, 1 proto3 optional, 2 a oneof opens, 3 its member".
+-- Oneof indices of a message's fields, from 01's "Listing and lowering": "u32 words, 0 plain, 1 proto3 optional, 2 a oneof opens, 3 its
+-- member".
 --
---   oneofs count member ws == the words of the fields ws, or a refusal, after `count` oneofs; `member` is what a member gives, 0 where no oneof is open
---        lowerFields ws == what lowering fields comes to
+--   oneofs count member ws == the words of the fields ws, or a refusal, after `count` oneofs; `member` is what a member gives, 0 where
+--                             no oneof is open
+--           lowerFields ws == what lowering fields comes to
 --
 -- Assumes nothing.
 use mathlib.Core.Bool.{true, false}
@@ -13,8 +15,9 @@ use Rattle.limits.specs.Figures.{mostWords}
 use Rattle.reply.specs.declared.Refusal.the-variants.{BadRequest, BeyondLimit}
 use Rattle.reply.specs.Outcome.{Outcome, refuse, give, push}
 
--- "A 1 opens a oneof at the count so far; a 2 gives its index to its members and counts, empty or not. Each 0, 1 and 3 gives one u32 word: 0 for
--- none, else index + 1"; "a 3 not right after a 2 or 3, or another word, is 2". The index of the oneof opened last is count - 1, so its word is the count
+-- "A 1 opens a oneof at the count so far; a 2 gives its index to its members and counts, empty or not. Each 0, 1 and 3 gives one u32 word:
+-- 0 for none, else index + 1"; "a 3 not right after a 2 or 3, or another word, is 2". The index of the oneof opened last is
+-- the count before it, so its word is the count with it
 unfoldable pub oneofs : ℕ → ℕ → List ℕ → Outcome ℕ
 oneofs count member [] = give []
 oneofs count member (w ∷ ws) =

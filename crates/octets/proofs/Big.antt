@@ -1,9 +1,9 @@
 -- Numbers of big-endian bytes: the laws of `bigAt`, one over the width.
 -- Assumes nothing.
-use mathlib.Core.Path.{_≡_, refl, sym, ap, _∙_}
+use mathlib.Core.Path.{_≡_, sym}
 use mathlib.Core.List.{List}
-use Prim.Native.Nat.{ℕ, zero, suc, _+_, _*_, _^_, _<_}
-use native.Mathlib.Nat.{add-zero, add-suc, add-assoc, mul-assoc, pow-suc, pow-zero, mul-one, zero-mul, zero-add, add-mul}
+use Prim.Native.Nat.{ℕ, zero, suc, _+_, _*_, _^_}
+use native.Mathlib.Nat.{add-zero, add-suc, add-assoc, mul-assoc, pow-suc, pow-zero, mul-one, add-mul}
 use native.Mathlib.Omega.{arith}
 use lib.ListN.{getD}
 use Rattle.octets.specs.Octets.{bigAt}
@@ -12,7 +12,9 @@ use Rattle.octets.specs.Octets.{bigAt}
 pub big-add : (s : List ℕ) (at j k : ℕ) → bigAt (j + k) s at ≡ bigAt j s at * 256 ^ k + bigAt k s (at + j)
 unfolding bigAt
 big-add s at j zero = simp (add-zero, pow-zero, mul-one)
-big-add s at j (suc k) = rw (add-suc j k) (rw (big-add s at j k, pow-suc, add-assoc at j k) (tidy (bigAt j s at) (256 ^ k) (bigAt k s (at + j)) (getD s (at + (j + k)) 0)))
+big-add s at j (suc k) =
+    let p = 256 ^ k in
+    rw (add-suc j k, big-add s at j k, pow-suc, add-assoc at j k) (tidy (bigAt j s at) p (bigAt k s (at + j)) (getD s (at + (j + k)) 0))
   where
     tidy : (a p b c : ℕ) → (a * p + b) * 256 + c ≡ a * (p * 256) + (b * 256 + c)
     tidy a p b c = rw (add-mul, mul-assoc, add-assoc)

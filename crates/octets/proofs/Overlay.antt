@@ -2,12 +2,11 @@
 -- Assumes nothing.
 use mathlib.Core.Path.{_≡_, refl, sym, ap, _∙_}
 use mathlib.Core.List.{List, [], _∷_, _++_}
-use Prim.Native.Nat.{ℕ, suc, _+_, _-_, _≤_, _<_}
-use native.Mathlib.Nat.{add-zero, add-suc, suc-add, add-assoc}
-use native.Mathlib.Numerals.{add-one}
+use Prim.Native.Nat.{ℕ, suc, _+_, _≤_}
+use native.Mathlib.Nat.{add-zero, add-suc, suc-add}
 use native.Mathlib.Omega.{arith}
-use lib.ListN.{length, set, getD, take, length-append}
-use lib.Seq.{sets, length-sets, set-out, take-suc, take-all}
+use lib.ListN.{length, set, length-append}
+use lib.Seq.{sets, length-sets, set-out}
 use Rattle.octets.specs.Octets.{Laid}
 
 module _ {A : Type 0} where

@@ -3,6 +3,7 @@ use console::input::Input;
 use console::input::Payload;
 
 const KIND: u8 = 0x47;
+
 const WORDS: u8 = 0x48;
 
 fn lower(kind: u32, payload: &[u8]) {

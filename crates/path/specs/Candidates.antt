@@ -10,7 +10,8 @@ use Prim.Native.Nat.{ℕ}
 use lib.ListN.{getD}
 use Rattle.path.specs.Path.{Path, components, isAbs, rootless, ancestors}
 
--- "An absolute name has one candidate, itself. A relative name has scope plus name, then each parent of the scope plus name, last the name alone."
+-- "An absolute name has one candidate, itself. A relative name has scope plus name, then each parent of the scope plus name, last the name
+-- alone."
 unfoldable pub candidates : List ℕ → List ℕ → List Path
 candidates scope name = elim (isAbs name) [
   | true ↦ components (rootless name) ∷ []

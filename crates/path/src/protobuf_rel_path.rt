@@ -1,7 +1,7 @@
 // Relative paths: identifiers joined by dots, with no leading dot.
 ghost use mathlib.Core.Path.{_≡_};
 ghost use mathlib.Core.List.{[], _++_};
-ghost use Prim.Native.Nat.{ℕ, _+_, _^_, _≤_, _<_};
+ghost use Prim.Native.Nat.{_+_, _^_, _≤_, _<_};
 ghost use lib.ListN.{length, drop, take, getD};
 ghost use Rattle.octets.specs.Octets.{Laid};
 ghost use Rattle.path.specs.Path.{untilDot, split, components, spell, allIdent, isRelPath, isRelOrEmpty, parent, ancestors};

@@ -1,16 +1,15 @@
 -- The laws of outcomes: the ways to a public call's answer, and that there is one answer only.
 -- Assumes nothing.
 use mathlib.Core.Path.{_≡_, refl, sym, ap, _∙_}
-use mathlib.Core.Bool.{true, false}
-use mathlib.Core.List.{List, [], _∷_, _++_, append-assoc}
-use Prim.Native.Nat.{ℕ, _≤_, _<_}
+use mathlib.Core.List.{List, [], _++_, append-assoc}
+use Prim.Native.Nat.{_≤_, _<_}
 use borrow.Author.Tests.{lt-ltb, le-ltb}
 use lib.ListN.{length, drop}
 use Rattle.reply.specs.declared.Refusal.{Refusal}
 use Rattle.reply.specs.declared.Refusal.the-variants.{NoRoom}
 use Rattle.reply.specs.declared.Answer.{Answer}
 use Rattle.reply.specs.Reply.{refusedBy, doneWith, absentAnswer}
-use Rattle.reply.specs.Outcome.{Outcome, refuse, nothing, give, push, within, answerOf, leftOf, Answered}
+use Rattle.reply.specs.Outcome.{Outcome, refuse, nothing, give, push, within, Answered}
 
 module _ {A : Type 0} where
   pub push-push : (xs ys : List A) (o : Outcome A) → push xs (push ys o) ≡ push (xs ++ ys) o
@@ -39,7 +38,9 @@ module _ {A : Type 0} where
       answered-done h = record { answer = rw e (simp (within, le-ltb _ _ h)); left = rw e (simp (within, le-ltb _ _ h)) }
 
   -- any two outcomes that the contract allows coincide
-  module _ (o : Outcome A) (before after after′ : List A) (r r′ : Answer) (a : Answered o before after r) (b : Answered o before after′ r′) where
+  module _
+      (o : Outcome A) (before after after′ : List A) (r r′ : Answer)
+      (a : Answered o before after r) (b : Answered o before after′ r′) where
     pub answered-unique-answer : r ≡ r′
     answered-unique-answer = a .answer ∙ sym (b .answer)
 

@@ -2,37 +2,24 @@
 -- Assumes nothing.
 use mathlib.Core.Path.{_≡_, refl, sym, ap, ap₂, _∙_}
 use mathlib.Core.Bool.{true, false}
-use mathlib.Core.List.{List, [], _∷_, _++_}
-use Prim.Native.Nat.{ℕ, suc, _+_, _≤_, _<_}
+use mathlib.Core.List.{List, [], _∷_}
+use Prim.Native.Nat.{ℕ, _+_, _≤_, _<_}
 use native.Mathlib.Omega.{arith}
 use native.Mathlib.Numerals.{add-one}
-use borrow.Author.Tests.{eq-eqb, ne-eqb}
+use borrow.Author.Tests.{ne-eqb}
 use lib.Dec.{eqb}
 use lib.ListN.{length, getD, set, take, length-set}
 use lib.Seq.{take-suc, take-suc-set, take-all}
 use Rattle.reply.specs.declared.Refusal.{Refusal}
-use Rattle.reply.specs.declared.Refusal.the-variants.{
-  BadSheet,
-  BadRequest,
-  BeyondLimit,
-  ExtensionNotFound,
-  WrongExtensionType,
-  ExtensionIsNotMessage,
-  MessageNotFound,
-  MessageFoundMoreThanOnce,
-  UnknownFieldName,
-  BuiltinOptionNotFound,
-  BuiltinOptionPointsToNonSingularField,
-  MessageFieldRequiresMessageConstant,
-  UnsupportedExtensionType,
-  UnknownEnumValue,
-  ValueRange,
-  StrLitDecodeError,
-  RangeEnd,
-  NoRoom,
-  BadBytes,
-  WireMismatch,
-}
+use Rattle.reply.specs.declared.Refusal.the-variants.{BadSheet, BadRequest, BeyondLimit, ExtensionNotFound}
+use Rattle.reply.specs.declared.Refusal.the-variants.{WrongExtensionType, ExtensionIsNotMessage}
+use Rattle.reply.specs.declared.Refusal.the-variants.{MessageNotFound, MessageFoundMoreThanOnce}
+use Rattle.reply.specs.declared.Refusal.the-variants.{UnknownFieldName, BuiltinOptionNotFound}
+use Rattle.reply.specs.declared.Refusal.the-variants.{BuiltinOptionPointsToNonSingularField}
+use Rattle.reply.specs.declared.Refusal.the-variants.{MessageFieldRequiresMessageConstant}
+use Rattle.reply.specs.declared.Refusal.the-variants.{UnsupportedExtensionType, UnknownEnumValue, ValueRange}
+use Rattle.reply.specs.declared.Refusal.the-variants.{StrLitDecodeError, RangeEnd, NoRoom, BadBytes}
+use Rattle.reply.specs.declared.Refusal.the-variants.{WireMismatch}
 use Rattle.reply.specs.Reply.{number, second, name, mostName, NameOf}
 
 -- ---- the loop: the first i bytes are in place

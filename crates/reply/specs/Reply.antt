@@ -18,28 +18,15 @@ use Prim.Native.Char.{code}
 use Prim.Native.String.{String, [], _∷_}
 use mathlib.Core.List.{List, [] as []ᴸ, _∷_ as _∷ᴸ_}
 use Rattle.reply.specs.declared.Refusal.{Refusal}
-use Rattle.reply.specs.declared.Refusal.the-variants.{
-  BadSheet,
-  BadRequest,
-  BeyondLimit,
-  ExtensionNotFound,
-  WrongExtensionType,
-  ExtensionIsNotMessage,
-  MessageNotFound,
-  MessageFoundMoreThanOnce,
-  UnknownFieldName,
-  BuiltinOptionNotFound,
-  BuiltinOptionPointsToNonSingularField,
-  MessageFieldRequiresMessageConstant,
-  UnsupportedExtensionType,
-  UnknownEnumValue,
-  ValueRange,
-  StrLitDecodeError,
-  RangeEnd,
-  NoRoom,
-  BadBytes,
-  WireMismatch,
-}
+use Rattle.reply.specs.declared.Refusal.the-variants.{BadSheet, BadRequest, BeyondLimit, ExtensionNotFound}
+use Rattle.reply.specs.declared.Refusal.the-variants.{WrongExtensionType, ExtensionIsNotMessage}
+use Rattle.reply.specs.declared.Refusal.the-variants.{MessageNotFound, MessageFoundMoreThanOnce}
+use Rattle.reply.specs.declared.Refusal.the-variants.{UnknownFieldName, BuiltinOptionNotFound}
+use Rattle.reply.specs.declared.Refusal.the-variants.{BuiltinOptionPointsToNonSingularField}
+use Rattle.reply.specs.declared.Refusal.the-variants.{MessageFieldRequiresMessageConstant}
+use Rattle.reply.specs.declared.Refusal.the-variants.{UnsupportedExtensionType, UnknownEnumValue, ValueRange}
+use Rattle.reply.specs.declared.Refusal.the-variants.{StrLitDecodeError, RangeEnd, NoRoom, BadBytes}
+use Rattle.reply.specs.declared.Refusal.the-variants.{WireMismatch}
 use lib.ListN.{take}
 use Rattle.reply.specs.declared.Answer.{Answer}
 use Rattle.reply.specs.declared.Name.{Name}

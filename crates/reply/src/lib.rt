@@ -1,8 +1,9 @@
 // 01's table of replies, once: the refusals, the answer that every public call returns, and the names that programs print.
 ghost use mathlib.Core.Path.{_≡_};
 ghost use Prim.Native.Nat.{_≤_};
-ghost use lib.ListN.{length, take};
-ghost use Rattle.reply.specs.Reply.{number as numberOf, second as secondOf, NameOf, refusedBy, doneWith, absentAnswer, mostName, textOf};
+ghost use lib.ListN.{length};
+ghost use Rattle.reply.specs.Reply.{number as numberOf, second as secondOf, refusedBy, doneWith, absentAnswer};
+ghost use Rattle.reply.specs.Reply.{NameOf, mostName, textOf};
 
 // Why a call is refused, by the names of 01 and of protobuf-parse's OptionResolverError.
 pub enum Refusal {

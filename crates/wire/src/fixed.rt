@@ -1,6 +1,6 @@
 // Numbers of a fixed width, the lowest byte first.
 ghost use mathlib.Core.Path.{_≡_};
-ghost use Prim.Native.Nat.{ℕ, _+_, _^_, _≤_, _<_};
+ghost use Prim.Native.Nat.{_+_, _^_, _≤_, _<_};
 ghost use lib.ListN.{length};
 ghost use Rattle.octets.specs.Octets.{part, Laid};
 ghost use Rattle.wire.specs.Fixed.{littleOf, little};

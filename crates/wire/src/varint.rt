@@ -1,6 +1,6 @@
 // Varints: their length, writing and reading.
 ghost use mathlib.Core.Path.{_≡_};
-ghost use Prim.Native.Nat.{ℕ, _^_, _≤_, _<_};
+ghost use Prim.Native.Nat.{_^_, _≤_, _<_};
 ghost use lib.ListN.{length};
 ghost use Rattle.limits.specs.Figures.{mostVarint};
 ghost use Rattle.octets.specs.Octets.{part, Laid};

@@ -1,0 +1,33 @@
+// Runs worked examples of outside documents through the library and compares: a line for each, then how many held.
+mod encoding;
+mod lowerings;
+mod names;
+
+use console::output::number;
+use console::output::text;
+
+// A line that says whether an example held, and 1 if it did.
+fn told(name: &[u8], held: bool) -> usize
+    ensures { λ r. ⌜ r ≤ 1 ⌝ }
+{
+    text(name);
+    if held {
+        text(b": ok\n");
+        return 1;
+    }
+    text(b": WRONG\n");
+    0
+}
+
+fn main() {
+    let held = encoding::varints()
+        + encoding::zigzags()
+        + encoding::records()
+        + encoding::texts()
+        + encoding::rounded()
+        + lowerings::ranges()
+        + lowerings::fields()
+        + names::paths();
+    number(held as u64);
+    text(b" held\n");
+}

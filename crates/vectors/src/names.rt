@@ -1,0 +1,46 @@
+// 01's P2 and P3: the candidates of `rank` in the scope plant.Dispatch, and of `.plant.rank`.
+ghost use Prim.Native.Nat.{_≤_};
+use crate::told;
+use path::protobuf_path::candidate;
+use path::protobuf_path::candidates;
+
+fn is_candidate(scope: &[u8], name: &[u8], i: usize, want: &[u8]) -> bool {
+    if 255 < scope.len() {
+        return false;
+    }
+    if 255 < name.len() {
+        return false;
+    }
+    if !path::protobuf_rel_path::is_rel_or_empty(scope) {
+        return false;
+    }
+    if candidates(scope, name) <= i {
+        return false;
+    }
+    let mut out = [0u8; 511];
+    let n = candidate(scope, name, i, &mut out);
+    if 511 < n {
+        return false;
+    }
+    octets::same(&out[..n], want)
+}
+
+pub fn paths() -> usize
+    ensures { λ r. ⌜ r ≤ 5 ⌝ }
+{
+    let scope = b"plant.Dispatch";
+    told(
+        b"first plant.Dispatch.rank",
+        is_candidate(scope, b"rank", 0, b"plant.Dispatch.rank"),
+    )
+        + told(
+            b"then plant.rank",
+            is_candidate(scope, b"rank", 1, b"plant.rank"),
+        )
+        + told(b"last rank", is_candidate(scope, b"rank", 2, b"rank"))
+        + told(
+            b".plant.rank is plant.rank",
+            is_candidate(scope, b".plant.rank", 0, b"plant.rank"),
+        )
+        + told(b"and nothing else", candidates(scope, b".plant.rank") == 1)
+}
