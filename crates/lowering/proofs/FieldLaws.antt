@@ -72,7 +72,7 @@ module _ (ws l m : List ℕ) (count member n i : ℕ) (u : Numbering ws l m coun
   pub numbering-count : i < length ws → Fits w32 (count + 1)
   numbering-count h = record { fits = omega (arith, u .counted, u .most) }
 
-  pub numbering-next : i < length ws → n + 1 ≤ 4096
+  pub numbering-next : i < length ws → n + 1 ≤ mostWords
   numbering-next h = omega (arith, u .few, u .most)
 
   pub numbering-done : length ws ≤ i → Puts (oneofs 0 0 ws) l m (Wrote n)

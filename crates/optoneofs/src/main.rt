@@ -1,13 +1,17 @@
 // Gives each field of a message the oneof it belongs to. Input: 49 the words (4 bytes each).
 use console::input::Input;
 use console::input::Payload;
+use limits::MOST_WORDS;
 
 const WORDS: u8 = 0x49;
 
+// A payload of 65,535 bytes has no more words.
+const MOST_PAYLOAD: usize = 16384;
+
 fn lower(payload: &[u8]) {
-    let mut words = [0u32; 16384];
-    let n = console::input::words_of(payload, &mut words);
-    let mut out = [0u32; 4096];
+    let mut words = [0u32; MOST_PAYLOAD];
+    let n = console::words::words_of(payload, &mut words);
+    let mut out = [0u32; MOST_WORDS];
     let a = lowering::lower_fields(&words[..n], &mut out);
     console::output::answer(a);
     if a.reply == 0 {
@@ -19,7 +23,7 @@ fn run(s: &[u8]) {
     let Payload::At { from, to } = console::input::field_of(s, 0, WORDS) else {
         return;
     };
-    if !console::input::has_units(WORDS, from, to, 4) {
+    if !console::input::has_words(WORDS, from, to) {
         return;
     }
     if !console::input::ends(s, to) {

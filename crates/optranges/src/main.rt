@@ -1,15 +1,19 @@
 // Lowers ranges. Input: 47 the kind (4 bytes), 48 the words, starts and ends in turn (4 bytes each).
 use console::input::Input;
 use console::input::Payload;
+use limits::MOST_WORDS;
 
 const KIND: u8 = 0x47;
 
 const WORDS: u8 = 0x48;
 
+// A payload of 65,535 bytes has no more words.
+const MOST_PAYLOAD: usize = 16384;
+
 fn lower(kind: u32, payload: &[u8]) {
-    let mut words = [0i32; 16384];
-    let n = console::input::signed_words_of(payload, &mut words);
-    let mut out = [0i32; 4096];
+    let mut words = [0i32; MOST_PAYLOAD];
+    let n = console::words::signed_words_of(payload, &mut words);
+    let mut out = [0i32; MOST_WORDS];
     let a = lowering::lower_ranges(kind, &words[..n], &mut out);
     console::output::answer(a);
     if a.reply == 0 {
@@ -27,7 +31,7 @@ fn run(s: &[u8]) {
     let Payload::At { from, to } = console::input::field_of(s, next, WORDS) else {
         return;
     };
-    if !console::input::has_units(WORDS, from, to, 4) {
+    if !console::input::has_words(WORDS, from, to) {
         return;
     }
     if !console::input::ends(s, to) {

@@ -3,6 +3,7 @@ mod encoding;
 mod lowerings;
 mod names;
 
+ghost use Prim.Native.Nat.{_≤_};
 use console::output::number;
 use console::output::text;
 
@@ -17,6 +18,14 @@ fn told(name: &[u8], held: bool) -> usize
     }
     text(b": WRONG\n");
     0
+}
+
+// Whether the first n bytes are these.
+fn begins(s: &[u8], n: usize, want: &[u8]) -> bool {
+    if n <= s.len() {
+        return octets::same(&s[..n], want);
+    }
+    false
 }
 
 fn main() {

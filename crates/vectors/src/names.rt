@@ -1,28 +1,31 @@
 // 01's P2 and P3: the candidates of `rank` in the scope plant.Dispatch, and of `.plant.rank`.
 ghost use Prim.Native.Nat.{_≤_};
+use crate::begins;
 use crate::told;
 use path::protobuf_path::candidate;
 use path::protobuf_path::candidates;
+use path::protobuf_rel_path::is_rel_or_empty;
 
-fn is_candidate(scope: &[u8], name: &[u8], i: usize, want: &[u8]) -> bool {
+// Whether the i-th candidate of a name in a scope is this one; a candidate is put together in a lent buffer.
+fn spelled(scope: &[u8], name: &[u8], i: usize, out: &mut [u8], want: &[u8]) -> bool {
     if 255 < scope.len() {
         return false;
     }
     if 255 < name.len() {
         return false;
     }
-    if !path::protobuf_rel_path::is_rel_or_empty(scope) {
-        return false;
+    if i < candidates(scope, name) {
+        if is_rel_or_empty(scope) {
+            let n = candidate(scope, name, i, out);
+            return begins(out, n, want);
+        }
     }
-    if candidates(scope, name) <= i {
-        return false;
-    }
+    false
+}
+
+fn is_candidate(scope: &[u8], name: &[u8], i: usize, want: &[u8]) -> bool {
     let mut out = [0u8; 511];
-    let n = candidate(scope, name, i, &mut out);
-    if 511 < n {
-        return false;
-    }
-    octets::same(&out[..n], want)
+    spelled(scope, name, i, &mut out, want)
 }
 
 pub fn paths() -> usize

@@ -1,3 +1,5 @@
+-- `octets::put` meets its contract.
+-- Assumes nothing.
 use Rattle.octets.proofs.Overlay.{put-out}
 use borrow.Author.Needs.{needs}
 use Rattle.octets.proofs.put.Statement.{statement}

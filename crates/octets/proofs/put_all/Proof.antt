@@ -1,3 +1,5 @@
+-- `octets::put_all` meets its contract, by its loop's invariant and laws.
+-- Assumes nothing.
 use Prim.Native.Nat.{_-_}
 use lib.ListN.{length}
 use Rattle.octets.proofs.Halfway.{Laying}

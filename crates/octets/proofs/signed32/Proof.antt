@@ -1,3 +1,5 @@
+-- `octets::signed32` meets its contract.
+-- Assumes nothing.
 use Rattle.octets.proofs.Signs.{sign-laws}
 use borrow.Author.Needs.{needs}
 use Rattle.octets.proofs.signed32.Statement.{statement}

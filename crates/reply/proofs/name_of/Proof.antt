@@ -1,3 +1,5 @@
+-- `reply::name_of` meets its contract.
+-- Assumes nothing.
 use Rattle.reply.proofs.Spelling.{name-laws}
 use borrow.Author.Needs.{needs}
 use Rattle.reply.proofs.name_of.Statement.{statement}

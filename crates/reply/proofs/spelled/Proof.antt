@@ -1,3 +1,5 @@
+-- `reply::spelled` meets its contract, by its loop's invariant and laws.
+-- Assumes nothing.
 use Prim.Native.Nat.{_-_}
 use lib.ListN.{length}
 use Rattle.reply.proofs.Spelling.{Spelling, spelling-laws}

@@ -1,3 +1,5 @@
+-- `lowering::fields::lower_fields` meets its contract.
+-- Assumes nothing.
 use Rattle.lowering.proofs.FieldLaws.{fields-laws}
 use borrow.Author.Needs.{needs}
 use Rattle.lowering.proofs.fields.lower_fields.Statement.{statement}

@@ -1,3 +1,5 @@
+-- `lowering::fields::put` meets its contract.
+-- Assumes nothing.
 use Rattle.lowering.proofs.WriteLaws.{put-out}
 use borrow.Author.Needs.{needs}
 use Rattle.lowering.proofs.fields.put.Statement.{statement}

@@ -1,3 +1,5 @@
+-- `lowering::ranges::end_of` meets its contract.
+-- Assumes nothing.
 use Rattle.lowering.proofs.EndLaws.{end-laws}
 use borrow.Author.Needs.{needs}
 use Rattle.lowering.proofs.ranges.end_of.Statement.{statement}

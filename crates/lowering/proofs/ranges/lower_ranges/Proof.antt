@@ -1,3 +1,5 @@
+-- `lowering::ranges::lower_ranges` meets its contract.
+-- Assumes nothing.
 use Rattle.lowering.proofs.RangeLaws.{ranges-laws}
 use borrow.Author.Needs.{needs}
 use Rattle.lowering.proofs.ranges.lower_ranges.Statement.{statement}

@@ -1,3 +1,5 @@
+-- `lowering::ranges::put` meets its contract.
+-- Assumes nothing.
 use Rattle.lowering.proofs.WriteLaws.{put-out}
 use borrow.Author.Needs.{needs}
 use Rattle.lowering.proofs.ranges.put.Statement.{statement}

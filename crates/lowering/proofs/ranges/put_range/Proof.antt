@@ -1,3 +1,5 @@
+-- `lowering::ranges::put_range` meets its contract.
+-- Assumes nothing.
 use Rattle.lowering.proofs.RangeLaws.{range-put}
 use borrow.Author.Needs.{needs}
 use Rattle.lowering.proofs.ranges.put_range.Statement.{statement}

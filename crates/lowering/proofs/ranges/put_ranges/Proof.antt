@@ -1,3 +1,5 @@
+-- `lowering::ranges::put_ranges` meets its contract, by its loop's invariant and laws.
+-- Assumes nothing.
 use Prim.Native.Nat.{_-_}
 use lib.ListN.{length}
 use Rattle.lowering.proofs.RangeLaws.{Ranging}

@@ -1,3 +1,5 @@
+-- `wire::fixed::put_little` meets its contract, by its loop's invariant and laws.
+-- Assumes nothing.
 use Prim.Native.Nat.{_-_}
 use Rattle.wire.proofs.FixedLoops.{Filling, filling-laws}
 use borrow.Author.Needs.{needs}

@@ -1,3 +1,5 @@
+-- `wire::tag::tag_good` meets its contract.
+-- Assumes nothing.
 use Rattle.wire.proofs.TagLaws.{tag-good-is}
 use borrow.Author.Needs.{needs}
 use Rattle.wire.proofs.tag.tag_good.Statement.{statement}

@@ -1,3 +1,5 @@
+-- `wire::types::wire_of` meets its contract.
+-- Assumes nothing.
 use Rattle.wire.specs.Types.{wireOf}
 use Rattle.wire.proofs.TypeLaws.{wire-at}
 use borrow.Author.Needs.{needs}

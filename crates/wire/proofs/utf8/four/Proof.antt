@@ -1,3 +1,5 @@
+-- `wire::utf8::four` meets its contract.
+-- Assumes nothing.
 use Rattle.wire.proofs.Utf8Lead.{four-laws}
 use borrow.Author.Needs.{needs}
 use Rattle.wire.proofs.utf8.four.Statement.{statement}

@@ -1,3 +1,5 @@
+-- `wire::utf8::is_utf8` meets its contract, by its loop's invariant and laws.
+-- Assumes nothing.
 use Prim.Native.Nat.{_-_}
 use lib.ListN.{length}
 use Rattle.wire.proofs.Utf8Scan.{Scanned, scan-laws}

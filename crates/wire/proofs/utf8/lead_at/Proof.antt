@@ -1,3 +1,5 @@
+-- `wire::utf8::lead_at` meets its contract.
+-- Assumes nothing.
 use Rattle.wire.proofs.Utf8Lead.{lead-laws}
 use borrow.Author.Needs.{needs}
 use Rattle.wire.proofs.utf8.lead_at.Statement.{statement}

@@ -1,3 +1,5 @@
+-- `wire::utf8::three` meets its contract.
+-- Assumes nothing.
 use Rattle.wire.proofs.Utf8Lead.{three-laws}
 use borrow.Author.Needs.{needs}
 use Rattle.wire.proofs.utf8.three.Statement.{statement}

@@ -1,3 +1,5 @@
+-- `wire::utf8::two` meets its contract.
+-- Assumes nothing.
 use Rattle.wire.proofs.Utf8Lead.{two-laws}
 use borrow.Author.Needs.{needs}
 use Rattle.wire.proofs.utf8.two.Statement.{statement}

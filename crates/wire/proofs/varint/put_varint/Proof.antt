@@ -1,3 +1,5 @@
+-- `wire::varint::put_varint` meets its contract, by its loop's invariant and laws.
+-- Assumes nothing.
 use Rattle.wire.proofs.VarintLoops.{Writing, writing-laws}
 use borrow.Author.Needs.{needs}
 use Rattle.wire.proofs.varint.put_varint.Statement.{statement}

@@ -1,3 +1,5 @@
+-- `wire::varint::varint_at` meets its contract, by its loop's invariant and laws.
+-- Assumes nothing.
 use Prim.Native.Nat.{_-_}
 use Rattle.wire.proofs.VarintReading.{Reading, reading-laws}
 use borrow.Author.Needs.{needs}

@@ -1,0 +1,30 @@
+-- `console::input::field_of` meets its contract.
+-- Assumes nothing.
+use Rattle.console.proofs.InputLaws.{lies-laws}
+use borrow.Author.Needs.{needs}
+use Rattle.console.proofs.input.field_of.Statement.{statement}
+use Rattle.console.proofs.input.field_of.Tie as tie
+
+pub field-of-spec : {M : Type 1} → statement M
+field-of-spec = tie.close (tie.spec
+    (λ c κs. search (needs, lies-laws))
+    (λ c. search (needs, lies-laws))
+    (λ c. search (needs, lies-laws))
+    (λ c κs. search (needs, lies-laws))
+    (λ c. search (needs, lies-laws))
+    (λ c κs. search (needs, lies-laws))
+    (λ c κs. search (needs, lies-laws))
+    (λ c. search (needs, lies-laws))
+    (λ c κs. search (needs, lies-laws))
+    (λ c. search (needs, lies-laws))
+    (λ c κs. search (needs, lies-laws))
+    (λ c. search (needs, lies-laws))
+    (λ c κs. search (needs, lies-laws))
+    (λ c κs. search (needs, lies-laws))
+    (λ c. search (needs, lies-laws))
+    (λ c κs. search (needs, lies-laws))
+    (λ c κs. search (needs, lies-laws))
+    (λ c. search (needs, lies-laws))
+    (λ c κs. search (needs, lies-laws))
+    (λ c. search (needs, lies-laws))
+    (λ c. search (needs, lies-laws)))

@@ -1,0 +1,23 @@
+-- `console::output::answer` meets its contract.
+-- Assumes nothing.
+use Rattle.console.proofs.OutputLaws.{front-laws}
+use borrow.Author.Needs.{needs}
+use Rattle.console.proofs.output.answer.Statement.{statement}
+use Rattle.console.proofs.output.answer.Tie as tie
+
+pub answer-spec : {M : Type 1} → statement M
+answer-spec = tie.close (tie.spec
+    (λ c. search (needs, front-laws))
+    (λ c κs. search (needs, front-laws))
+    (λ c. search (needs, front-laws))
+    (λ c κs. search (needs, front-laws))
+    (λ c. search (needs, front-laws))
+    (λ c κs. search (needs, front-laws))
+    (λ c κs. search (needs, front-laws))
+    (λ c. search (needs, front-laws))
+    (λ c. search (needs, front-laws))
+    (λ c κs. search (needs, front-laws))
+    (λ c. search (needs, front-laws))
+    (λ c κs. search (needs, front-laws))
+    (λ c. search (needs, front-laws))
+    (λ c. search (needs, front-laws)))

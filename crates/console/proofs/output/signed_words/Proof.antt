@@ -1,0 +1,30 @@
+-- `console::output::signed_words` meets its contract, by its loop's invariant and laws.
+-- Assumes nothing.
+use Prim.Native.Nat.{_-_}
+use borrow.Author.Needs.{needs}
+use Rattle.console.proofs.output.signed_words.Statement.{statement}
+use Rattle.console.proofs.output.signed_words.Tie as tie
+
+abbrev Inv-loop : tie.InvT-loop
+Inv-loop ws n end i₀ t7 t8 i = Unit
+
+abbrev μ-loop : tie.MeasureT-loop
+μ-loop ws n end i₀ t7 t8 i = end - i
+
+pub signed-words-spec : {M : Type 1} → statement M
+signed-words-spec = tie.close (tie.spec Inv-loop μ-loop
+    (λ c. search needs)
+    (λ c κs. search needs)
+    (λ c κs. search needs)
+    (λ c. search needs)
+    (λ c. search needs)
+    (λ c κs. search needs)
+    (λ c. search needs)
+    (λ c. search needs)
+    (λ c κs. search needs)
+    (λ c. search needs)
+    (λ c. search needs)
+    (λ c. search needs)
+    (λ c. search needs)
+    (λ c κs. search needs)
+    (λ c. search needs))

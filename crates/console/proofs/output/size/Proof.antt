@@ -1,0 +1,15 @@
+-- `console::output::size` meets its contract.
+-- Assumes nothing.
+use Rattle.console.proofs.OutputLaws.{size-laws}
+use borrow.Author.Needs.{needs}
+use Rattle.console.proofs.output.size.Statement.{statement}
+use Rattle.console.proofs.output.size.Tie as tie
+
+pub size-spec : {M : Type 1} → statement M
+size-spec = tie.close (tie.spec
+    (λ c. search (needs, size-laws))
+    (λ c. search (needs, size-laws))
+    (λ c. search (needs, size-laws))
+    (λ c. search (needs, size-laws))
+    (λ c. search (needs, size-laws))
+    (λ c. search (needs, size-laws)))

@@ -1,0 +1,28 @@
+-- `console::output::words` meets its contract, by its loop's invariant and laws.
+-- Assumes nothing.
+use Prim.Native.Nat.{_-_}
+use borrow.Author.Needs.{needs}
+use Rattle.console.proofs.output.words.Statement.{statement}
+use Rattle.console.proofs.output.words.Tie as tie
+
+abbrev Inv-loop : tie.InvT-loop
+Inv-loop ws n end i₀ t6 i = Unit
+
+abbrev μ-loop : tie.MeasureT-loop
+μ-loop ws n end i₀ t6 i = end - i
+
+pub words-spec : {M : Type 1} → statement M
+words-spec = tie.close (tie.spec Inv-loop μ-loop
+    (λ c. search needs)
+    (λ c κs. search needs)
+    (λ c κs. search needs)
+    (λ c. search needs)
+    (λ c. search needs)
+    (λ c. search needs)
+    (λ c κs. search needs)
+    (λ c. search needs)
+    (λ c. search needs)
+    (λ c. search needs)
+    (λ c. search needs)
+    (λ c κs. search needs)
+    (λ c. search needs))

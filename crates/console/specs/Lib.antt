@@ -1,0 +1,3 @@
+pub mod Hex
+pub mod Input
+pub mod Words

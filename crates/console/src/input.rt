@@ -1,0 +1,161 @@
+// The fields that a program is given. Where the input is not what the program names, one line that begins `input: ` says what is
+// wrong and where, and nothing else is printed.
+ghost use mathlib.Core.Path.{_≡_};
+ghost use Prim.Native.Nat.{_-_, _≤_};
+ghost use lib.Dec.{eqb};
+ghost use lib.ListN.{length};
+ghost use Rattle.console.specs.Input.{Fills, Lies};
+use crate::hex::Decoded;
+use crate::hex::decode;
+use crate::output::number;
+use crate::output::text;
+use field::Field;
+
+// The text that is read at the most.
+const MOST_TEXT: usize = 262_144;
+
+pub enum Input {
+    // So many bytes of the buffer.
+    Bytes(usize),
+    Wrong,
+}
+
+// Standard input, decoded into a lent buffer.
+pub fn read(out: &mut [u8]) -> Input
+    ensures { λ r. ⌜ Fills r (length (now (out .exit))) ⌝ }
+{
+    let mut buffer = [0u8; MOST_TEXT];
+    let n = io::read_full(0, &mut buffer);
+    if n == MOST_TEXT {
+        too_much(b"is longer than ", MOST_TEXT - 1);
+        return Input::Wrong;
+    }
+    let found = decode(&buffer[..n], out);
+    taken(found, out.len())
+}
+
+// What was decoded, where there is room for it.
+fn taken(found: Decoded, room: usize) -> Input
+    ensures { λ r. ⌜ Fills r room ⌝ }
+{
+    match found {
+        Decoded::NoDigit(at) => {
+            place(at);
+            text(b" of the text is no hexadecimal digit\n");
+            Input::Wrong
+        }
+        Decoded::HalfByte => {
+            text(b"input: the text ends within a byte, after its first digit\n");
+            Input::Wrong
+        }
+        Decoded::Bytes(n) => {
+            if room < n {
+                too_much(b"spells more than ", room);
+                return Input::Wrong;
+            }
+            Input::Bytes(n)
+        }
+    }
+}
+
+// A line that says how much is taken at the most.
+fn too_much(verb: &[u8], most: usize) {
+    text(b"input: the text ");
+    text(verb);
+    number(most as u64);
+    text(b" bytes\n");
+}
+
+pub enum Payload {
+    // The payload is from..to, and the next field starts at `to`.
+    At { from: usize, to: usize },
+    Wrong,
+}
+
+// The field at a place, which has to have this tag.
+pub fn field_of(s: &[u8], at: usize, tag: u8) -> Payload
+    requires { ⌜ at ≤ length (now s) ⌝ }
+    ensures { λ r. ⌜ Lies r at (length (now (s .entry))) ⌝ }
+{
+    let Field::Whole {
+        tag: found,
+        from,
+        to,
+    } = field::field_at(s, at, s.len())
+    else {
+        place(at);
+        text(b": no whole field of tag ");
+        two_digits(tag);
+        text(b"\n");
+        return Payload::Wrong;
+    };
+    if found != tag {
+        place(at);
+        text(b": a field of tag ");
+        two_digits(found);
+        text(b", where tag ");
+        two_digits(tag);
+        text(b" is due\n");
+        return Payload::Wrong;
+    }
+    Payload::At { from: from, to: to }
+}
+
+// Whether the input ends at a place.
+pub fn ends(s: &[u8], at: usize) -> bool {
+    if at == s.len() {
+        return true;
+    }
+    place(at);
+    text(b": more after the last field\n");
+    false
+}
+
+// Whether a payload has this length; if not, that is said.
+pub fn has_size(tag: u8, from: usize, to: usize, size: usize) -> bool
+    requires { ⌜ from ≤ to ⌝ }
+    ensures { λ r. ⌜ r ≡ eqb (to - from) size ⌝ }
+{
+    if to - from == size {
+        return true;
+    }
+    payload_has(tag, from, to);
+    text(b", where ");
+    number(size as u64);
+    text(b" are due\n");
+    false
+}
+
+// Whether a payload is a whole number of words of 4 bytes; if not, that is said.
+pub fn has_words(tag: u8, from: usize, to: usize) -> bool
+    requires { ⌜ from ≤ to ⌝ }
+{
+    if (to - from) % 4 == 0 {
+        return true;
+    }
+    payload_has(tag, from, to);
+    text(b", no multiple of 4\n");
+    false
+}
+
+// The start of a line that is about a payload's length.
+fn payload_has(tag: u8, from: usize, to: usize)
+    requires { ⌜ from ≤ to ⌝ }
+{
+    place(from);
+    text(b": the payload of tag ");
+    two_digits(tag);
+    text(b" has ");
+    number((to - from) as u64);
+    text(b" bytes");
+}
+
+// The start of a line that is about a place.
+fn place(at: usize) {
+    text(b"input: byte ");
+    number(at as u64);
+}
+
+fn two_digits(b: u8) {
+    io::print_hex(1, b as u64, 2);
+}

@@ -1,0 +1,77 @@
+// The lines that programs print.
+ghost use mathlib.Core.Path.{_≡_};
+ghost use lib.IntN.{natAbs};
+use crate::least;
+use reply::Answer;
+
+pub fn text(bytes: &[u8]) {
+    io::write_all(1, bytes);
+}
+
+pub fn number(n: u64) {
+    io::print_decimal(1, n);
+}
+
+// The size of a signed number. The least i32 has one that is no i32.
+fn size(n: i32) -> u64
+    ensures { λ r. ⌜ r ≡ natAbs n ⌝ }
+{
+    if n < 0 {
+        return (-1 - n) as u64 + 1;
+    }
+    n as u64
+}
+
+// A signed number.
+pub fn signed(n: i32) {
+    if n < 0 {
+        text(b"-");
+    }
+    number(size(n));
+}
+
+// The line `answer N`, and on a refusal a second line with its name.
+pub fn answer(a: Answer) {
+    text(b"answer ");
+    number(a.reply as u64);
+    text(b"\n");
+    if a.reply != 0 {
+        let name = reply::name_of(a.reply, a.second);
+        let bytes = name.bytes;
+        let length = name.length;
+        if length <= bytes.len() {
+            text(&bytes[..length]);
+        }
+        text(b"\n");
+    }
+}
+
+fn word(w: u32) {
+    text(b" ");
+    number(w as u64);
+}
+
+// The line `words`, with the first n words of a slice.
+pub fn words(ws: &[u32], n: usize) {
+    text(b"words");
+    let end = least(n, ws.len());
+    let mut i = 0;
+    while i < end {
+        word(ws[i]);
+        i += 1;
+    }
+    text(b"\n");
+}
+
+pub fn signed_words(ws: &[i32], n: usize) {
+    text(b"words");
+    let end = least(n, ws.len());
+    let mut i = 0;
+    while i < end {
+        text(b" ");
+        let w = ws[i];
+        signed(w);
+        i += 1;
+    }
+    text(b"\n");
+}

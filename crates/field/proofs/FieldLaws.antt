@@ -1,0 +1,65 @@
+-- The laws of `fieldAt`: the ways through `field_at`, and where a whole field lies.
+-- Assumes nothing.
+use mathlib.Core.Path.{_≡_, refl, sym, _∙_}
+use mathlib.Core.Bool.{Bool, true, false}
+use mathlib.Core.List.{List}
+use Prim.Native.Nat.{ℕ, _+_, _-_, _≤_, _<_}
+use native.Mathlib.Omega.{arith}
+use borrow.Author.Tests.{lt-ltb, le-ltb, ltb-false}
+use lib.Dec.{ltb}
+use lib.ListN.{getD}
+use Rattle.octets.specs.Octets.{bigAt}
+use Rattle.field.specs.declared.Field.{Field}
+use Rattle.field.specs.declared.Field.the-variants.{Whole, Cut}
+use Rattle.field.specs.Field.{header, fieldAt}
+
+module _ (s : List ℕ) (at end : ℕ) where
+  pub field-short : end - at < header → Cut ≡ fieldAt s at end
+  unfolding fieldAt
+  field-short h = simp (fieldAt, lt-ltb _ _ h)
+
+  module _ (h : header ≤ end - at) (n : ℕ) (e : n ≡ bigAt 2 s (at + 1)) where
+    pub field-cut : end - (at + header) < n → Cut ≡ fieldAt s at end
+    unfolding fieldAt
+    field-cut k = simp (fieldAt, le-ltb _ _ h, ← e, lt-ltb _ _ k)
+
+    pub field-whole : n ≤ end - (at + header) → Whole (getD s at 0) (at + header) (at + header + n) ≡ fieldAt s at end
+    unfolding fieldAt
+    field-whole k = simp (fieldAt, le-ltb _ _ h, ← e, le-ltb _ _ k)
+
+pub ruleset field-laws = (field-short, field-cut, field-whole)
+
+-- ---- where a whole field lies
+pub record Bounds (at end from to : ℕ) : Type 0 where
+  pub starts : from ≡ at + header
+  pub ordered : from ≤ to
+  pub inside : to ≤ end
+
+module _ (s : List ℕ) (at end : ℕ) (r : Field) (q : r ≡ fieldAt s at end) (t a e : ℕ) (g : r ≡ Whole t a e) where
+  pub field-bounds : Bounds at end a e
+  unfolding fieldAt
+  field-bounds = go (ltb (end - at) header) refl (ltb (end - (at + header)) n) refl (sym g ∙ q)
+    where
+      n : ℕ
+      n = bigAt 2 s (at + 1)
+
+      go : (b : Bool) → ltb (end - at) header ≡ b → (b′ : Bool) → ltb (end - (at + header)) n ≡ b′
+          → Whole t a e ≡ elim b [ true ↦ Cut | false ↦ elim b′ [ true ↦ Cut | false ↦ Whole (getD s at 0) (at + header) (at + header + n) ] ]
+          → Bounds at end a e
+      go true p b′ p′ w = absurd (let z : _≡_ {A = ℕ} 0 1 = cc in omega arith)
+      go false p true p′ w = absurd (let z : _≡_ {A = ℕ} 0 1 = cc in omega arith)
+      go false p false p′ w =
+          let x : a ≡ at + header = cc in
+          let y : e ≡ at + header + n = cc in
+          let long : header ≤ end - at = ltb-false (end - at) header p in
+          let fits : n ≤ end - (at + header) = ltb-false (end - (at + header)) n p′ in
+          record { starts = x; ordered = omega arith; inside = omega arith }
+
+  pub field-ordered : a ≤ e
+  field-ordered = field-bounds .ordered
+
+  pub field-inside : e ≤ end
+  field-inside = field-bounds .inside
+
+  pub field-after : at ≤ a
+  field-after = omega (arith, field-bounds .starts)

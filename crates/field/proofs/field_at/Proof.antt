@@ -1,0 +1,19 @@
+-- `field::field_at` meets its contract.
+-- Assumes nothing.
+use Rattle.field.proofs.FieldLaws.{field-laws}
+use borrow.Author.Needs.{needs}
+use Rattle.field.proofs.field_at.Statement.{statement}
+use Rattle.field.proofs.field_at.Tie as tie
+
+pub field-at-spec : {M : Type 1} → statement M
+field-at-spec = tie.close (tie.spec
+    (λ c. search (needs, field-laws))
+    (λ c. search (needs, field-laws))
+    (λ c. search (needs, field-laws))
+    (λ c. search (needs, field-laws))
+    (λ c κs. search (needs, field-laws))
+    (λ c. search (needs, field-laws))
+    (λ c. search (needs, field-laws))
+    (λ c. search (needs, field-laws))
+    (λ c. search (needs, field-laws))
+    (λ c. search (needs, field-laws)))

@@ -1,0 +1,21 @@
+-- `optoneofs::lower` meets its contract.
+-- Assumes nothing.
+use Rattle.console.proofs.InputLaws.{input-laws}
+use borrow.Author.Needs.{needs}
+use Rattle.optoneofs.proofs.lower.Statement.{statement}
+use Rattle.optoneofs.proofs.lower.Tie as tie
+
+pub lower-spec : {M : Type 1} → statement M
+lower-spec = tie.close (tie.spec
+    (λ c. search (needs, input-laws))
+    (λ c κs. search (needs, input-laws))
+    (λ c. search (needs, input-laws))
+    (λ c. search (needs, input-laws))
+    (λ c. search (needs, input-laws))
+    (λ c κs. search (needs, input-laws))
+    (λ c κs. search (needs, input-laws))
+    (λ c. search (needs, input-laws))
+    (λ c. search (needs, input-laws))
+    (λ c κs. search (needs, input-laws))
+    (λ c. search (needs, input-laws))
+    (λ c. search (needs, input-laws)))

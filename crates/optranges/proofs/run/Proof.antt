@@ -1,0 +1,29 @@
+-- `optranges::run` meets its contract.
+-- Assumes nothing.
+use Rattle.console.proofs.InputLaws.{input-laws}
+use borrow.Author.Needs.{needs}
+use Rattle.optranges.proofs.run.Statement.{statement}
+use Rattle.optranges.proofs.run.Tie as tie
+
+pub run-spec : {M : Type 1} → statement M
+run-spec = tie.close (tie.spec
+    (λ c κs. search (needs, input-laws))
+    (λ c. search (needs, input-laws))
+    (λ c. search (needs, input-laws))
+    (λ c. search (needs, input-laws))
+    (λ c κs. search (needs, input-laws))
+    (λ c. search (needs, input-laws))
+    (λ c κs. search (needs, input-laws))
+    (λ c. search (needs, input-laws))
+    (λ c. search (needs, input-laws))
+    (λ c. search (needs, input-laws))
+    (λ c κs. search (needs, input-laws))
+    (λ c. search (needs, input-laws))
+    (λ c κs. search (needs, input-laws))
+    (λ c. search (needs, input-laws))
+    (λ c κs. search (needs, input-laws))
+    (λ c. search (needs, input-laws))
+    (λ c. search (needs, input-laws))
+    (λ c. search (needs, input-laws))
+    (λ c κs. search (needs, input-laws))
+    (λ c. search (needs, input-laws)))
