@@ -38,7 +38,8 @@ module _ {A : Type 0} (f : ℕ → A) (d : A) (bytes : ℕ) (l : List A) (n : �
       filling-room = omega (arith, k .count, k .kept)
 
       pub filling-next : (x : A) → x ≡ f i → Filling f d bytes l (set m i x) n (i + 1)
-      filling-next x e = record { reached = omega arith; count = k .count; kept = length-set m i x ∙ k .kept; filled = record { each = each } }
+      filling-next x e =
+          record { reached = omega arith; count = k .count; kept = length-set m i x ∙ k .kept; filled = record { each = each } }
         where
           each : (j : ℕ) → j < i + 1 → getD (set m i x) j d ≡ f j
           each j g = elim (decLt j i) [

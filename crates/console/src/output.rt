@@ -39,9 +39,7 @@ pub fn answer(a: Answer) {
         let name = reply::name_of(a.reply, a.second);
         let bytes = name.bytes;
         let length = name.length;
-        if length <= bytes.len() {
-            text(&bytes[..length]);
-        }
+        text(&bytes[..length]);
         text(b"\n");
     }
 }

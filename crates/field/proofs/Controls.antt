@@ -1,4 +1,4 @@
--- Closed cases of the definition, which the checker computes: whole fields, empty ones and one that ends at the end; headers and payloads cut.
+-- Closed cases of the definition, which the checker computes: whole fields, an empty one and one in the middle; headers and payloads cut.
 -- Assumes nothing.
 use mathlib.Core.Path.{_≡_, refl}
 use mathlib.Core.List.{[], _∷_}

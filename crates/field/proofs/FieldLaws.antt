@@ -44,7 +44,8 @@ module _ (s : List ℕ) (at end : ℕ) (r : Field) (q : r ≡ fieldAt s at end) 
       n = bigAt 2 s (at + 1)
 
       go : (b : Bool) → ltb (end - at) header ≡ b → (b′ : Bool) → ltb (end - (at + header)) n ≡ b′
-          → Whole t a e ≡ elim b [ true ↦ Cut | false ↦ elim b′ [ true ↦ Cut | false ↦ Whole (getD s at 0) (at + header) (at + header + n) ] ]
+          → Whole t a e
+          ≡ elim b [ true ↦ Cut | false ↦ elim b′ [ true ↦ Cut | false ↦ Whole (getD s at 0) (at + header) (at + header + n) ] ]
           → Bounds at end a e
       go true p b′ p′ w = absurd (let z : _≡_ {A = ℕ} 0 1 = cc in omega arith)
       go false p true p′ w = absurd (let z : _≡_ {A = ℕ} 0 1 = cc in omega arith)

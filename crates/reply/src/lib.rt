@@ -181,7 +181,8 @@ pub struct Name {
 // A text as a name.
 fn spelled(text: &[u8]) -> Name
     requires { ⌜ length (now text) ≤ mostName ⌝ }
-    ensures { λ r. ⌜ textOf r ≡ now (text .entry) ⌝ }
+    ensures is { λ r. ⌜ textOf r ≡ now (text .entry) ⌝ }
+    ensures within { λ r. ⌜ r .length ≤ mostName ⌝ }
 {
     let mut bytes = [0u8; MOST_NAME];
     let mut i = 0;
@@ -197,7 +198,8 @@ fn spelled(text: &[u8]) -> Name
 
 // The name of the refusal that has this number and this second word.
 pub fn name_of(reply: u32, second: u32) -> Name
-    ensures { λ r. ⌜ NameOf reply second (textOf r) ⌝ }
+    ensures is { λ r. ⌜ NameOf reply second (textOf r) ⌝ }
+    ensures within { λ r. ⌜ r .length ≤ mostName ⌝ }
 {
     match reply {
         1 => spelled(b"BadSheet"),
