@@ -69,12 +69,6 @@ module _ (ws l m : List ℕ) (count member n i : ℕ) (u : Numbering ws l m coun
   pub numbering-length : length m ≡ length l
   numbering-length = front-length _ _ l m n (u .laid)
 
-  pub numbering-count : i < length ws → Fits w32 (count + 1)
-  numbering-count h = record { fits = omega (arith, u .counted, u .most) }
-
-  pub numbering-next : i < length ws → n + 1 ≤ mostWords
-  numbering-next h = omega (arith, u .few, u .most)
-
   pub numbering-done : length ws ≤ i → Puts (oneofs 0 0 ws) l m (Wrote n)
   unfolding oneofs
   numbering-done h = front-done _ _ l m n (u .laid) (rw (drop-of-length-le ws h))
@@ -131,8 +125,6 @@ module _ (ws l m : List ℕ) (count member n i : ℕ) (u : Numbering ws l m coun
 pub ruleset numbering-laws = (
   numbering-start,
   numbering-length,
-  numbering-count,
-  numbering-next,
   numbering-done,
   numbering-plain,
   numbering-optional,

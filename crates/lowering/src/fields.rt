@@ -13,6 +13,7 @@ use limits::MOST_WORDS;
 use reply::Answer;
 use reply::Refusal;
 
+// One word at a place; past the end nothing is written.
 fn put(out: &mut [u32], at: usize, word: u32)
     ensures { λ _. ⌜ now (out .exit) ≡ sets (now (out .entry)) at (word ∷ []) ⌝ }
 {
@@ -21,6 +22,8 @@ fn put(out: &mut [u32], at: usize, word: u32)
     }
 }
 
+// Each field gives 0, or one more than the index of its oneof. `count` is how many oneofs there are so far, and `member` what a member of
+// the open one gives.
 fn put_fields(words: &[u32], out: &mut [u32]) -> Put
     requires { ⌜ length (now words) ≤ mostWords ⌝ }
     ensures { λ r. ⌜ Puts (oneofs 0 0 (now (words .entry))) (now (out .entry)) (now (out .exit)) r ⌝ }
@@ -37,14 +40,16 @@ fn put_fields(words: &[u32], out: &mut [u32]) -> Put
             n += 1;
             i += 1;
         } else if w == 1 {
-            count += 1;
-            put(out, n, count);
+            let index = count;
+            count = index + 1;
+            put(out, n, index + 1);
             member = 0;
             n += 1;
             i += 1;
         } else if w == 2 {
-            count += 1;
-            member = count;
+            let index = count;
+            count = index + 1;
+            member = index + 1;
             i += 1;
         } else {
             if w != 3 {
@@ -61,6 +66,7 @@ fn put_fields(words: &[u32], out: &mut [u32]) -> Put
     Put::Wrote(n)
 }
 
+// The oneof of each field, as 01's lowering has it.
 pub fn lower_fields(words: &[u32], out: &mut [u32]) -> Answer
     ensures { λ r. ⌜ Answered (lowerFields (now (words .entry))) (now (out .entry)) (now (out .exit)) r ⌝ }
 {

@@ -21,6 +21,7 @@ pub enum End {
 // The kind whose ends stay: an enum's reserved ranges include them.
 const ENUM_RESERVED: u32 = 2;
 
+// A range of a descriptor ends before its end, but for an enum's; the largest word has no successor.
 fn end_of(kind: u32, end: i32) -> End
     ensures { λ r. ⌜ r ≡ endOf kind end ⌝ }
 {
@@ -33,6 +34,7 @@ fn end_of(kind: u32, end: i32) -> End
     End::At(end + 1)
 }
 
+// One word at a place; past the end nothing is written.
 fn put(out: &mut [i32], at: usize, word: i32)
     ensures { λ _. ⌜ now (out .exit) ≡ sets (now (out .entry)) at (word ∷ []) ⌝ }
 {
@@ -41,6 +43,7 @@ fn put(out: &mut [i32], at: usize, word: i32)
     }
 }
 
+// A start and an end, likewise.
 fn put_range(out: &mut [i32], at: usize, start: i32, end: i32)
     requires { ⌜ at < 2 ^ 63 ⌝ }
     ensures { λ _. ⌜ now (out .exit) ≡ sets (now (out .entry)) at (start ∷ end ∷ []) ⌝ }
@@ -49,6 +52,7 @@ fn put_range(out: &mut [i32], at: usize, start: i32, end: i32)
     put(out, at + 1, end);
 }
 
+// The lowered ranges from the front on, as far as there is room.
 fn put_ranges(kind: u32, words: &[i32], out: &mut [i32]) -> Put
     requires { ⌜ length (now words) % 2 ≡ 0 ⌝ }
     ensures { λ r. ⌜ Puts (pairs kind (now (words .entry))) (now (out .entry)) (now (out .exit)) r ⌝ }
@@ -66,6 +70,7 @@ fn put_ranges(kind: u32, words: &[i32], out: &mut [i32]) -> Put
     Put::Wrote(i)
 }
 
+// The ranges of a kind, as 01's lowering has them.
 pub fn lower_ranges(kind: u32, words: &[i32], out: &mut [i32]) -> Answer
     ensures { λ r. ⌜ Answered (lowerRanges kind (now (words .entry))) (now (out .entry)) (now (out .exit)) r ⌝ }
 {

@@ -38,96 +38,33 @@ pub struct Answer {
 }
 
 // A row of 01's table: the number, and the second word that tells two refusals of one number apart.
-pub struct Row {
-    pub number: u32,
-    pub second: u32,
-}
+pub struct Row(pub u32, pub u32);
 
 impl Refusal {
     pub fn row(self) -> Row
-        ensures { λ r. ⌜ (r .number ≡ numberOf self) × (r .second ≡ secondOf self) ⌝ }
+        ensures { λ r. ⌜ (r .0 ≡ numberOf self) × (r .1 ≡ secondOf self) ⌝ }
     {
         match self {
-            Refusal::BadSheet => Row {
-                number: 1,
-                second: 0,
-            },
-            Refusal::BadRequest => Row {
-                number: 2,
-                second: 0,
-            },
-            Refusal::BeyondLimit => Row {
-                number: 3,
-                second: 0,
-            },
-            Refusal::ExtensionNotFound => Row {
-                number: 4,
-                second: 0,
-            },
-            Refusal::WrongExtensionType => Row {
-                number: 5,
-                second: 0,
-            },
-            Refusal::ExtensionIsNotMessage => Row {
-                number: 6,
-                second: 0,
-            },
-            Refusal::MessageNotFound => Row {
-                number: 7,
-                second: 0,
-            },
-            Refusal::MessageFoundMoreThanOnce => Row {
-                number: 8,
-                second: 0,
-            },
-            Refusal::UnknownFieldName => Row {
-                number: 9,
-                second: 0,
-            },
-            Refusal::BuiltinOptionNotFound => Row {
-                number: 10,
-                second: 0,
-            },
-            Refusal::BuiltinOptionPointsToNonSingularField => Row {
-                number: 10,
-                second: 1,
-            },
-            Refusal::MessageFieldRequiresMessageConstant => Row {
-                number: 11,
-                second: 0,
-            },
-            Refusal::UnsupportedExtensionType => Row {
-                number: 12,
-                second: 0,
-            },
-            Refusal::UnknownEnumValue => Row {
-                number: 13,
-                second: 0,
-            },
-            Refusal::ValueRange => Row {
-                number: 14,
-                second: 0,
-            },
-            Refusal::StrLitDecodeError => Row {
-                number: 15,
-                second: 0,
-            },
-            Refusal::RangeEnd => Row {
-                number: 16,
-                second: 0,
-            },
-            Refusal::NoRoom => Row {
-                number: 17,
-                second: 0,
-            },
-            Refusal::BadBytes => Row {
-                number: 18,
-                second: 0,
-            },
-            Refusal::WireMismatch => Row {
-                number: 19,
-                second: 0,
-            },
+            Refusal::BadSheet => Row(1, 0),
+            Refusal::BadRequest => Row(2, 0),
+            Refusal::BeyondLimit => Row(3, 0),
+            Refusal::ExtensionNotFound => Row(4, 0),
+            Refusal::WrongExtensionType => Row(5, 0),
+            Refusal::ExtensionIsNotMessage => Row(6, 0),
+            Refusal::MessageNotFound => Row(7, 0),
+            Refusal::MessageFoundMoreThanOnce => Row(8, 0),
+            Refusal::UnknownFieldName => Row(9, 0),
+            Refusal::BuiltinOptionNotFound => Row(10, 0),
+            Refusal::BuiltinOptionPointsToNonSingularField => Row(10, 1),
+            Refusal::MessageFieldRequiresMessageConstant => Row(11, 0),
+            Refusal::UnsupportedExtensionType => Row(12, 0),
+            Refusal::UnknownEnumValue => Row(13, 0),
+            Refusal::ValueRange => Row(14, 0),
+            Refusal::StrLitDecodeError => Row(15, 0),
+            Refusal::RangeEnd => Row(16, 0),
+            Refusal::NoRoom => Row(17, 0),
+            Refusal::BadBytes => Row(18, 0),
+            Refusal::WireMismatch => Row(19, 0),
         }
     }
 }
@@ -138,8 +75,8 @@ pub fn refused(why: Refusal) -> Answer
 {
     let row = why.row();
     Answer {
-        reply: row.number,
-        second: row.second,
+        reply: row.0,
+        second: row.1,
         absent: 0,
         length: 0,
     }

@@ -1,5 +1,3 @@
--- `lowering::fields::put_fields` meets its contract, by its loop's invariant and laws.
--- Assumes nothing.
 use Prim.Native.Nat.{_-_}
 use lib.ListN.{length}
 use Rattle.lowering.proofs.FieldLaws.{Numbering, numbering-laws, numbering-optional}
@@ -13,6 +11,7 @@ Inv-loop words out₀ count₀ member₀ n₀ i₀ out count member n i = Number
 abbrev μ-loop : tie.MeasureT-loop
 μ-loop words out₀ count₀ member₀ n₀ i₀ out count member n i = length words - i
 
+-- the turn of an optional field is searched for by its own law alone: beside `numbering-plain`, which fits too, the search finds no way
 pub put-fields-spec : {M : Type 1} → statement M
 put-fields-spec = tie.close (tie.spec Inv-loop μ-loop
     (λ c. search (needs, numbering-laws))
@@ -24,11 +23,13 @@ put-fields-spec = tie.close (tie.spec Inv-loop μ-loop
     (λ c. search (needs, numbering-laws))
     (λ c. search (needs, numbering-laws))
     (λ c. search (needs, numbering-laws))
+    (λ c. search (needs, numbering-laws))
     (λ c κs. search (needs, numbering-laws))
     (λ c. search (needs, numbering-laws))
     (λ c. search (needs, numbering-laws))
     (λ c. search (needs, numbering-laws))
     (λ c. search numbering-optional)
+    (λ c. search (needs, numbering-laws))
     (λ c. search (needs, numbering-laws))
     (λ c. search (needs, numbering-laws))
     (λ c. search (needs, numbering-laws))
