@@ -1,10 +1,11 @@
 -- The figures of 01 and of the encoding document, each named once for the definitions and for the laws.
 --
---    mostIdent == bytes of an identifier
---     mostPath == bytes of a path as written
---    mostWords == words of a list to lower
---   mostNumber == the largest field number
---   mostVarint == bytes of a varint
+--      mostIdent == bytes of an identifier
+--       mostPath == bytes of a path as written
+--  mostCandidate == bytes of a candidate's text
+--      mostWords == words of a list to lower
+--     mostNumber == the largest field number
+--     mostVarint == bytes of a varint
 --
 -- Assumes nothing.
 use Prim.Native.Nat.{ℕ}
@@ -16,6 +17,10 @@ mostIdent = 64
 -- 01, Sheet and request: "Paths, at most 255 bytes"
 abbrev pub mostPath : ℕ
 mostPath = 255
+
+-- a scope and a name, joined by a dot
+abbrev pub mostCandidate : ℕ
+mostCandidate = 511
 
 -- 01, Listing and lowering: "at most 4,096 words a list"
 abbrev pub mostWords : ℕ

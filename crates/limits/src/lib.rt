@@ -6,6 +6,9 @@ pub const MOST_IDENT: usize = 64;
 // A path as written has at most so many bytes, a leading dot counted.
 pub const MOST_PATH: usize = 255;
 
+// A candidate, a scope and a name joined by a dot, has at most so many bytes.
+pub const MOST_CANDIDATE: usize = 511;
+
 // A list to lower has at most so many words.
 pub const MOST_WORDS: usize = 4096;
 

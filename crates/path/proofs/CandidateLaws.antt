@@ -1,6 +1,6 @@
 -- The laws of `candidates` and `candidate`, on plain values.
 -- Assumes nothing.
-use mathlib.Core.Path.{_≡_, sym, ap, _∙_}
+use mathlib.Core.Path.{_≡_, refl, sym, ap, _∙_}
 use mathlib.Core.Bool.{Bool, true, false}
 use mathlib.Core.List.{List, [], _++_}
 use Prim.Native.Nat.{ℕ, _+_, _*_, _^_, _-_, _≤_, _<_}
@@ -9,11 +9,12 @@ use native.Mathlib.Omega.{arith}
 use mir.Syntax.{w64}
 use mir.Val.{Fits}
 use lib.ListN.{length, getD, take}
+use Rattle.limits.specs.Figures.{mostPath, mostCandidate}
 use Rattle.octets.specs.Octets.{Laid}
 use Rattle.path.specs.Path.{components, spell, isAbs, isRelOrEmpty, rootless, ancestors}
 use Rattle.path.specs.Candidates.{candidates, candidate}
 use Rattle.path.proofs.AbsLaws.{rootless-length-le}
-use Rattle.path.proofs.PathLaws.{spell-components, components-spell, components-length-le, spell-take-le, idents-take, rel-idents}
+use Rattle.path.proofs.PathLaws.{spell-components, components-spell, components-length-le, spell-take-le, spell-append-le, idents-take, rel-idents}
 use Rattle.path.proofs.PathLaws.{ancestors-at, candidates-abs, candidates-length-abs, candidates-length-rel, candidate-rel}
 
 -- ---- candidates
@@ -64,5 +65,22 @@ module _ (scope name : List ℕ) (i : ℕ) (w : i < length (candidates scope nam
         → (l l′ : List ℕ) (n : ℕ) → Laid l 0 (spell (components x ++ components name)) l′ n → Laid l 0 (spell (candidate scope name i)) l′ n
     candidate-joined v x p l l′ n d =
         rw (candidate-rel scope name (sym q ∙ e) i candidate-within, ← ancestor-components scope i candidate-within x p v) d
+
+-- a buffer of this size holds every candidate of paths as written
+pub candidate-length-le : (scope name : List ℕ) (i : ℕ) → i < length (candidates scope name) → length scope ≤ mostPath → length name ≤ mostPath
+    → length (spell (candidate scope name i)) ≤ mostCandidate
+unfolding candidate
+candidate-length-le scope name i w h k = go (isAbs name) refl
+  where
+    go : (b : Bool) → isAbs name ≡ b → length (spell (candidate scope name i)) ≤ mostCandidate
+    go true e =
+        let only : i ≡ 0 = omega (arith, candidates-length-abs scope name e) in
+        rw (only, candidates-abs scope name e, spell-components (rootless name)) (omega (arith, rootless-length-le name))
+    go false e =
+        let cs = components scope in
+        let within : i ≤ length cs = candidate-within scope name i w (isAbs name) refl e in
+        let front = spell-take-le (length cs - i) cs in
+        rw (candidate-rel scope name e i within)
+        (omega (arith, spell-append-le (take (length cs - i) cs) (components name), front, ap length (spell-components scope), ap length (spell-components name)))
 
 pub ruleset candidate-laws = (rootless-short, ancestor-short, candidate-whole, candidate-within, candidate-joined)

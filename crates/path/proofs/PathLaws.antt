@@ -3,7 +3,7 @@
 use mathlib.Core.Path.{_≡_, refl, ap, _∙_}
 use mathlib.Core.Bool.{true, false, and-eq-true-iff}
 use mathlib.Core.List.{List, [], _∷_, _++_, map}
-use Prim.Native.Nat.{ℕ, zero, suc, _-_, _≤_, _<_}
+use Prim.Native.Nat.{ℕ, zero, suc, _+_, _-_, _≤_, _<_}
 use native.Mathlib.Decide.{decLt}
 use native.Mathlib.Omega.{arith}
 use lib.Dec.{leb}
@@ -89,6 +89,13 @@ spell-take-le (suc k) [] = omega arith
 spell-take-le (suc zero) (n ∷ p) = spell-length-le n p
 spell-take-le (suc (suc k)) (n ∷ []) = omega arith
 spell-take-le (suc (suc k)) (n ∷ m ∷ p) = simp length-append (omega (arith, spell-take-le (suc k) (m ∷ p)))
+
+pub spell-append-le : (p q : Path) → length (spell (p ++ q)) ≤ length (spell p) + suc (length (spell q))
+unfolding spell
+spell-append-le [] q = omega arith
+spell-append-le (n ∷ []) [] = omega arith
+spell-append-le (n ∷ []) (m ∷ q) = simp length-append (omega arith)
+spell-append-le (n ∷ m ∷ p) q = simp length-append (omega (arith, spell-append-le (m ∷ p) q))
 
 split-spell : (n : Name) (p : Path) → Dotless (n ∷ p) → split (spell (n ∷ p)) ≡ n ∷ p
 unfolding spell

@@ -2,16 +2,18 @@
 ghost use Prim.Native.Nat.{_≤_};
 use crate::begins;
 use crate::told;
+use limits::MOST_CANDIDATE;
+use limits::MOST_PATH;
 use path::protobuf_path::candidate;
 use path::protobuf_path::candidates;
 use path::protobuf_rel_path::is_rel_or_empty;
 
 // Whether the i-th candidate of a name in a scope is this one; a candidate is put together in a lent buffer.
 fn spelled(scope: &[u8], name: &[u8], i: usize, out: &mut [u8], want: &[u8]) -> bool {
-    if 255 < scope.len() {
+    if MOST_PATH < scope.len() {
         return false;
     }
-    if 255 < name.len() {
+    if MOST_PATH < name.len() {
         return false;
     }
     if i < candidates(scope, name) {
@@ -24,7 +26,7 @@ fn spelled(scope: &[u8], name: &[u8], i: usize, out: &mut [u8], want: &[u8]) -> 
 }
 
 fn is_candidate(scope: &[u8], name: &[u8], i: usize, want: &[u8]) -> bool {
-    let mut out = [0u8; 511];
+    let mut out = [0u8; MOST_CANDIDATE];
     spelled(scope, name, i, &mut out, want)
 }
 
