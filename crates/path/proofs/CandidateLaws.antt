@@ -14,7 +14,8 @@ use Rattle.octets.specs.Octets.{Laid}
 use Rattle.path.specs.Path.{components, spell, isAbs, isRelOrEmpty, rootless, ancestors}
 use Rattle.path.specs.Candidates.{candidates, candidate}
 use Rattle.path.proofs.AbsLaws.{rootless-length-le}
-use Rattle.path.proofs.PathLaws.{spell-components, components-spell, components-length-le, spell-take-le, spell-append-le, idents-take, rel-idents}
+use Rattle.path.proofs.PathLaws.{spell-components, components-spell, components-length-le, spell-take-le}
+use Rattle.path.proofs.PathLaws.{spell-append-le, idents-take, rel-idents}
 use Rattle.path.proofs.PathLaws.{ancestors-at, candidates-abs, candidates-length-abs, candidates-length-rel, candidate-rel}
 
 -- ---- candidates
@@ -67,8 +68,8 @@ module _ (scope name : List ℕ) (i : ℕ) (w : i < length (candidates scope nam
         rw (candidate-rel scope name (sym q ∙ e) i candidate-within, ← ancestor-components scope i candidate-within x p v) d
 
 -- a buffer of this size holds every candidate of paths as written
-pub candidate-length-le : (scope name : List ℕ) (i : ℕ) → i < length (candidates scope name) → length scope ≤ mostPath → length name ≤ mostPath
-    → length (spell (candidate scope name i)) ≤ mostCandidate
+pub candidate-length-le : (scope name : List ℕ) (i : ℕ) → i < length (candidates scope name)
+    → length scope ≤ mostPath → length name ≤ mostPath → length (spell (candidate scope name i)) ≤ mostCandidate
 unfolding candidate
 candidate-length-le scope name i w h k = go (isAbs name) refl
   where
@@ -79,8 +80,10 @@ candidate-length-le scope name i w h k = go (isAbs name) refl
     go false e =
         let cs = components scope in
         let within : i ≤ length cs = candidate-within scope name i w (isAbs name) refl e in
-        let front = spell-take-le (length cs - i) cs in
-        rw (candidate-rel scope name e i within)
-        (omega (arith, spell-append-le (take (length cs - i) cs) (components name), front, ap length (spell-components scope), ap length (spell-components name)))
+        let front = take (length cs - i) cs in
+        let whole = spell-append-le front (components name) in
+        let scoped : length (spell cs) ≡ length scope = ap length (spell-components scope) in
+        let named : length (spell (components name)) ≡ length name = ap length (spell-components name) in
+        rw (candidate-rel scope name e i within) (omega (arith, whole, spell-take-le (length cs - i) cs))
 
 pub ruleset candidate-laws = (rootless-short, ancestor-short, candidate-whole, candidate-within, candidate-joined)

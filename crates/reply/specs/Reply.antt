@@ -17,6 +17,7 @@ use Prim.Native.Nat.{ℕ}
 use Prim.Native.Char.{code}
 use Prim.Native.String.{String, [], _∷_}
 use mathlib.Core.List.{List, [] as []ᴸ, _∷_ as _∷ᴸ_}
+use lib.ListN.{take}
 use Rattle.reply.specs.declared.Refusal.{Refusal}
 use Rattle.reply.specs.declared.Refusal.the-variants.{BadSheet, BadRequest, BeyondLimit, ExtensionNotFound}
 use Rattle.reply.specs.declared.Refusal.the-variants.{WrongExtensionType, ExtensionIsNotMessage}
@@ -27,7 +28,6 @@ use Rattle.reply.specs.declared.Refusal.the-variants.{MessageFieldRequir
 use Rattle.reply.specs.declared.Refusal.the-variants.{UnsupportedExtensionType, UnknownEnumValue, ValueRange}
 use Rattle.reply.specs.declared.Refusal.the-variants.{StrLitDecodeError, RangeEnd, NoRoom, BadBytes}
 use Rattle.reply.specs.declared.Refusal.the-variants.{WireMismatch}
-use lib.ListN.{take}
 use Rattle.reply.specs.declared.Answer.{Answer}
 use Rattle.reply.specs.declared.Name.{Name}
 
