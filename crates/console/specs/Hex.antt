@@ -1,10 +1,12 @@
 -- Hexadecimal text: two digits a byte, the higher first, either case; blanks and line ends are passed over.
 --
---    blank, other == what digitOf gives for a blank or a line end, and for a byte that is no such thing and no digit
---       digitOf c == the value of a digit, or one of these
---     front b d   == a byte in front of what d spells
---   unhex at half cs == what the text cs, which begins at the place `at`, spells after the first digit `half` of a byte, or after none
---  Decodes t l l′ r <-> r is what the text t comes to, and where it spells bytes they are laid over l, which is l′ then
+--       blank, other ==  what digitOf gives for a blank or a line end, and for a byte that is no such thing and no digit
+--          digitOf c ==  the value of a digit, or one of these
+--            Spelled ==  what a text spells: bytes, or why it spells none
+--          front b d ==  a byte in front of what d spells
+--   unhex at half cs ==  what the text cs, which begins at the place `at`, spells after the first digit `half` of a byte, or after none
+--        decodedOf d ==  the code's answer for what a text spells
+--   Decodes t l l′ r <-> r is what the text t comes to, and where it spells bytes they are laid over l, which is l′ then
 --
 -- Assumes nothing.
 use mathlib.Core.Path.{_≡_}

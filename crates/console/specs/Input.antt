@@ -1,6 +1,6 @@
 -- Where what was read lies.
 --
---   Fills r room <-> the bytes that were read lie within the room
+--    Fills r room <-> the bytes that were read lie within the room
 --   Lies r at end <-> the payload that was found lies after `at` and before `end`
 --
 -- Assumes nothing.

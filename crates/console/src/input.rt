@@ -11,7 +11,10 @@ use crate::output::number;
 use crate::output::text;
 use field::Field;
 
-// The text that is read at the most.
+// A program's input has at most so many bytes, which a text below MOST_TEXT never passes.
+pub const MOST_BYTES: usize = 131_072;
+
+// The text that is read, one byte more than is taken.
 const MOST_TEXT: usize = 262_144;
 
 pub enum Input {
@@ -77,6 +80,13 @@ pub fn field_of(s: &[u8], at: usize, tag: u8) -> Payload
     requires { ⌜ at ≤ length (now s) ⌝ }
     ensures { λ r. ⌜ Lies r at (length (now (s .entry))) ⌝ }
 {
+    if at == s.len() {
+        place(at);
+        text(b": the input ends, where a field of tag ");
+        two_digits(tag);
+        text(b" is due\n");
+        return Payload::Wrong;
+    }
     let Field::Whole {
         tag: found,
         from,
@@ -84,9 +94,7 @@ pub fn field_of(s: &[u8], at: usize, tag: u8) -> Payload
     } = field::field_at(s, at, s.len())
     else {
         place(at);
-        text(b": no whole field of tag ");
-        two_digits(tag);
-        text(b"\n");
+        text(b": the field that starts here is cut\n");
         return Payload::Wrong;
     };
     if found != tag {
@@ -122,7 +130,7 @@ pub fn has_size(tag: u8, from: usize, to: usize, size: usize) -> bool
     payload_has(tag, from, to);
     text(b", where ");
     number(size as u64);
-    text(b" are due\n");
+    text(b" is due\n");
     false
 }
 
@@ -145,9 +153,8 @@ fn payload_has(tag: u8, from: usize, to: usize)
     place(from);
     text(b": the payload of tag ");
     two_digits(tag);
-    text(b" has ");
+    text(b" has length ");
     number((to - from) as u64);
-    text(b" bytes");
 }
 
 // The start of a line that is about a place.

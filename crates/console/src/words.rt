@@ -9,6 +9,9 @@ ghost use Rattle.octets.specs.Octets.{bigAt};
 ghost use Rattle.console.specs.Words.{Filled};
 use crate::least;
 
+// A payload, of 65,535 bytes at the most, has no more words.
+pub const MOST_PAYLOAD: usize = 16_384;
+
 // The words of a payload, in a lent buffer as far as that reaches, and how many they are.
 pub fn words_of(payload: &[u8], out: &mut [u32]) -> usize
     ensures { λ r. ⌜ Filled (λ j. bigAt 4 (now (payload .entry)) (j * 4)) 0 (now (out .exit)) r ⌝ }

@@ -1,7 +1,7 @@
 -- A field at a place, from 01's "Sheet and request": "fields of tag (1 byte), length (2), payload, numbers big-endian".
 --
---     header == the bytes of a field before its payload
---  fieldAt s at end == the field whose header starts at `at`, whole before `end`
+--             header == the bytes of a field before its payload
+--   fieldAt s at end == the field whose header starts at `at`, whole before `end`
 --
 -- Assumes nothing.
 use mathlib.Core.Bool.{true, false}

@@ -1,11 +1,11 @@
 -- The figures of 01 and of the encoding document, each named once for the definitions and for the laws.
 --
---      mostIdent == bytes of an identifier
---       mostPath == bytes of a path as written
---  mostCandidate == bytes of a candidate's text
---      mostWords == words of a list to lower
---     mostNumber == the largest field number
---     mostVarint == bytes of a varint
+--       mostIdent == bytes of an identifier
+--        mostPath == bytes of a path as written
+--   mostCandidate == bytes of a candidate's text
+--       mostWords == words of a list to lower
+--      mostNumber == the largest field number
+--      mostVarint == bytes of a varint
 --
 -- Assumes nothing.
 use Prim.Native.Nat.{ℕ}

@@ -30,7 +30,7 @@ ranges :
 unfolding lowerRanges pairs endOf
 ranges = refl
 
--- kinds 1, 2 and 3; an odd count comes before a last end, and a kind before an odd count
+-- kinds 1, 2 and 3; an odd count comes before a last end
 kinds :
     map (λ (k : ℕ). lowerRanges k (pos 1 ∷ pos 2147483647 ∷ [])) (1 ∷ 2 ∷ 3 ∷ [])
     ≡ refuse RangeEnd ∷ give (pos 1 ∷ pos 2147483647 ∷ []) ∷ refuse BadRequest ∷ []
@@ -72,6 +72,11 @@ too-many : lowerFields (replicate 4097 7) ≡ refuse BeyondLimit
 unfolding lowerFields
 too-many = refl
 
-too-many-words : lowerRanges 0 (replicate 4097 (pos 1)) ≡ refuse BeyondLimit
+at-most-ranges : lowerRanges 2 (replicate 4096 (pos 1)) ≡ give (replicate 4096 (pos 1))
+unfolding lowerRanges pairs endOf
+at-most-ranges = refl
+
+-- an odd count too many, and another kind before both
+too-many-ranges : map (λ (k : ℕ). lowerRanges k (replicate 4097 (pos 1))) (0 ∷ 3 ∷ []) ≡ refuse BeyondLimit ∷ refuse BadRequest ∷ []
 unfolding lowerRanges
-too-many-words = refl
+too-many-ranges = refl

@@ -1,8 +1,8 @@
 -- Oneof indices of a message's fields, from 01's "Listing and lowering": "u32 words, 0 plain, 1 proto3 optional, 2 a oneof opens, 3 its
 -- member".
 --
---   oneofs count member ws == the words of the fields ws, or a refusal, after `count` oneofs; `member` is what a member gives, 0 where
---                             no oneof is open
+--   oneofs count member ws == the words of the fields ws, or a refusal, after `count` oneofs; `member` is what a member gives, 0 where no
+--                             oneof is open
 --           lowerFields ws == what lowering fields comes to
 --
 -- Assumes nothing.

@@ -1,7 +1,7 @@
 -- What a writer of words leaves behind: the first of its words go over the front of the lent memory, as far as that reaches.
 --
---          putOf o == the writer's answer
---  Puts o l l′ r <-> the writer of the outcome o answered r, and what was l is l′, where o gives words
+--         putOf o ==  the writer's answer
+--   Puts o l l′ r <-> the writer of the outcome o answered r, and what was l is l′, where o gives words
 --
 -- Assumes nothing.
 use mathlib.Core.Path.{_≡_}

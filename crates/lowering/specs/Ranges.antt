@@ -1,11 +1,12 @@
 -- Lowering of ranges, from 01's "Listing and lowering". Words are signed 32-bit numbers, a start and an end in turn.
 --
---   enumReserved == the kind that keeps its ends
---        lastEnd == the end that has no successor among the words
---     endOf k e == what an end becomes in a range of the kind k, or that it has no successor
---  withEnd s x rest == a range of the start s and the end x, in front of the rest
---   pairs k ws == the lowered ranges of the kind k, or a refusal
---  lowerRanges k ws == what lowering ranges comes to
+--       enumReserved ==  the kind that keeps its ends
+--            lastEnd ==  the end that has no successor among the words
+--           isLast e <=> e is that end
+--          endOf k e ==  what an end becomes in a range of the kind k, or that it has no successor
+--   withEnd s x rest ==  a range of the start s and the end x, in front of the rest
+--         pairs k ws ==  the lowered ranges of the kind k, or a refusal
+--   lowerRanges k ws ==  what lowering ranges comes to
 --
 -- Assumes nothing.
 use mathlib.Core.Bool.{Bool, true, false}

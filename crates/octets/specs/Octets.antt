@@ -1,8 +1,8 @@
 -- Bytes as lists of numbers. `sets l at bs` of `lib.Seq` lays bs over l from the place `at` on; past the end of l it changes nothing.
 --
---          part s a e == the bytes of s from the place a up to the place e
+--          part s a e ==  the bytes of s from the place a up to the place e
 --     sameBytes xs ys <=> the same bytes in the same order
---        bigAt k s at == the number of the k bytes at a place, the highest first
+--        bigAt k s at ==  the number of the k bytes at a place, the highest first
 --   Laid l at bs l′ r <-> l′ is l with bs laid over it from `at` on, and r is the place after them
 --
 -- Assumes nothing.

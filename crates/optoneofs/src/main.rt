@@ -1,12 +1,11 @@
 // Gives each field of a message the oneof it belongs to. Input: 49 the words (4 bytes each).
 use console::input::Input;
+use console::input::MOST_BYTES;
 use console::input::Payload;
+use console::words::MOST_PAYLOAD;
 use limits::MOST_WORDS;
 
 const WORDS: u8 = 0x49;
-
-// A payload of 65,535 bytes has no more words.
-const MOST_PAYLOAD: usize = 16384;
 
 fn lower(payload: &[u8]) {
     let mut words = [0u32; MOST_PAYLOAD];
@@ -33,7 +32,7 @@ fn run(s: &[u8]) {
 }
 
 fn main() {
-    let mut bytes = [0u8; 131072];
+    let mut bytes = [0u8; MOST_BYTES];
     let Input::Bytes(n) = console::input::read(&mut bytes) else {
         return;
     };

@@ -1,14 +1,13 @@
 // Lowers ranges. Input: 47 the kind (4 bytes), 48 the words, starts and ends in turn (4 bytes each).
 use console::input::Input;
+use console::input::MOST_BYTES;
 use console::input::Payload;
+use console::words::MOST_PAYLOAD;
 use limits::MOST_WORDS;
 
 const KIND: u8 = 0x47;
 
 const WORDS: u8 = 0x48;
-
-// A payload of 65,535 bytes has no more words.
-const MOST_PAYLOAD: usize = 16384;
 
 fn lower(kind: u32, payload: &[u8]) {
     let mut words = [0i32; MOST_PAYLOAD];
@@ -41,7 +40,7 @@ fn run(s: &[u8]) {
 }
 
 fn main() {
-    let mut bytes = [0u8; 131072];
+    let mut bytes = [0u8; MOST_BYTES];
     let Input::Bytes(n) = console::input::read(&mut bytes) else {
         return;
     };

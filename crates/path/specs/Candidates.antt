@@ -1,7 +1,7 @@
 -- The candidates of a name in a scope, from 01's "The search".
 --
---   candidates scope name == the paths that are tried, in order
---  candidate scope name i == the i-th of them, counted from 0
+--    candidates scope name == the paths that are tried, in order
+--   candidate scope name i == the i-th of them, counted from 0
 --
 -- Assumes nothing.
 use mathlib.Core.Bool.{true, false}

@@ -2,7 +2,7 @@
 --
 --   isLetter c <=> c is an ASCII letter or `_`
 --    isDigit c <=> c is an ASCII digit
---  allWord bs <=> every byte is a letter, a digit or `_`
+--   allWord bs <=> every byte is a letter, a digit or `_`
 --   isIdent bs <=> the bytes are an identifier
 --
 -- Assumes nothing.

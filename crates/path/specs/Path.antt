@@ -1,17 +1,20 @@
 -- Paths: a path is the list of its components; its text has them joined by dots.
 --
---          dot == the byte `.`
---   untilDot t == the bytes of t before its first dot
---      split t == the pieces of t between its dots, one at least
--- components t == the components of a text, none of the empty text
---      spell p == the text of a path
---   isRelPath t <=> t is a path, not empty and with no leading dot
--- isRelOrEmpty t <=> t is such a path, or empty
---      isAbs t <=> t leads with a dot
---    rootless t == t without its leading dot
---      isPath t <=> t is a path that may lead with a dot
---     parent p == p without its last component
---  ancestors p == p and its parents, the longest first, the empty one last
+--       Name, Path ==  bytes, and the list of a path's components
+--              dot ==  the byte `.`
+--       untilDot t ==  the bytes of t before its first dot
+--      onFirst c p ==  p with the byte c in front of its first name
+--          split t ==  the pieces of t between its dots, one at least
+--     components t ==  the components of a text, none of the empty text
+--          spell p ==  the text of a path
+--       allIdent p <=> every component is an identifier
+--      isRelPath t <=> t is a path, not empty and with no leading dot
+--   isRelOrEmpty t <=> t is such a path, or empty
+--          isAbs t <=> t leads with a dot
+--       rootless t ==  t without its leading dot
+--         isPath t <=> t is a path that may lead with a dot
+--         parent p ==  p without its last component
+--      ancestors p ==  p and its parents, the longest first, the empty one last
 --
 -- Assumes nothing.
 use mathlib.Core.Bool.{Bool, true, false, _&&_}

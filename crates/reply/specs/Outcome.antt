@@ -1,11 +1,11 @@
 -- What a public call comes to, and what its answer and the lent memory then are, for every input and every room.
 --
---       Outcome A == a refusal, Absent, or elements for the lent memory
---    push front o == the outcome with elements in front of what it gives
---     within n o == the outcome where there is room for n elements
---    answerOf o == the answer record
---  leftOf o before == the lent memory afterwards
---  Answered o before after r <-> r is the answer of o, and the lent memory, `before` the call, is `after` it
+--                   Outcome A ==  a refusal, Absent, or elements for the lent memory
+--                push front o ==  the outcome with elements in front of what it gives
+--                  within n o ==  the outcome where there is room for n elements
+--                  answerOf o ==  the answer record
+--             leftOf o before ==  the lent memory afterwards
+--   Answered o before after r <-> r is the answer of o, and the lent memory, `before` the call, is `after` it
 --
 -- Assumes nothing.
 use mathlib.Core.Path.{_≡_}
@@ -29,7 +29,7 @@ push front (refuse w) = refuse w
 push front nothing = nothing
 push front (give l) = give (front ++ l)
 
--- demand 1: "NoRoom comes only when all else has passed"
+-- NoRoom comes only when all else has passed; 01, Listing: "room last"
 abbrev pub within : {A : Type 0} → ℕ → Outcome A → Outcome A
 within n (refuse w) = refuse w
 within n nothing = nothing

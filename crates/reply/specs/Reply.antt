@@ -1,15 +1,16 @@
 -- 01's table of replies: the number and the second word of each refusal, and the answer record.
 --
---         row w == the refusal's row in 01's table: number, second word, name
---      number w == the reply's number
---      second w == the reply's second word
---        name w == the bytes of its name
---      mostName == the bytes that the array of a name has
---      textOf n == the bytes of a name that the code has made
---  NameOf n s t <-> t is the name of the refusal that has the number n and the second word s
---   refusedBy w == the answer of a refusal
---    doneWith n == the answer of a call that wrote n elements
---  absentAnswer == the answer Absent
+--          row w ==  the refusal's row in 01's table: number, second word, name
+--       number w ==  the reply's number
+--       second w ==  the reply's second word
+--        ascii s ==  the bytes of a text
+--         name w ==  the bytes of its name
+--       mostName ==  the bytes that the array of a name has
+--       textOf n ==  the bytes of a name that the code has made
+--   NameOf n s t <-> t is the name of the refusal that has the number n and the second word s
+--    refusedBy w ==  the answer of a refusal
+--     doneWith n ==  the answer of a call that wrote n elements
+--   absentAnswer ==  the answer Absent
 --
 -- Assumes nothing.
 use mathlib.Core.Path.{_≡_}

@@ -1,9 +1,9 @@
 -- The tag in front of a record, from Encoding, "Message Structure": the field number, then three bits of wire type.
 --
---    tagOf n w == the tag of a field number and a wire type
---   numberOf t == the field number of a tag
---  wireTypeOf t == the wire type of a tag
---     tagGood t <=> a tag that 01 takes: a field number in its range, and a wire type that is read
+--      tagOf n w ==  the tag of a field number and a wire type
+--     numberOf t ==  the field number of a tag
+--   wireTypeOf t ==  the wire type of a tag
+--      tagGood t <=> a tag that 01 takes: a field number in its range, and a wire type that is read
 --
 -- Assumes nothing.
 use mathlib.Core.Bool.{Bool, _&&_, _||_}

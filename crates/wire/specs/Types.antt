@@ -1,9 +1,9 @@
 -- The 18 types of descriptor.proto's FieldDescriptorProto.Type, by their numbers, and the wire type of each.
 --
---   TYPE_DOUBLE .. TYPE_SINT64 == the type's number
---          VARINT .. I32       == the wire type's number
+--   TYPE_DOUBLE .. TYPE_SINT64 ==  the type's number
+--                VARINT .. I32 ==  the wire type's number
 --                   isAny t ts <=> t is one of ts
---                     wireOf t == the wire type of the type t
+--                     wireOf t ==  the wire type of the type t
 --
 -- Assumes nothing.
 use mathlib.Core.Bool.{Bool, true, false, _||_}

@@ -1,13 +1,13 @@
 -- UTF-8 by code points, strictly (RFC 3629): no surrogate, no overlong form, nothing above U+10FFFF.
 --
---    isScalar c <=> c is a Unicode scalar value
---        utf8 c == the bytes of a scalar value
---       Utf8 bs <-> bs are the bytes of scalar values, one after the other
---    pointOf bs == the code point that the payload bits at the front of bs make
---   stands c bs <=> c is a scalar value whose bytes stand at the front of bs
---     leadOf bs == how many bytes the scalar value at the front of bs takes, 0 where none stands there
--- utf8From n bs <=> the first n of bs belong to the value before, and what follows is UTF-8
---     isUtf8 bs <=> the same as Utf8, as a test that computes
+--      isScalar c <=> c is a Unicode scalar value
+--          utf8 c ==  the bytes of a scalar value
+--         Utf8 bs <-> bs are the bytes of scalar values, one after the other
+--      pointOf bs ==  the code point that the payload bits at the front of bs make
+--     stands c bs <=> c is a scalar value whose bytes stand at the front of bs
+--       leadOf bs ==  how many bytes the scalar value at the front of bs takes, 0 where none stands there
+--   utf8From n bs <=> the first n of bs belong to the value before, and what follows is UTF-8
+--       isUtf8 bs <=> the same as Utf8, as a test that computes
 --
 -- Assumes nothing.
 use mathlib.Core.Path.{_≡_}

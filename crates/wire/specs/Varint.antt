@@ -3,7 +3,7 @@
 --
 --   varintWithin k v == the shortest varint of v, where k bytes at the most follow its first
 --           varint v == the shortest varint of v
---          onto b r == a byte b with its top bit set, in front of what r is
+--           onto b r == a byte b with its top bit set, in front of what r is
 --    readWithin k bs == the varint at the front of bs, where k bytes at the most follow its first: its value and how many bytes it has
 --      readVarint bs == the varint at the front of bs, or that there is none
 --        placed at r == what was read at the place `at`, with the place after it

@@ -1,3 +1,5 @@
+-- `lowering::fields::put_fields` meets its contract, by its loop's invariant and laws.
+-- Assumes nothing.
 use Prim.Native.Nat.{_-_}
 use lib.ListN.{length}
 use Rattle.lowering.proofs.FieldLaws.{Numbering, numbering-laws, numbering-optional}
