@@ -13,19 +13,19 @@ use Rattle.field.specs.declared.Field.{Field}
 use Rattle.field.specs.declared.Field.the-variants.{Whole, Cut}
 use Rattle.field.specs.Field.{header, fieldAt}
 
-module _ (s : List ℕ) (at end : ℕ) where
+module _ (s : List ℕ) (at end : ℕ) (k : at ≤ end) where
   pub field-short : end - at < header → Cut ≡ fieldAt s at end
   unfolding fieldAt
-  field-short h = simp (fieldAt, lt-ltb _ _ h)
+  field-short h = simp (fieldAt, lt-ltb end (at + header) (omega arith))
 
   module _ (h : header ≤ end - at) (n : ℕ) (e : n ≡ bigAt 2 s (at + 1)) where
     pub field-cut : end - (at + header) < n → Cut ≡ fieldAt s at end
     unfolding fieldAt
-    field-cut k = simp (fieldAt, le-ltb _ _ h, ← e, lt-ltb _ _ k)
+    field-cut g = simp (fieldAt, le-ltb end (at + header) (omega arith), ← e, lt-ltb end (at + header + n) (omega arith))
 
     pub field-whole : n ≤ end - (at + header) → Whole (getD s at 0) (at + header) (at + header + n) ≡ fieldAt s at end
     unfolding fieldAt
-    field-whole k = simp (fieldAt, le-ltb _ _ h, ← e, le-ltb _ _ k)
+    field-whole g = simp (fieldAt, le-ltb end (at + header) (omega arith), ← e, le-ltb end (at + header + n) (omega arith))
 
 pub ruleset field-laws = (field-short, field-cut, field-whole)
 
@@ -38,12 +38,12 @@ pub record Bounds (at end from to : ℕ) : Type 0 where
 module _ (s : List ℕ) (at end : ℕ) (r : Field) (q : r ≡ fieldAt s at end) (t a e : ℕ) (g : r ≡ Whole t a e) where
   pub field-bounds : Bounds at end a e
   unfolding fieldAt
-  field-bounds = go (ltb (end - at) header) refl (ltb (end - (at + header)) n) refl (sym g ∙ q)
+  field-bounds = go (ltb end (at + header)) refl (ltb end (at + header + n)) refl (sym g ∙ q)
     where
       n : ℕ
       n = bigAt 2 s (at + 1)
 
-      go : (b : Bool) → ltb (end - at) header ≡ b → (b′ : Bool) → ltb (end - (at + header)) n ≡ b′
+      go : (b : Bool) → ltb end (at + header) ≡ b → (b′ : Bool) → ltb end (at + header + n) ≡ b′
           → Whole t a e
           ≡ elim b [ true ↦ Cut | false ↦ elim b′ [ true ↦ Cut | false ↦ Whole (getD s at 0) (at + header) (at + header + n) ] ]
           → Bounds at end a e
@@ -52,8 +52,7 @@ module _ (s : List ℕ) (at end : ℕ) (r : Field) (q : r ≡ fieldAt s at end) 
       go false p false p′ w =
           let x : a ≡ at + header = cc in
           let y : e ≡ at + header + n = cc in
-          let long : header ≤ end - at = ltb-false (end - at) header p in
-          let fits : n ≤ end - (at + header) = ltb-false (end - (at + header)) n p′ in
+          let fits : at + header + n ≤ end = ltb-false end (at + header + n) p′ in
           record { starts = x; ordered = omega arith; inside = omega arith }
 
   pub field-ordered : a ≤ e

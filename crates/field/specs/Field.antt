@@ -6,7 +6,7 @@
 -- Assumes nothing.
 use mathlib.Core.Bool.{true, false}
 use mathlib.Core.List.{List}
-use Prim.Native.Nat.{ℕ, _+_, _-_}
+use Prim.Native.Nat.{ℕ, _+_}
 use lib.Dec.{ltb}
 use lib.ListN.{getD}
 use Rattle.octets.specs.Octets.{bigAt}
@@ -18,9 +18,9 @@ header = 3
 
 unfoldable pub fieldAt : List ℕ → ℕ → ℕ → Field
 fieldAt s at end =
-    elim (ltb (end - at) header) [
+    elim (ltb end (at + header)) [
       | true ↦ Cut
-      | false ↦ elim (ltb (end - (at + header)) (bigAt 2 s (at + 1))) [
+      | false ↦ elim (ltb end (at + header + bigAt 2 s (at + 1))) [
         | true ↦ Cut
         | false ↦ Whole (getD s at 0) (at + header) (at + header + bigAt 2 s (at + 1))
       ]

@@ -12,14 +12,17 @@ pub enum Field {
     Cut,
 }
 
+// The bytes of a field before its payload.
+const HEADER: usize = 3;
+
 pub fn field_at(s: &[u8], at: usize, end: usize) -> Field
     requires { ⌜ (at ≤ end) × (end ≤ length (now s)) ⌝ }
     ensures { λ r. ⌜ r ≡ fieldAt (now (s .entry)) at end ⌝ }
 {
-    if end - at < 3 {
+    if end - at < HEADER {
         return Field::Cut;
     }
-    let from = at + 3;
+    let from = at + HEADER;
     let n = octets::u16_at(s, at + 1);
     if end - from < n {
         return Field::Cut;

@@ -8,7 +8,7 @@
 --      mostVarint == bytes of a varint
 --
 -- Assumes nothing.
-use Prim.Native.Nat.{ℕ}
+use Prim.Native.Nat.{ℕ, _+_}
 
 -- 01, Sheet and request: "Identifiers are 1 to 64 bytes"
 abbrev pub mostIdent : ℕ
@@ -20,7 +20,7 @@ mostPath = 255
 
 -- a scope and a name, joined by a dot
 abbrev pub mostCandidate : ℕ
-mostCandidate = 511
+mostCandidate = mostPath + 1 + mostPath
 
 -- 01, Listing and lowering: "at most 4,096 words a list"
 abbrev pub mostWords : ℕ

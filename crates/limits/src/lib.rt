@@ -7,7 +7,7 @@ pub const MOST_IDENT: usize = 64;
 pub const MOST_PATH: usize = 255;
 
 // A candidate, a scope and a name joined by a dot, has at most so many bytes.
-pub const MOST_CANDIDATE: usize = 511;
+pub const MOST_CANDIDATE: usize = MOST_PATH + 1 + MOST_PATH;
 
 // A list to lower has at most so many words.
 pub const MOST_WORDS: usize = 4096;

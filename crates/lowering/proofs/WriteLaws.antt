@@ -7,7 +7,7 @@ use Prim.Native.Nat.{ℕ, _+_, _≤_, _<_}
 use native.Mathlib.Nat.{zero-add}
 use native.Mathlib.Omega.{arith}
 use lib.ListN.{length, drop, length-append}
-use lib.Seq.{sets, sets-eq, set-out, length-sets}
+use lib.Seq.{sets, sets-eq, length-sets}
 use Rattle.octets.proofs.Overlay.{sets-append}
 use Rattle.reply.specs.declared.Refusal.{Refusal}
 use Rattle.reply.specs.declared.Refusal.the-variants.{NoRoom}
@@ -57,9 +57,6 @@ module _ {A : Type 0} where
     front-done e =
         let q : o ≡ give (k .front) = k .rest ∙ ap (push (k .front)) e ∙ ap give (append-nil (k .front)) in
         record { answer = ap Wrote (sym (k .size)) ∙ sym (ap putOf q); left = λ words p. k .left ∙ ap (sets l 0) (give-inv (sym q ∙ p)) }
-
-  pub put-out : (l : List A) (at : ℕ) (x : A) → length l ≤ at → l ≡ sets l at (x ∷ [])
-  put-out l at x h = sym (set-out l at x h)
 
 -- ---- the public call
 

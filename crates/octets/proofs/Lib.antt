@@ -6,3 +6,4 @@ pub mod Alike
 pub mod SameBytes
 pub mod Big
 pub mod Signs
+pub mod Controls

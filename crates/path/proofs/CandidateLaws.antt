@@ -2,20 +2,22 @@
 -- Assumes nothing.
 use mathlib.Core.Path.{_≡_, refl, sym, ap, _∙_}
 use mathlib.Core.Bool.{Bool, true, false}
-use mathlib.Core.List.{List, [], _++_}
+use mathlib.Core.List.{List, [], _∷_, _++_}
 use Prim.Native.Nat.{ℕ, _+_, _*_, _^_, _-_, _≤_, _<_}
 use native.Mathlib.Numerals.{add-one}
 use native.Mathlib.Omega.{arith}
 use mir.Syntax.{w64}
 use mir.Val.{Fits}
-use lib.ListN.{length, getD, take}
+use lib.ListN.{length, getD, take, length-take}
 use Rattle.limits.specs.Figures.{mostPath, mostCandidate}
 use Rattle.octets.specs.Octets.{Laid}
-use Rattle.path.specs.Path.{components, spell, isAbs, isRelOrEmpty, rootless, ancestors}
+use Rattle.path.specs.Path.{Path, split, components, spell, isAbs, rootless, ancestors}
 use Rattle.path.specs.Candidates.{candidates, candidate}
 use Rattle.path.proofs.AbsLaws.{rootless-length-le}
-use Rattle.path.proofs.PathLaws.{spell-components, components-spell, components-length-le, spell-take-le}
-use Rattle.path.proofs.PathLaws.{spell-append-le, idents-take, rel-idents}
+use Rattle.path.proofs.PathLaws.{spell-components, components-length-le, spell-take-le, split-spell}
+use Rattle.path.proofs.PathLaws.{spell-append-le, components-dotless, dotless-take}
+use Rattle.path.proofs.Pieces.{Dotless}
+use Rattle.path.proofs.JoinLaws.{alone-fits}
 use Rattle.path.proofs.PathLaws.{ancestors-at, candidates-abs, candidates-length-abs, candidates-length-rel, candidate-rel}
 
 -- ---- candidates
@@ -32,23 +34,13 @@ candidates-fit scope h n p = record { fits = omega (arith, components-length-le 
 pub ruleset candidates-laws = (candidates-one, candidates-more, candidates-fit)
 
 -- ---- candidate
-pub rootless-short : (scope name x : List ℕ) → x ≡ rootless name → length scope + length name < 2 ^ 63 → 0 + length x < 2 ^ 64
-rootless-short scope name x p h = rw p (omega (arith, rootless-length-le name))
+pub rootless-short : (name x : List ℕ) → x ≡ rootless name → length name * 1 < 2 ^ 63 → 0 + length x < 2 ^ 64
+rootless-short name x p h = rw p (omega (arith, rootless-length-le name))
 
-module _ (scope : List ℕ) (i : ℕ) (w : i ≤ length (components scope))
-    (x : List ℕ) (p : x ≡ spell (getD (ancestors (components scope)) i [])) where
-  ancestor-text : x ≡ spell (take (length (components scope) - i) (components scope))
-  ancestor-text = p ∙ ap spell (ancestors-at (components scope) i w)
-
-  ancestor-components : isRelOrEmpty scope ≡ true → components x ≡ take (length (components scope) - i) (components scope)
-  ancestor-components v =
-      let k = length (components scope) - i in
-      rw ancestor-text (components-spell (take k (components scope)) (idents-take k (components scope) (rel-idents scope v)))
-
-  pub ancestor-short : (name : List ℕ) → length scope + length name < 2 ^ 63 → length x + length name < 2 ^ 63
-  ancestor-short name h =
-      let shorter = spell-take-le (length (components scope) - i) (components scope) in
-      rw ancestor-text (omega (arith, ap length (spell-components scope)))
+-- a path that is not empty is read back from its text, whatever its names
+split-some : (p : Path) → 0 < length p → Dotless p → split (spell p) ≡ p
+split-some [] h d = absurd (omega arith)
+split-some (n ∷ p) h d = split-spell n p d
 
 module _ (scope name : List ℕ) (i : ℕ) (w : i < length (candidates scope name)) (r : Bool) (q : r ≡ isAbs name) where
   pub candidate-whole : r ≡ true → (x : List ℕ) → x ≡ rootless name
@@ -62,10 +54,22 @@ module _ (scope name : List ℕ) (i : ℕ) (w : i < length (candidates scope nam
     pub candidate-within : i ≤ length (components scope)
     candidate-within = omega (arith, candidates-length-rel scope name (sym q ∙ e))
 
-    pub candidate-joined : isRelOrEmpty scope ≡ true → (x : List ℕ) → x ≡ spell (getD (ancestors (components scope)) i [])
-        → (l l′ : List ℕ) (n : ℕ) → Laid l 0 (spell (components x ++ components name)) l′ n → Laid l 0 (spell (candidate scope name i)) l′ n
-    candidate-joined v x p l l′ n d =
-        rw (candidate-rel scope name (sym q ∙ e) i candidate-within, ← ancestor-components scope i candidate-within x p v) d
+    module _ (k : ℕ) (c : k ≡ length (components scope)) where
+      pub candidate-joined : i < k → (x : List ℕ) → x ≡ spell (getD (ancestors (components scope)) i [])
+          → (l l′ : List ℕ) (n : ℕ) → Laid l 0 (spell (split x ++ components name)) l′ n → Laid l 0 (spell (candidate scope name i)) l′ n
+      candidate-joined h x p l l′ n d =
+          let cs = components scope in
+          let some : 0 < length (take (length cs - i) cs) = rw length-take (omega arith) in
+          let text : split x ≡ take (length cs - i) cs =
+          ap split (p ∙ ap spell (ancestors-at cs i candidate-within))
+          ∙ split-some _ some (dotless-take (length cs - i) cs (components-dotless scope)) in
+          rw (candidate-rel scope name (sym q ∙ e) i candidate-within, ← text) d
+
+      pub candidate-alone : k ≤ i → (l l′ : List ℕ) (n : ℕ) → Laid l 0 name l′ n → Laid l 0 (spell (candidate scope name i)) l′ n
+      candidate-alone h l l′ n d =
+          let cs = components scope in
+          let none : length cs - i ≡ 0 = omega arith in
+          rw (candidate-rel scope name (sym q ∙ e) i candidate-within, none, spell-components name) d
 
 -- a buffer of this size holds every candidate of paths as written
 pub candidate-length-le : (scope name : List ℕ) (i : ℕ) → i < length (candidates scope name)
@@ -86,4 +90,4 @@ candidate-length-le scope name i w h k = go (isAbs name) refl
         let named : length (spell (components name)) ≡ length name = ap length (spell-components name) in
         rw (candidate-rel scope name e i within) (omega (arith, whole, spell-take-le (length cs - i) cs))
 
-pub ruleset candidate-laws = (rootless-short, ancestor-short, candidate-whole, candidate-within, candidate-joined)
+pub ruleset candidate-laws = (rootless-short, alone-fits, candidate-whole, candidate-within, candidate-joined, candidate-alone)

@@ -2,35 +2,51 @@
 -- Assumes nothing.
 use mathlib.Core.Path.{_≡_, refl}
 use mathlib.Core.List.{List, [], _∷_, _++_, append-nil}
-use Prim.Native.Nat.{ℕ, _+_}
+use Prim.Native.Nat.{ℕ, _+_, _*_, _^_, _<_}
+use native.Mathlib.Omega.{arith}
+use mir.Syntax.{w64}
+use mir.Val.{Fits}
 use lib.ListN.{length}
 use lib.Seq.{sets}
 use Rattle.octets.specs.Octets.{Laid}
 use Rattle.octets.proofs.Overlay.{laid-append}
-use Rattle.path.specs.Path.{dot, components, spell}
-use Rattle.path.proofs.PathLaws.{spell-components, components-nil, components-append}
+use Rattle.path.specs.Path.{dot, split, components, spell}
+use Rattle.path.proofs.PathLaws.{spell-components, spell-split, split-append, components-nil, components-split}
 
 module _ (a b : List ℕ) where
-  spell-second : length a ≡ 0 → spell (components a ++ components b) ≡ b
-  spell-second h = rw (components-nil a h) (spell-components b)
+  spell-alone : length b ≡ 0 → spell (split a ++ components b) ≡ a
+  spell-alone h = rw (components-nil b h, append-nil) (spell-split a)
 
-  spell-first : length b ≡ 0 → spell (components a ++ components b) ≡ a
-  spell-first h = rw (components-nil b h, append-nil) (spell-components a)
-
-  spell-both : (length a ≡ 0 → ⊥) → (length b ≡ 0 → ⊥) → spell (components a ++ components b) ≡ a ++ dot ∷ b
-  spell-both h k = rw (← (components-append a b h k)) (spell-components (a ++ dot ∷ b))
+  spell-both : (length b ≡ 0 → ⊥) → spell (split a ++ components b) ≡ a ++ dot ∷ b
+  spell-both k = rw (components-split b k, ← (split-append a b)) (spell-split (a ++ dot ∷ b))
 
   module _ (l l′ : List ℕ) (r : ℕ) where
-    pub append-second : length a ≡ 0 → Laid l 0 b l′ r → Laid l 0 (spell (components a ++ components b)) l′ r
-    append-second h p = rw (spell-second h) p
+    pub join-alone : length b ≡ 0 → Laid l 0 a l′ r → Laid l 0 (spell (split a ++ components b)) l′ r
+    join-alone h p = rw (spell-alone h) p
 
-    pub append-first : length b ≡ 0 → Laid l 0 a l′ r → Laid l 0 (spell (components a ++ components b)) l′ r
-    append-first h p = rw (spell-first h) p
-
-    pub append-both : (length a ≡ 0 → ⊥) → (length b ≡ 0 → ⊥) → (m : List ℕ) (n : ℕ) → Laid l 0 a m n
-        → (m′ : List ℕ) → m′ ≡ sets m n (dot ∷ []) → Laid m′ (n + 1) b l′ r → Laid l 0 (spell (components a ++ components b)) l′ r
-    append-both h k m n p m′ e q =
+    pub join-both : (length b ≡ 0 → ⊥) → (m : List ℕ) (n : ℕ) → Laid l 0 a m n
+        → (m′ : List ℕ) → m′ ≡ sets m n (dot ∷ []) → Laid m′ (n + 1) b l′ r → Laid l 0 (spell (split a ++ components b)) l′ r
+    join-both k m n p m′ e q =
         let point : Laid m n (dot ∷ []) m′ (n + 1) = record { next = refl; left = e } in
-        rw (spell-both h k) (laid-append a (dot ∷ b) p (laid-append (dot ∷ []) b point q))
+        rw (spell-both k) (laid-append a (dot ∷ b) p (laid-append (dot ∷ []) b point q))
 
-pub ruleset append-laws = (append-second, append-first, append-both)
+    pub append-second : length a ≡ 0 → Laid l 0 b l′ r → Laid l 0 (spell (components a ++ components b)) l′ r
+    append-second h p = rw (components-nil a h, spell-components b) p
+
+    pub append-join : (length a ≡ 0 → ⊥) → Laid l 0 (spell (split a ++ components b)) l′ r
+        → Laid l 0 (spell (components a ++ components b)) l′ r
+    append-join h p = rw (components-split a h) p
+
+pub laid-next : (l a l′ : List ℕ) (n : ℕ) → Laid l 0 a l′ n → n ≡ 0 + length a
+laid-next l a l′ n p = p .next
+
+pub join-fits : (l a b l′ : List ℕ) (n : ℕ) → length a * 1 < 2 ^ 63 → length b * 1 < 2 ^ 63 → Laid l 0 a l′ n → n + 1 + length b < 2 ^ 64
+join-fits l a b l′ n h k p = omega (arith, p .next)
+
+pub point-fits : (l a l′ : List ℕ) (n : ℕ) → length a * 1 < 2 ^ 63 → Laid l 0 a l′ n → Fits w64 (n + 1)
+point-fits l a l′ n h p = record { fits = omega (arith, p .next) }
+
+pub alone-fits : (b : List ℕ) → length b * 1 < 2 ^ 63 → 0 + length b < 2 ^ 64
+alone-fits b h = omega arith
+
+pub ruleset append-laws = (append-second, append-join, join-alone, join-both, join-fits, point-fits, alone-fits)

@@ -97,7 +97,7 @@ spell-append-le (n ∷ []) [] = omega arith
 spell-append-le (n ∷ []) (m ∷ q) = simp length-append (omega arith)
 spell-append-le (n ∷ m ∷ p) q = simp length-append (omega (arith, spell-append-le (m ∷ p) q))
 
-split-spell : (n : Name) (p : Path) → Dotless (n ∷ p) → split (spell (n ∷ p)) ≡ n ∷ p
+pub split-spell : (n : Name) (p : Path) → Dotless (n ∷ p) → split (spell (n ∷ p)) ≡ n ∷ p
 unfolding spell
 split-spell n [] (more e d) = split-dotless n e
 split-spell n (m ∷ p) (more e d) = split-append n (spell (m ∷ p)) ∙ rw (split-dotless n e, split-spell m p d)

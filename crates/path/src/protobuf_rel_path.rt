@@ -1,7 +1,7 @@
 // Relative paths: identifiers joined by dots, with no leading dot.
 ghost use mathlib.Core.Path.{_≡_};
 ghost use mathlib.Core.List.{[], _++_};
-ghost use Prim.Native.Nat.{_+_, _^_, _≤_, _<_};
+ghost use Prim.Native.Nat.{_+_, _≤_};
 ghost use lib.ListN.{length, drop, take, getD};
 ghost use Rattle.octets.specs.Octets.{Laid};
 ghost use Rattle.path.specs.Path.{untilDot, split, components, spell, allIdent, isRelPath, isRelOrEmpty, parent, ancestors};
@@ -117,18 +117,24 @@ pub fn ancestor(s: &[u8], i: usize) -> &[u8]
     &s[..end]
 }
 
-// The text of one path followed by another, in a lent buffer as far as that reaches, and its length.
-pub fn append(a: &[u8], b: &[u8], out: &mut [u8]) -> usize
-    requires { ⌜ length (now a) + length (now b) < 2 ^ 63 ⌝ }
-    ensures { λ r. ⌜ Laid (now (out .entry)) 0 (spell (components (now (a .entry)) ++ components (now (b .entry)))) (now (out .exit)) r ⌝ }
+// The text of a path that is not empty, followed by another, in a lent buffer as far as that reaches, and its length.
+pub fn join(a: &[u8], b: &[u8], out: &mut [u8]) -> usize
+    ensures { λ r. ⌜ Laid (now (out .entry)) 0 (spell (split (now (a .entry)) ++ components (now (b .entry)))) (now (out .exit)) r ⌝ }
 {
-    if a.len() == 0 {
-        return octets::put_all(out, 0, b);
-    }
     let n = octets::put_all(out, 0, a);
     if b.len() == 0 {
         return n;
     }
     octets::put(out, n, b'.');
     octets::put_all(out, n + 1, b)
+}
+
+// The text of one path followed by another, in a lent buffer as far as that reaches, and its length.
+pub fn append(a: &[u8], b: &[u8], out: &mut [u8]) -> usize
+    ensures { λ r. ⌜ Laid (now (out .entry)) 0 (spell (components (now (a .entry)) ++ components (now (b .entry)))) (now (out .exit)) r ⌝ }
+{
+    if a.len() == 0 {
+        return octets::put_all(out, 0, b);
+    }
+    join(a, b, out)
 }

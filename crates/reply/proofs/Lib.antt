@@ -1,3 +1,4 @@
 pub mod Rows
 pub mod Spelling
 pub mod Outcomes
+pub mod Controls

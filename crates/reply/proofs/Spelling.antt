@@ -6,7 +6,6 @@ use mathlib.Core.List.{List, [], _∷_}
 use Prim.Native.Nat.{ℕ, _+_, _≤_, _<_}
 use native.Mathlib.Omega.{arith}
 use native.Mathlib.Numerals.{add-one}
-use borrow.Author.Tests.{ne-eqb}
 use lib.Dec.{eqb}
 use lib.ListN.{length, getD, set, take, length-set}
 use lib.Seq.{take-suc, take-suc-set, take-all}
@@ -91,24 +90,77 @@ refusal-back WireMismatch = refl
 pub row-unique : (v w : Refusal) → number v ≡ number w → second v ≡ second w → v ≡ w
 row-unique v w p q = sym (refusal-back v) ∙ ap₂ refusalAt p q ∙ refusal-back w
 
--- ---- the ways through `name_of`: l is the text t, for the number n and the second word s
+-- ---- the ways to a name: l is the text t, for the number n and the second word s
+
+-- the refusal v has them
 module _ (n s : ℕ) (l t : List ℕ) (e : l ≡ t) where
-  named-by : t ≡ name (refusalAt n s) → NameOf n s l
-  named-by a = record { is = λ w p q. e ∙ a ∙ ap name (ap₂ refusalAt p q ∙ refusal-back w) }
+  named-by : (v : Refusal) → n ≡ number v → s ≡ second v → t ≡ name v → NameOf n s l
+  named-by v p q a =
+      record { is = λ w p′ q′. e ∙ a ∙ ap name (row-unique v w (sym p ∙ p′) (sym q ∙ q′)); none = λ h. absurd (h v p q) }
 
-  -- a number that one refusal alone has
-  pub name-at : (k : ℕ) → n ≡ k → t ≡ name (refusalAt k s) → NameOf n s l
-  name-at k g a = named-by (a ∙ sym (ap (λ x. name (refusalAt x s)) g))
+  pub name-at : (k : ℕ) → n ≡ k → k ≡ number (refusalAt k s) → s ≡ second (refusalAt k s) → t ≡ name (refusalAt k s) → NameOf n s l
+  name-at k g p q a = named-by (refusalAt k s) (g ∙ p) q a
 
-  pub name-first : (k : ℕ) → n ≡ k → (s ≡ 1 → ⊥) → t ≡ name (refusalAt k 0) → NameOf n s l
-  name-first k g h a = name-at k g (a ∙ simp (ne-eqb s 1 h))
+  pub name-second : s ≡ 1 → n ≡ 10 → t ≡ name BuiltinOptionPointsToNonSingularField → NameOf n s l
+  name-second q p a = named-by BuiltinOptionPointsToNonSingularField p q a
 
-  pub name-second : (k : ℕ) → n ≡ k → s ≡ 1 → t ≡ name (refusalAt k 1) → NameOf n s l
-  name-second k g h a = name-at k g (a ∙ sym (ap (λ x. name (refusalAt k x)) h))
+  -- no refusal has them
+  no-name : t ≡ [] → ((w : Refusal) → n ≡ number w → s ≡ second w → ⊥) → NameOf n s l
+  no-name a h = record { is = λ w p q. absurd (h w p q); none = λ _. e ∙ a }
+
+  pub name-over : t ≡ [] → (s ≡ 0 → ⊥) → (s ≡ 1 → ⊥) → NameOf n s l
+  name-over a z o = no-name a (λ w p q. go w q)
+    where
+      go : (w : Refusal) → s ≡ second w → ⊥
+      go BadSheet = z
+      go BadRequest = z
+      go BeyondLimit = z
+      go ExtensionNotFound = z
+      go WrongExtensionType = z
+      go ExtensionIsNotMessage = z
+      go MessageNotFound = z
+      go MessageFoundMoreThanOnce = z
+      go UnknownFieldName = z
+      go BuiltinOptionNotFound = z
+      go BuiltinOptionPointsToNonSingularField = o
+      go MessageFieldRequiresMessageConstant = z
+      go UnsupportedExtensionType = z
+      go UnknownEnumValue = z
+      go ValueRange = z
+      go StrLitDecodeError = z
+      go RangeEnd = z
+      go NoRoom = z
+      go BadBytes = z
+      go WireMismatch = z
+
+  pub name-apart : t ≡ [] → (s ≡ 0 → ⊥) → (n ≡ 10 → ⊥) → NameOf n s l
+  name-apart a z o = no-name a go
+    where
+      go : (w : Refusal) → n ≡ number w → s ≡ second w → ⊥
+      go BadSheet p q = z q
+      go BadRequest p q = z q
+      go BeyondLimit p q = z q
+      go ExtensionNotFound p q = z q
+      go WrongExtensionType p q = z q
+      go ExtensionIsNotMessage p q = z q
+      go MessageNotFound p q = z q
+      go MessageFoundMoreThanOnce p q = z q
+      go UnknownFieldName p q = z q
+      go BuiltinOptionNotFound p q = z q
+      go BuiltinOptionPointsToNonSingularField p q = o p
+      go MessageFieldRequiresMessageConstant p q = z q
+      go UnsupportedExtensionType p q = z q
+      go UnknownEnumValue p q = z q
+      go ValueRange p q = z q
+      go StrLitDecodeError p q = z q
+      go RangeEnd p q = z q
+      go NoRoom p q = z q
+      go BadBytes p q = z q
+      go WireMismatch p q = z q
 
 -- no refusal has the number n
 module _
-    (n s : ℕ) (l : List ℕ)
+    (n s : ℕ) (l t : List ℕ) (e : l ≡ t) (a : t ≡ [])
     (h1 : n ≡ 1 → ⊥) (h2 : n ≡ 2 → ⊥) (h3 : n ≡ 3 → ⊥) (h4 : n ≡ 4 → ⊥) (h5 : n ≡ 5 → ⊥)
     (h6 : n ≡ 6 → ⊥) (h7 : n ≡ 7 → ⊥) (h8 : n ≡ 8 → ⊥) (h9 : n ≡ 9 → ⊥) (h10 : n ≡ 10 → ⊥)
     (h11 : n ≡ 11 → ⊥) (h12 : n ≡ 12 → ⊥) (h13 : n ≡ 13 → ⊥) (h14 : n ≡ 14 → ⊥) (h15 : n ≡ 15 → ⊥)
@@ -136,6 +188,12 @@ module _
   in-no-row WireMismatch = h19
 
   pub name-none : NameOf n s l
-  name-none = record { is = λ w p q. absurd (in-no-row w p) }
+  name-none = no-name n s l t e a (λ w p q. in-no-row w p)
 
-pub ruleset name-laws = (name-at, name-first, name-second, name-none)
+-- the second word is 0
+pub name-first : (n s : ℕ) (l : List ℕ) → s ≡ 0 → NameOf n 0 l → NameOf n s l
+name-first n s l e h = rw e h
+
+pub ruleset name-laws = (name-at, name-none)
+
+pub ruleset second-name-laws = (name-first, name-second, name-over, name-apart)

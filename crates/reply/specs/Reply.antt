@@ -7,7 +7,7 @@
 --         name w ==  the bytes of its name
 --       mostName ==  the bytes that the array of a name has
 --       textOf n ==  the bytes of a name that the code has made
---   NameOf n s t <-> t is the name of the refusal that has the number n and the second word s
+--   NameOf n s t <-> t is the name of the refusal that has the number n and the second word s, empty where there is none
 --    refusedBy w ==  the answer of a refusal
 --     doneWith n ==  the answer of a call that wrote n elements
 --   absentAnswer ==  the answer Absent
@@ -76,6 +76,7 @@ textOf n = take (n .length) (n .bytes)
 
 pub record NameOf (n s : ℕ) (t : List ℕ) : Type 0 where
   pub is : (w : Refusal) → n ≡ number w → s ≡ second w → t ≡ name w
+  pub none : ((w : Refusal) → n ≡ number w → s ≡ second w → ⊥) → t ≡ []ᴸ
 
 -- 01, Replies: "Refusals write nothing and return zero length"
 abbrev pub refusedBy : Refusal → Answer

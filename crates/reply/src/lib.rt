@@ -133,9 +133,9 @@ fn spelled(text: &[u8]) -> Name
     }
 }
 
-// The name of the refusal that has this number and this second word.
-pub fn name_of(reply: u32, second: u32) -> Name
-    ensures is { λ r. ⌜ NameOf reply second (textOf r) ⌝ }
+// The name of the refusal that has this number and the second word 0, empty where there is none.
+fn first_name(reply: u32) -> Name
+    ensures is { λ r. ⌜ NameOf reply 0 (textOf r) ⌝ }
     ensures within { λ r. ⌜ r .length ≤ mostName ⌝ }
 {
     match reply {
@@ -148,13 +148,7 @@ pub fn name_of(reply: u32, second: u32) -> Name
         7 => spelled(b"MessageNotFound"),
         8 => spelled(b"MessageFoundMoreThanOnce"),
         9 => spelled(b"UnknownFieldName"),
-        10 => {
-            if second == 1 {
-                spelled(b"BuiltinOptionPointsToNonSingularField")
-            } else {
-                spelled(b"BuiltinOptionNotFound")
-            }
-        }
+        10 => spelled(b"BuiltinOptionNotFound"),
         11 => spelled(b"MessageFieldRequiresMessageConstant"),
         12 => spelled(b"UnsupportedExtensionType"),
         13 => spelled(b"UnknownEnumValue"),
@@ -166,4 +160,21 @@ pub fn name_of(reply: u32, second: u32) -> Name
         19 => spelled(b"WireMismatch"),
         _ => spelled(b""),
     }
+}
+
+// The name of the refusal that has this number and this second word, empty where there is none.
+pub fn name_of(reply: u32, second: u32) -> Name
+    ensures is { λ r. ⌜ NameOf reply second (textOf r) ⌝ }
+    ensures within { λ r. ⌜ r .length ≤ mostName ⌝ }
+{
+    if second == 0 {
+        return first_name(reply);
+    }
+    if second != 1 {
+        return spelled(b"");
+    }
+    if reply != 10 {
+        return spelled(b"");
+    }
+    spelled(b"BuiltinOptionPointsToNonSingularField")
 }

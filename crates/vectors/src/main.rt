@@ -2,6 +2,7 @@
 mod encoding;
 mod lowerings;
 mod names;
+mod replies;
 
 ghost use Prim.Native.Nat.{_≤_};
 use console::output::number;
@@ -29,14 +30,13 @@ fn begins(s: &[u8], n: usize, want: &[u8]) -> bool {
 }
 
 fn main() {
-    let held = encoding::varints()
+    let leaves = encoding::varints()
         + encoding::zigzags()
         + encoding::records()
         + encoding::texts()
-        + encoding::rounded()
-        + lowerings::ranges()
-        + lowerings::fields()
-        + names::paths();
+        + encoding::rounded();
+    let calls = lowerings::ranges() + lowerings::fields() + names::paths() + replies::refusals();
+    let held = leaves + calls;
     number(held as u64);
     text(b" held\n");
 }

@@ -3,24 +3,14 @@ ghost use Prim.Native.Nat.{_≤_};
 use crate::begins;
 use crate::told;
 use limits::MOST_CANDIDATE;
-use limits::MOST_PATH;
 use path::protobuf_path::candidate;
 use path::protobuf_path::candidates;
-use path::protobuf_rel_path::is_rel_or_empty;
 
 // Whether the i-th candidate of a name in a scope is this one; a candidate is put together in a lent buffer.
 fn spelled(scope: &[u8], name: &[u8], i: usize, out: &mut [u8], want: &[u8]) -> bool {
-    if MOST_PATH < scope.len() {
-        return false;
-    }
-    if MOST_PATH < name.len() {
-        return false;
-    }
     if i < candidates(scope, name) {
-        if is_rel_or_empty(scope) {
-            let n = candidate(scope, name, i, out);
-            return begins(out, n, want);
-        }
+        let n = candidate(scope, name, i, out);
+        return begins(out, n, want);
     }
     false
 }

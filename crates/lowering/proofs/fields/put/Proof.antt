@@ -1,6 +1,6 @@
 -- `lowering::fields::put` meets its contract.
 -- Assumes nothing.
-use Rattle.lowering.proofs.WriteLaws.{put-out}
+use Rattle.octets.proofs.Overlay.{put-out}
 use borrow.Author.Needs.{needs}
 use Rattle.lowering.proofs.fields.put.Statement.{statement}
 use Rattle.lowering.proofs.fields.put.Tie as tie

@@ -1,4 +1,4 @@
--- `protobuf_path::candidate` meets its contract.
+-- `path::protobuf_path::candidate` meets its contract.
 -- Assumes nothing.
 use Rattle.path.proofs.CandidateLaws.{candidate-laws}
 use borrow.Author.Needs.{needs}
@@ -13,6 +13,10 @@ candidate-spec = tie.close (tie.spec
     (λ c. search (needs, candidate-laws))
     (λ c. search (needs, candidate-laws))
     (λ c κs. search (needs, candidate-laws))
+    (λ c κs. search (needs, candidate-laws))
+    (λ c κs. search (needs, candidate-laws))
+    (λ c. search (needs, candidate-laws))
+    (λ c. search (needs, candidate-laws))
     (λ c κs. search (needs, candidate-laws))
     (λ c. search (needs, candidate-laws))
     (λ c. search (needs, candidate-laws)))

@@ -1,5 +1,6 @@
--- `protobuf_rel_path::append` meets its contract.
+-- `path::protobuf_rel_path::append` meets its contract.
 -- Assumes nothing.
+use Rattle.path.proofs.JoinLaws.{append-laws}
 use Rattle.path.proofs.JoinLaws.{append-laws}
 use borrow.Author.Needs.{needs}
 use Rattle.path.proofs.protobuf_rel_path.append.Statement.{statement}
@@ -9,11 +10,6 @@ pub append-spec : {M : Type 1} → statement M
 append-spec = tie.close (tie.spec
     (λ c κs. search (needs, append-laws))
     (λ c. search (needs, append-laws))
-    (λ c. search (needs, append-laws))
-    (λ c κs. search (needs, append-laws))
-    (λ c. search (needs, append-laws))
-    (λ c. search (needs, append-laws))
-    (λ c κs. search (needs, append-laws))
     (λ c. search (needs, append-laws))
     (λ c κs. search (needs, append-laws))
     (λ c. search (needs, append-laws))
