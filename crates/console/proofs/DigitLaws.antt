@@ -24,21 +24,21 @@ module _ (c : ℕ) where
     pub figure-low : 48 ≤ c
     figure-low = within 48 57 c e .low
 
-    pub figure-most : c - 48 ≤ 17
+    pub figure-most : c - 48 ≤ other
     figure-most = omega (arith, within 48 57 c e .high)
 
   module _ (e : (leb 65 c && leb c 70) ≡ true) where
     pub upper-low : 65 ≤ c
     upper-low = within 65 70 c e .low
 
-    pub upper-most : c - 65 + 10 ≤ 17
+    pub upper-most : c - 65 + 10 ≤ other
     upper-most = omega (arith, within 65 70 c e .high)
 
   module _ (e : (leb 97 c && leb c 102) ≡ true) where
     pub lower-low : 97 ≤ c
     lower-low = within 97 102 c e .low
 
-    pub lower-most : c - 97 + 10 ≤ 17
+    pub lower-most : c - 97 + 10 ≤ other
     lower-most = omega (arith, within 97 102 c e .high)
 
 -- ---- what a byte stands for

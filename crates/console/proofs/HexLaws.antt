@@ -129,7 +129,7 @@ module _ (t l m : List ℕ) (half n i : ℕ) (u : Spelling t l m half n i) where
       spelling-blank q = held half (u .small) (unhex-blank i half _ _ d e a q)
 
       module _ (b : d ≡ blank → ⊥) where
-        pub spelling-first : d ≤ 17 → half ≡ blank → Spelling t l m d n (i + 1)
+        pub spelling-first : d ≤ other → half ≡ blank → Spelling t l m d n (i + 1)
         spelling-first k q = held d (omega arith) (unhex-first i half _ _ d e a b q)
 
         pub spelling-second : (half ≡ blank → ⊥) → (l′ : List ℕ) → l′ ≡ sets m n ((half * 16 + d) ∷ [])

@@ -1,7 +1,7 @@
 // Hexadecimal text, two digits a byte, either case; blanks and line ends are passed over.
 ghost use mathlib.Core.Path.{_≡_};
 ghost use Prim.Native.Nat.{_≤_};
-ghost use Rattle.console.specs.Hex.{digitOf, Decodes};
+ghost use Rattle.console.specs.Hex.{other, digitOf, Decodes};
 
 // What a text comes to.
 pub enum Decoded {
@@ -19,7 +19,7 @@ const BLANK: u8 = 16;
 const OTHER: u8 = 17;
 
 fn digit_of(b: u8) -> u8
-    ensures { λ r. ⌜ (r ≡ digitOf b) × (r ≤ 17) ⌝ }
+    ensures { λ r. ⌜ (r ≡ digitOf b) × (r ≤ other) ⌝ }
 {
     if (b'0' <= b) & (b <= b'9') {
         return b - b'0';

@@ -1,21 +1,22 @@
 // The fields that a program is given. Where the input is not what the program names, one line that begins `input: ` says what is
 // wrong and where, and nothing else is printed.
 ghost use mathlib.Core.Path.{_≡_};
-ghost use Prim.Native.Nat.{_-_, _≤_};
+ghost use Prim.Native.Nat.{_-_, _%_, _≤_};
 ghost use lib.Dec.{eqb};
 ghost use lib.ListN.{length};
-ghost use Rattle.console.specs.Input.{Fills, Lies};
+ghost use Rattle.field.specs.Field.{fieldAt};
+ghost use Rattle.console.specs.Input.{Fills, payloadOf};
 use crate::hex::Decoded;
 use crate::hex::decode;
 use crate::output::number;
 use crate::output::text;
 use field::Field;
 
-// A program's input has at most so many bytes, which a text below MOST_TEXT never passes.
-pub const MOST_BYTES: usize = 131_072;
+// A program's input has at most so many bytes: a sheet and a request, each a field of 65,535 bytes with its header of 3.
+pub const MOST_BYTES: usize = 131_076;
 
-// The text that is read, one byte more than is taken.
-const MOST_TEXT: usize = 262_144;
+// The text that is read, one byte more than is taken. The digits of MOST_BYTES bytes are 262,152; the rest is for blanks.
+const MOST_TEXT: usize = 524_288;
 
 pub enum Input {
     // So many bytes of the buffer.
@@ -78,7 +79,7 @@ pub enum Payload {
 // The field at a place, which has to have this tag.
 pub fn field_of(s: &[u8], at: usize, tag: u8) -> Payload
     requires { ⌜ at ≤ length (now s) ⌝ }
-    ensures { λ r. ⌜ Lies r at (length (now (s .entry))) ⌝ }
+    ensures { λ r. ⌜ r ≡ payloadOf tag (fieldAt (now (s .entry)) at (length (now (s .entry)))) ⌝ }
 {
     if at == s.len() {
         place(at);
@@ -110,7 +111,9 @@ pub fn field_of(s: &[u8], at: usize, tag: u8) -> Payload
 }
 
 // Whether the input ends at a place.
-pub fn ends(s: &[u8], at: usize) -> bool {
+pub fn ends(s: &[u8], at: usize) -> bool
+    ensures { λ r. ⌜ r ≡ eqb at (length (now (s .entry))) ⌝ }
+{
     if at == s.len() {
         return true;
     }
@@ -137,6 +140,7 @@ pub fn has_size(tag: u8, from: usize, to: usize, size: usize) -> bool
 // Whether a payload is a whole number of words of 4 bytes; if not, that is said.
 pub fn has_words(tag: u8, from: usize, to: usize) -> bool
     requires { ⌜ from ≤ to ⌝ }
+    ensures { λ r. ⌜ r ≡ eqb ((to - from) % 4) 0 ⌝ }
 {
     if (to - from) % 4 == 0 {
         return true;

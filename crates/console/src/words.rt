@@ -10,7 +10,7 @@ ghost use Rattle.console.specs.Words.{Filled};
 use crate::least;
 
 // A payload, of 65,535 bytes at the most, has no more words.
-pub const MOST_PAYLOAD: usize = 16_384;
+pub const MOST_PAYLOAD_WORDS: usize = 16_384;
 
 // The words of a payload, in a lent buffer as far as that reaches, and how many they are.
 pub fn words_of(payload: &[u8], out: &mut [u32]) -> usize

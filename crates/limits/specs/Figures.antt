@@ -4,6 +4,7 @@
 --        mostPath == bytes of a path as written
 --   mostCandidate == bytes of a candidate's text
 --       mostWords == words of a list to lower
+--        mostType == the largest number of a type
 --      mostNumber == the largest field number
 --      mostVarint == bytes of a varint
 --
@@ -25,6 +26,10 @@ mostCandidate = mostPath + 1 + mostPath
 -- 01, Listing and lowering: "at most 4,096 words a list"
 abbrev pub mostWords : ℕ
 mostWords = 4096
+
+-- 01, Sheet and request: "Types 1 to 18 .. are descriptor.proto's"
+abbrev pub mostType : ℕ
+mostType = 18
 
 -- 01, Sheet and request: "Field numbers are 1 to 536,870,911"
 abbrev pub mostNumber : ℕ

@@ -12,6 +12,9 @@ pub const MOST_CANDIDATE: usize = MOST_PATH + 1 + MOST_PATH;
 // A list to lower has at most so many words.
 pub const MOST_WORDS: usize = 4096;
 
+// Types are 1 to this one.
+pub const MOST_TYPE: usize = 18;
+
 // Field numbers are 1 to this one.
 pub const MOST_NUMBER: u64 = 536_870_911;
 

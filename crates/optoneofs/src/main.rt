@@ -2,13 +2,13 @@
 use console::input::Input;
 use console::input::MOST_BYTES;
 use console::input::Payload;
-use console::words::MOST_PAYLOAD;
+use console::words::MOST_PAYLOAD_WORDS;
 use limits::MOST_WORDS;
 
 const WORDS: u8 = 0x49;
 
 fn lower(payload: &[u8]) {
-    let mut words = [0u32; MOST_PAYLOAD];
+    let mut words = [0u32; MOST_PAYLOAD_WORDS];
     let n = console::words::words_of(payload, &mut words);
     let mut out = [0u32; MOST_WORDS];
     let a = lowering::lower_fields(&words[..n], &mut out);

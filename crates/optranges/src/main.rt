@@ -2,7 +2,7 @@
 use console::input::Input;
 use console::input::MOST_BYTES;
 use console::input::Payload;
-use console::words::MOST_PAYLOAD;
+use console::words::MOST_PAYLOAD_WORDS;
 use limits::MOST_WORDS;
 
 const KIND: u8 = 0x47;
@@ -10,7 +10,7 @@ const KIND: u8 = 0x47;
 const WORDS: u8 = 0x48;
 
 fn lower(kind: u32, payload: &[u8]) {
-    let mut words = [0i32; MOST_PAYLOAD];
+    let mut words = [0i32; MOST_PAYLOAD_WORDS];
     let n = console::words::signed_words_of(payload, &mut words);
     let mut out = [0i32; MOST_WORDS];
     let a = lowering::lower_ranges(kind, &words[..n], &mut out);

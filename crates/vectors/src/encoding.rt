@@ -1,10 +1,14 @@
 // The protobuf encoding document: varints, zigzag, and whole records; RFC 3629's examples of UTF-8.
 ghost use Prim.Native.Nat.{_≤_};
+ghost use Rattle.limits.specs.Figures.{mostType};
 use crate::begins;
 use crate::told;
 use wire::numbers::unzigzag;
 use wire::numbers::zigzag;
 use wire::tag::tag_of;
+use wire::types::TYPE_INT32;
+use wire::types::TYPE_MESSAGE;
+use wire::types::TYPE_STRING;
 use wire::types::wire_of;
 use wire::utf8::is_utf8;
 use wire::varint::Read;
@@ -67,15 +71,9 @@ pub fn zigzags() -> usize
         )
 }
 
-const INT32: usize = 5;
-
-const STRING: usize = 9;
-
-const MESSAGE: usize = 11;
-
 // A record of a number at the front, and where it ends.
 fn put_number(out: &mut [u8], field: u32, v: u64) -> usize {
-    let body = put_varint(out, 0, tag_of(field, wire_of(INT32)));
+    let body = put_varint(out, 0, tag_of(field, wire_of(TYPE_INT32)));
     if MOST < body {
         return 0;
     }
@@ -84,7 +82,7 @@ fn put_number(out: &mut [u8], field: u32, v: u64) -> usize {
 
 // A record of bytes, of a string or a message, at the front, and where it ends.
 fn put_bytes(out: &mut [u8], field: u32, kind: usize, payload: &[u8]) -> usize
-    requires { ⌜ kind ≤ 18 ⌝ }
+    requires { ⌜ (1 ≤ kind) × (kind ≤ mostType) ⌝ }
 {
     if MOST < payload.len() {
         return 0;
@@ -108,9 +106,9 @@ pub fn records() -> usize
     let mut number = [0u8; MOST];
     let n = put_number(&mut number, 1, 150);
     let mut string = [0u8; MOST];
-    let m = put_bytes(&mut string, 2, STRING, b"testing");
+    let m = put_bytes(&mut string, 2, TYPE_STRING, b"testing");
     let mut message = [0u8; MOST];
-    let k = put_bytes(&mut message, 3, MESSAGE, &inside);
+    let k = put_bytes(&mut message, 3, TYPE_MESSAGE, &inside);
     told(b"field 1, 150 is 08 96 01", begins(&number, n, &inside))
         + told(
             b"field 2, testing is 12 07 and the bytes",

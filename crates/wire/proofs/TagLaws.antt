@@ -1,14 +1,14 @@
 -- Tags: a number and a wire type are read back from their tag, and a good tag is one of a field number and a wire type that is read.
 -- Assumes nothing.
 use mathlib.Core.Path.{_≡_, sym, _∙_}
-use mathlib.Core.Bool.{Bool, true, false, _&&_, _||_, false≢true, and-eq-true-iff}
+use mathlib.Core.Bool.{true, false, _&&_, false≢true, and-eq-true-iff}
 use Prim.Native.Nat.{ℕ, _≤_, _<_}
 use native.Mathlib.Decide.{decLt}
 use native.Mathlib.Omega.{arith}
 use lib.Dec.{leb, eqb}
 use borrow.Author.Tests.{le-leb, leb-true, ne-eqb}
 use Rattle.limits.specs.Figures.{mostNumber}
-use Rattle.wire.specs.Tag.{tagOf, numberOf, wireTypeOf, tagGood}
+use Rattle.wire.specs.Tag.{tagOf, numberOf, wireTypeOf, wireRead, tagGood}
 
 pub number-of-tag-of : (n w : ℕ) → w < 8 → numberOf (tagOf n w) ≡ n
 number-of-tag-of n w h = omega arith
@@ -18,10 +18,6 @@ wire-type-of-tag-of n w h = omega arith
 
 pub tag-of-parts : (t : ℕ) → tagOf (numberOf t) (wireTypeOf t) ≡ t
 tag-of-parts t = omega arith
-
--- a wire type that is read
-abbrev pub wireRead : ℕ → Bool
-wireRead w = eqb w 0 || eqb w 1 || eqb w 2 || eqb w 5
 
 module _ (w : ℕ) (h : 8 ≤ w) where
   eqb-below : (x : ℕ) → x < 8 → eqb w x ≡ false

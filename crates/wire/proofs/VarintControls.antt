@@ -5,7 +5,7 @@ use mathlib.Core.Bool.{true, false}
 use mathlib.Core.List.{List, [], _∷_}
 use Prim.Native.Nat.{ℕ, _-_, _^_}
 use Rattle.wire.specs.declared.varint.Read.the-variants.{Varint, Bad}
-use Rattle.wire.specs.Varint.{varintWithin, varint, readWithin, readVarint, placed}
+use Rattle.wire.specs.Varint.{varintWithin, varint, readWithin, readVarint, placed, varintAt}
 use Rattle.wire.specs.Tag.{tagOf, numberOf, wireTypeOf, tagGood}
 use Rattle.wire.specs.Fixed.{littleOf, little}
 
@@ -53,6 +53,11 @@ read-cut = (refl, refl, refl)
 
 placed-next : (placed 7 (Varint 150 2) ≡ Varint 150 9) × (placed 7 Bad ≡ Bad)
 placed-next = (refl, refl)
+
+-- between two places: up to the second, and cut by it
+at-between : (varintAt (0x01 ∷ 0x96 ∷ 0x01 ∷ 0x02 ∷ []) 1 3 ≡ Varint 150 3) × (varintAt (0x01 ∷ 0x96 ∷ 0x01 ∷ 0x02 ∷ []) 1 2 ≡ Bad)
+unfolding varintAt readVarint readWithin
+at-between = (refl, refl)
 
 -- ---- tags
 

@@ -1,17 +1,18 @@
--- Varints: what was written is read back, and the written form is the shortest that reads as its value.
+-- Varints: what was written is read back, the written form is the shortest that reads as its value, and what is read has its bounds.
 -- Assumes nothing.
-use mathlib.Core.Path.{_≡_, refl, _∙_}
+use mathlib.Core.Path.{_≡_, refl, sym, subst, _∙_}
 use mathlib.Core.List.{List, [], _∷_, _++_}
 use Prim.Native.Nat.{ℕ, zero, suc, _+_, _-_, _*_, _/_, _%_, _^_, _≤_, _<_}
-use native.Mathlib.Nat.{div-lt-iff-lt-mul, pow-suc, one-le-pow}
+use native.Mathlib.Nat.{div-lt-iff-lt-mul, pow-suc, one-le-pow, le-trans, min-le-left}
 use native.Mathlib.Decide.{decLt}
 use native.Mathlib.Omega.{arith}
-use lib.ListN.{length}
+use lib.ListN.{length, drop, length-take}
 use borrow.Author.Tests.{lt-ltb, le-ltb}
 use Rattle.limits.specs.Figures.{mostVarint}
+use Rattle.octets.specs.Octets.{part}
 use Rattle.wire.specs.declared.varint.Read.{Read}
 use Rattle.wire.specs.declared.varint.Read.the-variants.{Varint, Bad}
-use Rattle.wire.specs.Varint.{varintWithin, varint, onto, readWithin, readVarint}
+use Rattle.wire.specs.Varint.{varintWithin, varint, onto, readWithin, readVarint, placed, varintAt}
 use Rattle.octets.proofs.Bytes.{Bytes, bytes-one, bytes-cons}
 
 -- ---- the definitions as equations
@@ -204,3 +205,39 @@ module _ (bs : List ℕ) (v n : ℕ) (e : readVarint bs ≡ Varint v n) where
   pub varint-shortest : length (varint v) ≤ n
   unfolding varint
   varint-shortest = reads-shortest varint-reads
+
+-- ---- what `varint_at` gives its callers: the place after a varint, and how large the value is
+record Bounds (at end v next : ℕ) : Type 0 where
+  pub after : at < next
+  pub inside : next ≤ end
+  pub small : v < 2 ^ 64
+
+abbrev Bounded : ℕ → ℕ → Read → Type 0
+Bounded at end (Varint v next) = Bounds at end v next
+Bounded at end Bad = Unit {0}
+
+part-length-le : (s : List ℕ) (at end : ℕ) → length (part s at end) ≤ end - at
+part-length-le s at end = rw (length-take (end - at) (drop at s)) (min-le-left (end - at) (length (drop at s)))
+
+placed-bounded : (s : List ℕ) (at end : ℕ) (r : Read) → readVarint (part s at end) ≡ r → Bounded at end (placed at r)
+placed-bounded s at end (Varint v n) e =
+    let some = read-some (part s at end) v n e in
+    let few : n ≤ end - at = le-trans (read-inside (part s at end) v n e) (part-length-le s at end) in
+    record { after = omega arith; inside = omega arith; small = read-small (part s at end) v n e }
+placed-bounded s at end Bad e = tt
+
+module _ (s : List ℕ) (at end : ℕ) (r : Read) (p : r ≡ varintAt s at end) (v next : ℕ) (q : r ≡ Varint v next) where
+  bounds : Bounds at end v next
+  unfolding varintAt
+  bounds = subst (Bounded at end) (sym p ∙ q) (placed-bounded s at end (readVarint (part s at end)) refl)
+
+  pub varint-after : at < next
+  varint-after = bounds .after
+
+  pub varint-inside : next ≤ end
+  varint-inside = bounds .inside
+
+  pub varint-value : v < 2 ^ 64
+  varint-value = bounds .small
+
+pub ruleset varint-bounds = (varint-after, varint-inside, varint-value)

@@ -14,7 +14,7 @@ use Rattle.limits.specs.Figures.{mostVarint}
 use Rattle.octets.specs.Octets.{part}
 use Rattle.wire.specs.declared.varint.Read.{Read}
 use Rattle.wire.specs.declared.varint.Read.the-variants.{Varint, Bad}
-use Rattle.wire.specs.Varint.{onto, readWithin, readVarint, placed}
+use Rattle.wire.specs.Varint.{onto, readWithin, readVarint, varintAt}
 use Rattle.octets.proofs.Parts.{part-nil, part-cons}
 use Rattle.wire.proofs.VarintLaws.{read-last, read-over, read-one, read-more}
 
@@ -103,28 +103,30 @@ module _ (value scale more : ℕ) (k : Scaled value scale more) where
         record { room = scale-next scale more (k .room) n; small = omega arith }
 
 module _ (s : List ℕ) (at end value scale more i : ℕ) (k : Reading s at end value scale more i) where
-  pub reading-end : end ≤ i → Bad ≡ placed at (readVarint (part s at end))
-  unfolding readWithin
+  pub reading-end : end ≤ i → Bad ≡ varintAt s at end
+  unfolding varintAt readWithin
   reading-end h = rw (k .rest, part-nil s i end h)
 
   module _ (h : i < end) (b : ℕ) (e : b ≡ getD s i 0) where
     head : part s i end ≡ b ∷ part s (suc i) end
     head = part-cons s i end h (k .inside) ∙ rw e
 
-    got : readWithin more (part s i end) ≡ Varint b 1 → Varint (value + b * scale) (i + 1) ≡ placed at (readVarint (part s at end))
+    got : readWithin more (part s i end) ≡ Varint b 1 → Varint (value + b * scale) (i + 1) ≡ varintAt s at end
+    unfolding varintAt
     got q = rw (k .rest, q) (ap₂ Varint (ap (λ (x : ℕ). value + x) (mul-comm b scale)) (omega (arith, k .from)))
 
-    pub reading-last : more ≡ 0 → b < 2 → Varint (value + b * scale) (i + 1) ≡ placed at (readVarint (part s at end))
+    pub reading-last : more ≡ 0 → b < 2 → Varint (value + b * scale) (i + 1) ≡ varintAt s at end
     reading-last z g = got (rw (head, z) (read-last b (part s (suc i) end) g))
 
-    pub reading-over : more ≡ 0 → 2 ≤ b → Bad ≡ placed at (readVarint (part s at end))
+    pub reading-over : more ≡ 0 → 2 ≤ b → Bad ≡ varintAt s at end
+    unfolding varintAt
     reading-over z g = rw (k .rest, head, z, read-over b (part s (suc i) end) g)
 
     module _ (n : more ≡ 0 → ⊥) where
       one-fewer : readWithin more (part s i end) ≡ readWithin (suc (more - 1)) (b ∷ part s (suc i) end)
       one-fewer = ap₂ readWithin (omega arith) head
 
-      pub reading-one : b < 128 → Varint (value + b * scale) (i + 1) ≡ placed at (readVarint (part s at end))
+      pub reading-one : b < 128 → Varint (value + b * scale) (i + 1) ≡ varintAt s at end
       reading-one g = got (one-fewer ∙ read-one b (part s (suc i) end) (more - 1) g)
 
       module _ (g : 128 ≤ b) where

@@ -3,6 +3,7 @@
 --      tagOf n w ==  the tag of a field number and a wire type
 --     numberOf t ==  the field number of a tag
 --   wireTypeOf t ==  the wire type of a tag
+--     wireRead w <=> a wire type that is read: VARINT, I64, LEN or I32
 --      tagGood t <=> a tag that 01 takes: a field number in its range, and a wire type that is read
 --
 -- Assumes nothing.
@@ -10,6 +11,7 @@ use mathlib.Core.Bool.{Bool, _&&_, _||_}
 use Prim.Native.Nat.{ℕ, _+_, _*_, _/_, _%_}
 use lib.Dec.{leb, eqb}
 use Rattle.limits.specs.Figures.{mostNumber}
+use Rattle.wire.specs.Types.{VARINT, I64, LEN, I32}
 
 abbrev pub tagOf : ℕ → ℕ → ℕ
 tagOf n w = n * 8 + w
@@ -21,8 +23,8 @@ abbrev pub wireTypeOf : ℕ → ℕ
 wireTypeOf t = t % 8
 
 -- 01, Listing: "Wire types 3, 4, 6, 7, a number outside the range above, .. are 18"
+abbrev pub wireRead : ℕ → Bool
+wireRead w = eqb w VARINT || eqb w I64 || eqb w LEN || eqb w I32
+
 unfoldable pub tagGood : ℕ → Bool
-tagGood t =
-    leb 1 (numberOf t)
-    && leb (numberOf t) mostNumber
-    && (eqb (wireTypeOf t) 0 || eqb (wireTypeOf t) 1 || eqb (wireTypeOf t) 2 || eqb (wireTypeOf t) 5)
+tagGood t = leb 1 (numberOf t) && leb (numberOf t) mostNumber && wireRead (wireTypeOf t)

@@ -1,12 +1,13 @@
 -- Varints, from Encoding, "Base 128 Varints": seven bits a byte, the lowest group first, the top bit set on every byte but the last;
 -- ten bytes at the most, which hold 64 bits.
 --
---   varintWithin k v == the shortest varint of v, where k bytes at the most follow its first
---           varint v == the shortest varint of v
---           onto b r == a byte b with its top bit set, in front of what r is
---    readWithin k bs == the varint at the front of bs, where k bytes at the most follow its first: its value and how many bytes it has
---      readVarint bs == the varint at the front of bs, or that there is none
---        placed at r == what was read at the place `at`, with the place after it
+--    varintWithin k v == the shortest varint of v, where k bytes at the most follow its first
+--            varint v == the shortest varint of v
+--            onto b r == a byte b with its top bit set, in front of what r is
+--     readWithin k bs == the varint at the front of bs, where k bytes at the most follow its first: its value and how many bytes it has
+--       readVarint bs == the varint at the front of bs, or that there is none
+--         placed at r == what was read at the place `at`, with the place after it
+--   varintAt s at end == the varint of s between two places that starts at the first, with the place after it
 --
 -- Assumes nothing.
 use mathlib.Core.Bool.{true, false}
@@ -14,6 +15,7 @@ use mathlib.Core.List.{List, [], _∷_}
 use Prim.Native.Nat.{ℕ, zero, suc, _+_, _-_, _*_, _/_, _%_}
 use lib.Dec.{ltb}
 use Rattle.limits.specs.Figures.{mostVarint}
+use Rattle.octets.specs.Octets.{part}
 use Rattle.wire.specs.declared.varint.Read.{Read}
 use Rattle.wire.specs.declared.varint.Read.the-variants.{Varint, Bad}
 
@@ -41,3 +43,6 @@ readVarint bs = readWithin (mostVarint - 1) bs
 abbrev pub placed : ℕ → Read → Read
 placed at (Varint v n) = Varint v (at + n)
 placed at Bad = Bad
+
+unfoldable pub varintAt : List ℕ → ℕ → ℕ → Read
+varintAt s at end = placed at (readVarint (part s at end))

@@ -2,6 +2,10 @@
 ghost use mathlib.Core.Path.{_≡_};
 ghost use Prim.Native.Nat.{_<_};
 ghost use Rattle.wire.specs.Tag.{tagOf, numberOf, wireTypeOf, tagGood as tagGoodOf};
+use crate::types::I32;
+use crate::types::I64;
+use crate::types::LEN;
+use crate::types::VARINT;
 use limits::MOST_NUMBER;
 
 // The tag of a field number and a wire type.
@@ -32,5 +36,5 @@ pub fn tag_good(tag: u64) -> bool
     let number = number_of(tag);
     let wire = wire_type_of(tag);
     ((1 <= number) & (number <= MOST_NUMBER))
-        & ((wire == 0) | (wire == 1) | (wire == 2) | (wire == 5))
+        & ((wire == VARINT) | (wire == I64) | (wire == LEN) | (wire == I32))
 }

@@ -3,8 +3,8 @@ ghost use mathlib.Core.Path.{_≡_};
 ghost use Prim.Native.Nat.{_^_, _≤_, _<_};
 ghost use lib.ListN.{length};
 ghost use Rattle.limits.specs.Figures.{mostVarint};
-ghost use Rattle.octets.specs.Octets.{part, Laid};
-ghost use Rattle.wire.specs.Varint.{varint as varintOf, readVarint, placed};
+ghost use Rattle.octets.specs.Octets.{Laid};
+ghost use Rattle.wire.specs.Varint.{varint as varintOf, varintAt};
 use limits::MOST_VARINT;
 
 // What reading a varint gives.
@@ -47,7 +47,7 @@ pub fn put_varint(out: &mut [u8], at: usize, v: u64) -> usize
 // The varint between two places that starts at the first.
 pub fn varint_at(s: &[u8], at: usize, end: usize) -> Read
     requires { ⌜ (at ≤ end) × (end ≤ length (now s)) ⌝ }
-    ensures { λ r. ⌜ r ≡ placed at (readVarint (part (now (s .entry)) at end)) ⌝ }
+    ensures { λ r. ⌜ r ≡ varintAt (now (s .entry)) at end ⌝ }
 {
     let mut value: u64 = 0;
     let mut scale: u64 = 1;
