@@ -101,7 +101,7 @@ written : map spell ([] ∷ (a ∷ []) ∷ (a ∷ b ∷ []) ∷ []) ≡ [] ∷ a
 unfolding spell
 written = refl
 
--- the path of one empty name is not read back: why a scope has to be a path of identifiers, or empty
+-- the path of one empty name is not read back from its text: why a candidate is put together by counting components
 lost : components (spell ([] ∷ [])) ≡ []
 unfolding components spell
 lost = refl
@@ -142,3 +142,8 @@ absolute = refl
 empty-scope : candidates [] rank ≡ (rank ∷ []) ∷ []
 unfolding candidates ancestors components split onFirst isAbs
 empty-scope = refl
+
+-- a scope that is no path: two empty names, one, none
+odd-scope : map spell (candidates (dot ∷ []) a) ≡ (dot ∷ dot ∷ a) ∷ (dot ∷ a) ∷ a ∷ []
+unfolding candidates ancestors components split onFirst isAbs spell
+odd-scope = refl
