@@ -4,3 +4,4 @@ pub mod InputLaws
 pub mod OutputLaws
 pub mod Controls
 pub mod WordLaws
+pub mod GlyphLaws

@@ -2,6 +2,7 @@
 --
 --       blank, other ==  what digitOf gives for a blank or a line end, and for a byte that is no such thing and no digit
 --          digitOf c ==  the value of a digit, or one of these
+--          glyphOf d ==  the digit of a number below 16
 --            Spelled ==  what a text spells: bytes, or why it spells none
 --          front b d ==  a byte in front of what d spells
 --   unhex at half cs ==  what the text cs, which begins at the place `at`, spells after the first digit `half` of a byte, or after none
@@ -13,7 +14,7 @@ use mathlib.Core.Path.{_≡_}
 use mathlib.Core.Bool.{true, false, _&&_, _||_}
 use mathlib.Core.List.{List, [], _∷_}
 use Prim.Native.Nat.{ℕ, suc, _+_, _-_, _*_}
-use lib.Dec.{leb, eqb}
+use lib.Dec.{leb, ltb, eqb}
 use lib.ListN.{length}
 use lib.Seq.{sets}
 use Rattle.console.specs.declared.hex.Decoded.{Decoded}
@@ -38,6 +39,10 @@ digitOf c =
         ]
       ]
     ]
+
+-- in upper case
+unfoldable pub glyphOf : ℕ → ℕ
+glyphOf d = elim (ltb d 10) [ true ↦ 48 + d | false ↦ 55 + d ]
 
 -- what a text spells
 pub data Spelled : Type 0 where

@@ -1,7 +1,7 @@
 // Hexadecimal text, two digits a byte, either case; blanks and line ends are passed over.
 ghost use mathlib.Core.Path.{_≡_};
-ghost use Prim.Native.Nat.{_≤_};
-ghost use Rattle.console.specs.Hex.{other, digitOf, Decodes};
+ghost use Prim.Native.Nat.{_≤_, _<_};
+ghost use Rattle.console.specs.Hex.{other, digitOf, glyphOf, Decodes};
 
 // What a text comes to.
 pub enum Decoded {
@@ -64,4 +64,12 @@ pub fn decode(text: &[u8], out: &mut [u8]) -> Decoded
         return Decoded::Bytes(n);
     }
     Decoded::HalfByte
+}
+
+// The digit of a number below 16, in upper case.
+pub fn glyph(d: u8) -> u8
+    requires { ⌜ d < 16 ⌝ }
+    ensures { λ r. ⌜ r ≡ glyphOf d ⌝ }
+{
+    if d < 10 { b'0' + d } else { b'A' - 10 + d }
 }

@@ -8,6 +8,7 @@ ghost use Rattle.field.specs.Field.{fieldAt};
 ghost use Rattle.console.specs.Input.{Fills, payloadOf};
 use crate::hex::Decoded;
 use crate::hex::decode;
+use crate::output::hex_byte;
 use crate::output::number;
 use crate::output::text;
 use field::Field;
@@ -84,7 +85,7 @@ pub fn field_of(s: &[u8], at: usize, tag: u8) -> Payload
     if at == s.len() {
         place(at);
         text(b": the input ends, where a field of tag ");
-        two_digits(tag);
+        hex_byte(tag);
         text(b" is due\n");
         return Payload::Wrong;
     }
@@ -101,9 +102,9 @@ pub fn field_of(s: &[u8], at: usize, tag: u8) -> Payload
     if found != tag {
         place(at);
         text(b": a field of tag ");
-        two_digits(found);
+        hex_byte(found);
         text(b", where tag ");
-        two_digits(tag);
+        hex_byte(tag);
         text(b" is due\n");
         return Payload::Wrong;
     }
@@ -156,7 +157,7 @@ fn payload_has(tag: u8, from: usize, to: usize)
 {
     place(from);
     text(b": the payload of tag ");
-    two_digits(tag);
+    hex_byte(tag);
     text(b" has length ");
     number((to - from) as u64);
 }
@@ -165,8 +166,4 @@ fn payload_has(tag: u8, from: usize, to: usize)
 fn place(at: usize) {
     text(b"input: byte ");
     number(at as u64);
-}
-
-fn two_digits(b: u8) {
-    io::print_hex(1, b as u64, 2);
 }

@@ -1,6 +1,7 @@
 // The lines that programs print.
 ghost use mathlib.Core.Path.{_≡_};
 ghost use lib.IntN.{natAbs};
+use crate::hex::glyph;
 use crate::least;
 use reply::Answer;
 
@@ -20,6 +21,21 @@ fn size(n: i32) -> u64
         return (-1 - n) as u64 + 1;
     }
     n as u64
+}
+
+// A byte as two hexadecimal digits.
+pub fn hex_byte(b: u8) {
+    let pair = [glyph(b / 16), glyph(b % 16)];
+    text(&pair);
+}
+
+// Bytes as hexadecimal digits, two a byte, with nothing between them.
+pub fn hex(bytes: &[u8]) {
+    let mut i = 0;
+    while i < bytes.len() {
+        hex_byte(bytes[i]);
+        i += 1;
+    }
 }
 
 // A signed number.

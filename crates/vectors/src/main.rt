@@ -5,6 +5,7 @@ mod names;
 mod replies;
 
 ghost use Prim.Native.Nat.{_≤_};
+use console::output::hex;
 use console::output::number;
 use console::output::text;
 
@@ -37,6 +38,9 @@ fn main() {
         + encoding::rounded();
     let calls = lowerings::ranges() + lowerings::fields() + names::paths() + replies::refusals();
     let held = leaves + calls;
+    text(b"printed ");
+    hex(&[0x12, 0x07, 0x9a, 0xbc, 0xde, 0xf0]);
+    text(b"\n");
     number(held as u64);
     text(b" held\n");
 }
