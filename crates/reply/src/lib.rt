@@ -109,7 +109,7 @@ pub fn absent() -> Answer
 // The longest name has 37 bytes.
 const MOST_NAME: usize = 40;
 
-// A name as bytes, the rest of the array 0.
+// A name: the first `length` of the bytes. No contract says what the others are.
 pub struct Name {
     pub bytes: [u8; MOST_NAME],
     pub length: usize,

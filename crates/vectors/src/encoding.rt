@@ -120,7 +120,7 @@ pub fn records() -> usize
         )
 }
 
-// RFC 3629, section 7, and the refusals that its section 10 warns of.
+// RFC 3629: examples of section 7, and forms that sections 3 and 10 warn of.
 pub fn texts() -> usize
     ensures { λ r. ⌜ r ≤ 5 ⌝ }
 {
