@@ -1,2 +1,6 @@
 pub mod FieldLaws
+pub mod WalkLaws
+pub mod LeafLaws
+pub mod Rest
+pub mod EachLaws
 pub mod Controls

@@ -1,1 +1,4 @@
 pub mod Field
+pub mod Walk
+pub mod Leaf
+pub mod Each

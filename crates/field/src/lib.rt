@@ -1,8 +1,9 @@
-// One field of a sheet or a request: a tag (1 byte), a length (2 bytes, the higher first), a payload.
+// The fields of a sheet or a request: a tag (1 byte), a length (2 bytes, the higher first), a payload.
 ghost use mathlib.Core.Path.{_≡_};
 ghost use Prim.Native.Nat.{_≤_};
 ghost use lib.ListN.{length};
 ghost use Rattle.field.specs.Field.{fieldAt};
+ghost use Rattle.field.specs.Leaf.{leafAt, anyBytes, ofSize};
 
 // What stands at a place.
 pub enum Field {
@@ -10,6 +11,19 @@ pub enum Field {
     Whole { tag: u8, from: usize, to: usize },
     // A header that is cut, or a length that runs past the end.
     Cut,
+}
+
+// A part of the bytes: those from a place up to another.
+pub struct Span {
+    pub from: usize,
+    pub to: usize,
+}
+
+// What is wanted at a place: a whole field of one tag whose payload passes a test.
+pub enum Leaf {
+    // The payload is from..to, and the next field starts at `to`.
+    At { from: usize, to: usize },
+    Not,
 }
 
 // The bytes of a field before its payload.
@@ -32,4 +46,37 @@ pub fn field_at(s: &[u8], at: usize, end: usize) -> Field
         from: from,
         to: from + n,
     }
+}
+
+// A field of this tag, with any payload.
+pub fn leaf_at(s: &[u8], at: usize, end: usize, tag: u8) -> Leaf
+    requires { ⌜ (at ≤ end) × (end ≤ length (now s)) ⌝ }
+    ensures { λ r. ⌜ r ≡ leafAt tag anyBytes (now (s .entry)) at end ⌝ }
+{
+    let Field::Whole {
+        tag: found,
+        from,
+        to,
+    } = field_at(s, at, end)
+    else {
+        return Leaf::Not;
+    };
+    if found != tag {
+        return Leaf::Not;
+    }
+    Leaf::At { from: from, to: to }
+}
+
+// A field of this tag whose payload has this length.
+pub fn sized_at(s: &[u8], at: usize, end: usize, tag: u8, size: usize) -> Leaf
+    requires { ⌜ (at ≤ end) × (end ≤ length (now s)) ⌝ }
+    ensures { λ r. ⌜ r ≡ leafAt tag (ofSize size) (now (s .entry)) at end ⌝ }
+{
+    let Leaf::At { from, to } = leaf_at(s, at, end, tag) else {
+        return Leaf::Not;
+    };
+    if to - from != size {
+        return Leaf::Not;
+    }
+    Leaf::At { from: from, to: to }
 }

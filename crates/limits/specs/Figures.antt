@@ -7,6 +7,15 @@
 --        mostType == the largest number of a type
 --      mostNumber == the largest field number
 --      mostVarint == bytes of a varint
+--       mostSheet == bytes of a sheet
+--       mostFiles == files of a sheet
+--    mostMessages == how deep messages are nested
+--       mostLabel == the largest number of a label
+--     mostRequest == bytes of a request
+--     mostOptions == options of a request
+--       mostParts == parts of an option's name
+--   mostConstants == how deep constants are nested
+--         mostUrl == bytes of a type URL
 --
 -- Assumes nothing.
 use Prim.Native.Nat.{ℕ, _+_}
@@ -38,3 +47,34 @@ mostNumber = 536870911
 -- Encoding, "Base 128 Varints": up to ten bytes hold the 64 bits
 abbrev pub mostVarint : ℕ
 mostVarint = 10
+
+-- 01, Sheet and request, "Most allowed: sheet 32,768 bytes, 8 files, messages 16 deep"; "The outermost message or constant is depth 1"
+abbrev pub mostSheet : ℕ
+mostSheet = 32768
+
+abbrev pub mostFiles : ℕ
+mostFiles = 8
+
+abbrev pub mostMessages : ℕ
+mostMessages = 16
+
+-- 01, Sheet and request: "labels 1 to 3 are descriptor.proto's"
+abbrev pub mostLabel : ℕ
+mostLabel = 3
+
+-- "request 8,192 bytes, at most 128 options in a request, 16 parts a name, constants of any kind nested 16 deep"
+abbrev pub mostRequest : ℕ
+mostRequest = 8192
+
+abbrev pub mostOptions : ℕ
+mostOptions = 128
+
+abbrev pub mostParts : ℕ
+mostParts = 16
+
+abbrev pub mostConstants : ℕ
+mostConstants = 16
+
+-- 01, Sheet and request: "29 type URL of 1 to 255 bytes"
+abbrev pub mostUrl : ℕ
+mostUrl = 255

@@ -20,3 +20,30 @@ pub const MOST_NUMBER: u64 = 536_870_911;
 
 // A varint has at most so many bytes.
 pub const MOST_VARINT: usize = 10;
+
+// A sheet has at most so many bytes.
+pub const MOST_SHEET: usize = 32_768;
+
+// A sheet has at most so many files.
+pub const MOST_FILES: usize = 8;
+
+// Messages are nested at most so deep, the outermost counted.
+pub const MOST_MESSAGES: usize = 16;
+
+// Labels are 1 to this one.
+pub const MOST_LABEL: usize = 3;
+
+// A request has at most so many bytes.
+pub const MOST_REQUEST: usize = 8_192;
+
+// A request has at most so many options.
+pub const MOST_OPTIONS: usize = 128;
+
+// An option's name has at most so many parts.
+pub const MOST_PARTS: usize = 16;
+
+// Constants of any kind are nested at most so deep, the outermost counted.
+pub const MOST_CONSTANTS: usize = 16;
+
+// A type URL has at most so many bytes.
+pub const MOST_URL: usize = 255;

@@ -1,4 +1,5 @@
 pub mod Rows
 pub mod Spelling
 pub mod Outcomes
+pub mod VerdictLaws
 pub mod Controls

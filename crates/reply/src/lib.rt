@@ -4,6 +4,7 @@ ghost use Prim.Native.Nat.{_≤_};
 ghost use lib.ListN.{length};
 ghost use Rattle.reply.specs.Reply.{number as numberOf, second as secondOf, refusedBy, doneWith, absentAnswer};
 ghost use Rattle.reply.specs.Reply.{NameOf, mostName, textOf};
+ghost use Rattle.reply.specs.Verdicts.{judged};
 
 // Why a call is refused, by the names of 01 and of protobuf-parse's OptionResolverError.
 pub enum Refusal {
@@ -27,6 +28,12 @@ pub enum Refusal {
     NoRoom,
     BadBytes,
     WireMismatch,
+}
+
+// What a test of form says of its bytes.
+pub enum Verdict {
+    Fine,
+    Refused(Refusal),
 }
 
 // What every public call returns: the reply's number, its second word, 1 for Absent, and how much was written to the lent memory.
@@ -66,6 +73,17 @@ impl Refusal {
             Refusal::BadBytes => Row(18, 0),
             Refusal::WireMismatch => Row(19, 0),
         }
+    }
+}
+
+// Fine where the test holds.
+pub fn judge(holds: bool, why: Refusal) -> Verdict
+    ensures { λ r. ⌜ r ≡ judged why holds ⌝ }
+{
+    if holds {
+        Verdict::Fine
+    } else {
+        Verdict::Refused(why)
     }
 }
 

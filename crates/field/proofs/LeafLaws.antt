@@ -1,0 +1,122 @@
+-- The laws of `leafAt`: the ways through the functions that look for a leaf, whatever its test, and where a leaf lies.
+-- Assumes nothing.
+use mathlib.Core.Path.{_≡_, refl, sym, _∙_}
+use mathlib.Core.Bool.{Bool, true, false, _&&_}
+use mathlib.Core.List.{List}
+use Prim.Native.Nat.{ℕ, _+_, _-_, _≤_, _<_}
+use native.Mathlib.Omega.{arith}
+use borrow.Author.Tests.{eq-eqb, ne-eqb}
+use lib.Dec.{eqb}
+use lib.ListN.{length, drop, length-take, length-drop}
+use Rattle.octets.specs.Octets.{part}
+use Rattle.field.specs.declared.Field.{Field}
+use Rattle.field.specs.declared.Field.the-variants.{Whole, Cut}
+use Rattle.field.specs.declared.Leaf.{Leaf}
+use Rattle.field.specs.declared.Leaf.the-variants.{At, Not}
+use Rattle.field.specs.Field.{fieldAt}
+use Rattle.field.specs.Leaf.{anyBytes, ofSize, onlyIf, leafOf, leafAt}
+use Rattle.field.proofs.FieldLaws.{Bounds, field-bounds}
+
+-- ---- from the field
+module _ (k : ℕ) (s : List ℕ) (at end : ℕ) (r : Field) (q : r ≡ fieldAt s at end) where
+  pub leaf-cut : r ≡ Cut → Not ≡ leafAt k anyBytes s at end
+  unfolding leafAt
+  leaf-cut g = rw (← q, g)
+
+  module _ (t a e : ℕ) (g : r ≡ Whole t a e) where
+    pub leaf-other : (t ≡ k → ⊥) → Not ≡ leafAt k anyBytes s at end
+    unfolding leafAt
+    leaf-other n = rw (← q, g) (simp (leafOf, ne-eqb t k n))
+
+    pub leaf-any : t ≡ k → At a e ≡ leafAt k anyBytes s at end
+    unfolding leafAt
+    leaf-any n = rw (← q, g) (simp (leafOf, eq-eqb t k n))
+
+-- ---- where a leaf lies
+leaf-inv : (k : ℕ) (good : List ℕ → Bool) (s : List ℕ) (at end a e : ℕ) (f : Field) → f ≡ fieldAt s at end
+    → At a e ≡ leafOf k good s f → Bounds at end a e
+leaf-inv k good s at end a e Cut q p = absurd (let z : _≡_ {A = ℕ} 0 1 = cc in omega arith)
+leaf-inv k good s at end a e (Whole t n m) q p = go (eqb t k) (good (part s n m)) p
+  where
+    go : (b b′ : Bool) → At a e ≡ onlyIf (b && b′) (At n m) → Bounds at end a e
+    go false b′ p = absurd (let z : _≡_ {A = ℕ} 0 1 = cc in omega arith)
+    go true false p = absurd (let z : _≡_ {A = ℕ} 0 1 = cc in omega arith)
+    go true true p =
+        let x : a ≡ n = cc in
+        let y : e ≡ m = cc in
+        rw (x, y) (field-bounds s at end (Whole t n m) q t n m refl)
+
+module _ (k : ℕ) (good : List ℕ → Bool) (s : List ℕ) (at end : ℕ) (r : Leaf) (q : r ≡ leafAt k good s at end) (a e : ℕ) (g : r ≡ At a e) where
+  pub leaf-bounds : Bounds at end a e
+  unfolding leafAt
+  leaf-bounds = leaf-inv k good s at end a e (fieldAt s at end) refl (sym g ∙ q)
+
+  pub leaf-ordered : a ≤ e
+  leaf-ordered = leaf-bounds .ordered
+
+  pub leaf-inside : e ≤ end
+  leaf-inside = leaf-bounds .inside
+
+  pub leaf-within : end ≤ length s → e ≤ length s
+  leaf-within h = omega (arith, leaf-bounds .inside)
+
+pub ruleset leaf-places = (leaf-ordered, leaf-inside, leaf-within)
+
+-- ---- from a leaf with any payload to one that passes a test
+module _ (k : ℕ) (good : List ℕ → Bool) (s : List ℕ) (at end : ℕ) where
+  any-other : (f : Field) → Not ≡ leafOf k anyBytes s f → Not ≡ leafOf k good s f
+  any-other Cut p = refl
+  any-other (Whole t a e) p = go (eqb t k) (good (part s a e)) p
+    where
+      go : (b b′ : Bool) → Not ≡ onlyIf (b && true) (At a e) → Not ≡ onlyIf (b && b′) (At a e)
+      go true b′ p = absurd (let z : _≡_ {A = ℕ} 0 1 = cc in omega arith)
+      go false b′ p = refl
+
+  any-same : (f : Field) (a e : ℕ) → At a e ≡ leafOf k anyBytes s f → (b : Bool) → b ≡ good (part s a e)
+      → leafOf k good s f ≡ onlyIf b (At a e)
+  any-same Cut a e p b x = absurd (let z : _≡_ {A = ℕ} 0 1 = cc in omega arith)
+  any-same (Whole t n m) a e p b x = go (eqb t k) p
+    where
+      go : (c : Bool) → At a e ≡ onlyIf (c && true) (At n m) → onlyIf (c && good (part s n m)) (At n m) ≡ onlyIf b (At a e)
+      go false p = absurd (let z : _≡_ {A = ℕ} 0 1 = cc in omega arith)
+      go true p =
+          let u : a ≡ n = cc in
+          let v : e ≡ m = cc in
+          rw (x, u, v)
+
+  module _ (r : Leaf) (q : r ≡ leafAt k anyBytes s at end) where
+    pub leaf-none : r ≡ Not → Not ≡ leafAt k good s at end
+    unfolding leafAt
+    leaf-none g = any-other (fieldAt s at end) (sym g ∙ q)
+
+    module _ (a e : ℕ) (g : r ≡ At a e) (b : Bool) (x : b ≡ good (part s a e)) where
+      leaf-open : leafAt k good s at end ≡ onlyIf b (At a e)
+      unfolding leafAt
+      leaf-open = any-same (fieldAt s at end) a e (sym g ∙ q) b x
+
+      pub leaf-bad : b ≡ false → Not ≡ leafAt k good s at end
+      leaf-bad y = rw (leaf-open, y)
+
+      pub leaf-good : b ≡ true → At a e ≡ leafAt k good s at end
+      leaf-good y = rw (leaf-open, y)
+
+pub ruleset leaf-test-laws = (leaf-none, leaf-bad, leaf-good, leaf-places)
+
+-- ---- the length of a payload
+module _ (k : ℕ) (s : List ℕ) (at end : ℕ) (r : Leaf) (q : r ≡ leafAt k anyBytes s at end) (a e n : ℕ) (g : r ≡ At a e) (h : end ≤ length s) where
+  part-length : length (part s a e) ≡ e - a
+  part-length =
+      let o : a ≤ e = leaf-ordered k anyBytes s at end r q a e g in
+      let i : e ≤ length s = leaf-within k anyBytes s at end r q a e g h in
+      let d : length (drop a s) ≡ length s - a = length-drop a s in
+      length-take (e - a) (drop a s) ∙ omega arith
+
+  pub size-other : (e - a ≡ n → ⊥) → Not ≡ leafAt k (ofSize n) s at end
+  size-other x = leaf-bad k (ofSize n) s at end r q a e g false (rw (part-length) (sym (ne-eqb (e - a) n x))) refl
+
+  pub size-same : e - a ≡ n → At a e ≡ leafAt k (ofSize n) s at end
+  size-same x = leaf-good k (ofSize n) s at end r q a e g true (rw (part-length) (sym (eq-eqb (e - a) n x))) refl
+
+pub ruleset leaf-any-laws = (leaf-cut, leaf-other, leaf-any)
+
+pub ruleset sized-laws = (leaf-none, size-other, size-same, leaf-ordered)

@@ -1,0 +1,57 @@
+-- The laws of `walk`: the list of fields opens at its first, and no law after these speaks of fuel.
+-- Assumes nothing.
+use mathlib.Core.Path.{_≡_, refl, sym, ap, _∙_}
+use mathlib.Core.Bool.{Bool, true, false}
+use mathlib.Core.List.{List}
+use Prim.Native.Nat.{ℕ, zero, suc, _+_, _-_, _≤_, _<_}
+use native.Mathlib.Omega.{arith}
+use borrow.Author.Tests.{lt-ltb, le-ltb, ltb-true}
+use lib.Dec.{ltb}
+use Rattle.field.specs.declared.Field.{Field}
+use Rattle.field.specs.declared.Field.the-variants.{Whole, Cut}
+use Rattle.field.specs.Field.{header, fieldAt}
+use Rattle.field.specs.Walk.{Walk, done, cut, step, follow, walkFor, walk}
+use Rattle.field.proofs.FieldLaws.{Bounds, field-bounds}
+
+module _ (s : List ℕ) (end : ℕ) where
+  fuel-follow : (n m at : ℕ) → at < end → end - at ≤ suc n → end - at ≤ suc m
+      → ((e : ℕ) → end - e ≤ n → end - e ≤ m → walkFor n s e end ≡ walkFor m s e end)
+      → (f : Field) → f ≡ fieldAt s at end → follow f (λ e. walkFor n s e end) ≡ follow f (λ e. walkFor m s e end)
+  fuel-follow n m at h k l ih Cut q = refl
+  fuel-follow n m at h k l ih (Whole t a e) q =
+      let b : Bounds at end a e = field-bounds s at end (Whole t a e) q t a e refl in
+      ap (step t a e) (ih e (omega (arith, b .starts, b .ordered)) (omega (arith, b .starts, b .ordered)))
+
+  fuel-more : (n m at : ℕ) → end - at ≤ suc n → end - at ≤ suc m
+      → ((e : ℕ) → end - e ≤ n → end - e ≤ m → walkFor n s e end ≡ walkFor m s e end)
+      → (b : Bool) → ltb at end ≡ b
+      → _≡_ {A = Walk} (elim b [ true ↦ follow (fieldAt s at end) (λ e. walkFor n s e end) | false ↦ done ]) (elim b [ true ↦ follow (fieldAt s at end) (λ e. walkFor m s e end) | false ↦ done ])
+  fuel-more n m at k l ih true p = fuel-follow n m at (ltb-true at end p) k l ih (fieldAt s at end) refl
+  fuel-more n m at k l ih false p = refl
+
+  -- fuel that is enough gives what any other that is enough gives
+  walk-fuel : (n m at : ℕ) → end - at ≤ n → end - at ≤ m → walkFor n s at end ≡ walkFor m s at end
+  walk-fuel zero zero at k l = refl
+  walk-fuel zero (suc m) at k l = simp (walkFor, le-ltb at end (omega arith))
+  walk-fuel (suc n) zero at k l = simp (walkFor, le-ltb at end (omega arith))
+  walk-fuel (suc n) (suc m) at k l = fuel-more n m at k l (walk-fuel n m) (ltb at end) refl
+
+  walk-open : (at : ℕ) → at < end → walk s at end ≡ follow (fieldAt s at end) (λ e. walkFor (end - at) s e end)
+  unfolding walk
+  walk-open at h = walk-fuel (end - at) (suc (end - at)) at (omega arith) (omega arith) ∙ simp (walkFor, lt-ltb at end h)
+
+module _ (s : List ℕ) (at end : ℕ) where
+  pub walk-done : end ≤ at → walk s at end ≡ done
+  unfolding walk
+  walk-done h = walk-fuel s end (end - at) zero at (omega arith) (omega arith)
+
+  module _ (h : at < end) (r : Field) (q : r ≡ fieldAt s at end) where
+    pub walk-cut : r ≡ Cut → walk s at end ≡ cut
+    walk-cut g = rw (walk-open s end at h, ← q, g)
+
+    pub walk-step : (t a e : ℕ) → r ≡ Whole t a e → walk s at end ≡ step t a e (walk s e end)
+    unfolding walk
+    walk-step t a e g =
+        let b : Bounds at end a e = field-bounds s at end r q t a e g in
+        rw (walk-open s end at h, ← q, g)
+            (ap (step t a e) (walk-fuel s end (end - at) (end - e) e (omega (arith, b .starts, b .ordered)) (omega arith)))

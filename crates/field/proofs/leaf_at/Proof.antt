@@ -1,0 +1,13 @@
+use Rattle.field.proofs.LeafLaws.{leaf-any-laws}
+use borrow.Author.Needs.{needs}
+use Rattle.field.proofs.leaf_at.Statement.{statement}
+use Rattle.field.proofs.leaf_at.Tie as tie
+
+pub leaf-at-spec : {M : Type 1} → statement M
+leaf-at-spec = tie.close (tie.spec
+    (λ c κs. search (needs, leaf-any-laws))
+    (λ c. search (needs, leaf-any-laws))
+    (λ c. search (needs, leaf-any-laws))
+    (λ c. search (needs, leaf-any-laws))
+    (λ c. search (needs, leaf-any-laws))
+    (λ c. search (needs, leaf-any-laws)))

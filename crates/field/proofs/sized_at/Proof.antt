@@ -1,0 +1,14 @@
+use Rattle.field.proofs.LeafLaws.{sized-laws}
+use borrow.Author.Needs.{needs}
+use Rattle.field.proofs.sized_at.Statement.{statement}
+use Rattle.field.proofs.sized_at.Tie as tie
+
+pub sized-at-spec : {M : Type 1} → statement M
+sized-at-spec = tie.close (tie.spec
+    (λ c κs. search (needs, sized-laws))
+    (λ c. search (needs, sized-laws))
+    (λ c. search (needs, sized-laws))
+    (λ c. search (needs, sized-laws))
+    (λ c. search (needs, sized-laws))
+    (λ c. search (needs, sized-laws))
+    (λ c. search (needs, sized-laws)))

@@ -1,0 +1,50 @@
+-- A field that is wanted at a place: of one tag, and with a payload that passes a test.
+--
+--                 span a e ==  the span from the place a up to the place e
+--                 text s p ==  the bytes of a span
+--              anyBytes bs <=> nothing is asked of the bytes
+--              ofSize n bs <=> there are n bytes
+--               onlyIf b l ==  the leaf l where b holds
+--       onLeaf none l some ==  `some` of a leaf's two places, `none` where there is no leaf
+--   leafAt k good s at end ==  the payload of the field at a place, where that is whole, has the tag k and passes the test
+--
+-- Assumes nothing.
+use mathlib.Core.Bool.{Bool, true, false, _&&_}
+use mathlib.Core.List.{List}
+use Prim.Native.Nat.{ℕ}
+use lib.Dec.{eqb}
+use lib.ListN.{length}
+use Rattle.octets.specs.Octets.{part}
+use Rattle.field.specs.declared.Field.{Field}
+use Rattle.field.specs.declared.Field.the-variants.{Whole, Cut}
+use Rattle.field.specs.declared.Leaf.{Leaf}
+use Rattle.field.specs.declared.Leaf.the-variants.{At, Not}
+use Rattle.field.specs.declared.Span.{Span}
+use Rattle.field.specs.Field.{fieldAt}
+
+abbrev pub span : ℕ → ℕ → Span
+span a e = record { from = a; to = e }
+
+abbrev pub text : List ℕ → Span → List ℕ
+text s p = part s (p .from) (p .to)
+
+abbrev pub anyBytes : List ℕ → Bool
+anyBytes bs = true
+
+abbrev pub ofSize : ℕ → List ℕ → Bool
+ofSize n bs = eqb (length bs) n
+
+abbrev pub onlyIf : Bool → Leaf → Leaf
+onlyIf true l = l
+onlyIf false l = Not
+
+abbrev pub leafOf : ℕ → (List ℕ → Bool) → List ℕ → Field → Leaf
+leafOf k good s Cut = Not
+leafOf k good s (Whole t a e) = onlyIf (eqb t k && good (part s a e)) (At a e)
+
+unfoldable pub leafAt : ℕ → (List ℕ → Bool) → List ℕ → ℕ → ℕ → Leaf
+leafAt k good s at end = leafOf k good s (fieldAt s at end)
+
+abbrev pub onLeaf : {A : Type 0} → A → Leaf → (ℕ → ℕ → A) → A
+onLeaf none Not some = none
+onLeaf none (At a e) some = some a e

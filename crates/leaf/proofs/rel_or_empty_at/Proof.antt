@@ -1,0 +1,17 @@
+use Rattle.leaf.proofs.NameLaws.{name-laws}
+use borrow.Author.Needs.{needs}
+use Rattle.leaf.proofs.rel_or_empty_at.Statement.{statement}
+use Rattle.leaf.proofs.rel_or_empty_at.Tie as tie
+
+pub rel-or-empty-at-spec : {M : Type 1} → statement M
+rel-or-empty-at-spec = tie.close (tie.spec
+    (λ c κs. search (needs, name-laws))
+    (λ c. search (needs, name-laws))
+    (λ c. search (needs, name-laws))
+    (λ c. search (needs, name-laws))
+    (λ c. search (needs, name-laws))
+    (λ c. search (needs, name-laws))
+    (λ c. search (needs, name-laws))
+    (λ c κs. search (needs, name-laws))
+    (λ c. search (needs, name-laws))
+    (λ c. search (needs, name-laws)))

@@ -1,0 +1,5 @@
+pub mod Table
+pub mod Name
+pub mod Constant
+pub mod Tree
+pub mod Request

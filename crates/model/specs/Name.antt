@@ -1,0 +1,54 @@
+-- The parts of an option's name, from 01's table: "one or more of 1A direct part, 1B extension part".
+--
+--       partOf t a e == the part that a field is
+--      partAt s at e == the part at a place
+--          partsIn w == the parts that the fields w begin with
+--    afterParts at w == where these parts end, the fields w starting at the place `at`
+--
+-- Assumes nothing.
+use mathlib.Core.Bool.{Bool, true, false}
+use mathlib.Core.List.{List, [], _∷_}
+use Prim.Native.Nat.{ℕ}
+use lib.Dec.{eqb}
+use Rattle.field.specs.declared.Field.{Field}
+use Rattle.field.specs.declared.Field.the-variants.{Whole, Cut}
+use Rattle.field.specs.Field.{fieldAt}
+use Rattle.field.specs.Walk.{Walk, done, cut, step}
+use Rattle.model.specs.declared.name.Part.{Part}
+use Rattle.model.specs.declared.name.Parted.{Parted}
+use Rattle.model.specs.declared.name.Parted.the-variants.{Is, NoPart}
+use Rattle.model.specs.Table.{directTag, extensionTag}
+
+abbrev pub partWith : Bool → ℕ → ℕ → Part
+partWith extension a e = record { extension = extension; name = record { from = a; to = e } }
+
+unfoldable pub partOf : ℕ → ℕ → ℕ → Parted
+partOf t a e = elim (eqb t directTag) [
+  | true ↦ Is (partWith false a e)
+  | false ↦ elim (eqb t extensionTag) [ true ↦ Is (partWith true a e) | false ↦ NoPart ]
+]
+
+abbrev pub partOfField : Field → Parted
+partOfField Cut = NoPart
+partOfField (Whole t a e) = partOf t a e
+
+unfoldable pub partAt : List ℕ → ℕ → ℕ → Parted
+partAt s at end = partOfField (fieldAt s at end)
+
+abbrev pub leading : Parted → List Part → List Part
+leading NoPart rest = []
+leading (Is p) rest = p ∷ rest
+
+abbrev pub partsIn : Walk → List Part
+partsIn done = []
+partsIn cut = []
+partsIn (step t a e w) = leading (partOf t a e) (partsIn w)
+
+abbrev pub further : Parted → ℕ → ℕ → ℕ
+further NoPart at rest = at
+further (Is p) at rest = rest
+
+abbrev pub afterParts : ℕ → Walk → ℕ
+afterParts at done = at
+afterParts at cut = at
+afterParts at (step t a e w) = further (partOf t a e) at (afterParts e w)

@@ -1,0 +1,75 @@
+-- The tree that a request's bytes stand for, whatever they are: what is no option is left out. Of a request that is fine nothing is.
+--
+--                  Option == the parts of a name, and a constant
+--                 Request == the scope, the path of the options type, and the options
+--             headingOf s == scope and options type as they are written, and where the options start
+--          optionOf s a e == the option whose payload is from a to e
+--   optionIn s t a e rest == the option that a field is, and what follows it
+--           optionsIn s w == the options among the fields w
+--             requestOf s == the request
+--              partsOf os == how many parts the names of the options have, all together
+--
+-- Assumes nothing.
+use mathlib.Core.Bool.{true, false}
+use mathlib.Core.List.{List, [], _∷_}
+use Prim.Native.Nat.{ℕ, _+_}
+use lib.Dec.{eqb}
+use lib.ListN.{length}
+use Rattle.limits.specs.Figures.{mostConstants}
+use Rattle.field.specs.declared.Field.{Field}
+use Rattle.field.specs.declared.Field.the-variants.{Whole, Cut}
+use Rattle.field.specs.declared.Span.{Span}
+use Rattle.field.specs.Field.{fieldAt}
+use Rattle.field.specs.Leaf.{span, anyBytes, onLeaf, leafAt}
+use Rattle.field.specs.Walk.{Walk, done, cut, step, walk}
+use Rattle.model.specs.declared.name.Part.{Part}
+use Rattle.model.specs.declared.request.Heading.{Heading}
+use Rattle.model.specs.declared.request.Headed.{Headed}
+use Rattle.model.specs.declared.request.Headed.the-variants.{Heads, NoHeading}
+use Rattle.model.specs.Table.{scopeTag, optionsTypeTag, optionTag}
+use Rattle.model.specs.Name.{partsIn, afterParts}
+use Rattle.model.specs.Tree.{Constants, none, unnamed, constantIn}
+
+pub record Option : Type 0 where
+  pub parts : List Part
+  pub constant : Constants
+
+pub record Request : Type 0 where
+  pub scope : Span
+  pub message : Span
+  pub options : List Option
+
+-- "18 scope, 19 options type path, then 08 options"
+unfoldable pub headingOf : List ℕ → Headed
+headingOf s =
+    onLeaf NoHeading (leafAt scopeTag anyBytes s 0 (length s)) λ a types.
+    onLeaf NoHeading (leafAt optionsTypeTag anyBytes s types (length s)) λ m options.
+    Heads (record { scope = span a types; message = span m options; options = options })
+
+-- "one or more of 1A direct part, 1B extension part; one constant"
+abbrev pub constantOfField : List ℕ → Field → Constants
+constantOfField s Cut = none
+constantOfField s (Whole t a e) = constantIn mostConstants s unnamed t a e none
+
+unfoldable pub optionOf : List ℕ → ℕ → ℕ → Option
+optionOf s a e =
+    record { parts = partsIn (walk s a e); constant = constantOfField s (fieldAt s (afterParts a (walk s a e)) e) }
+
+unfoldable pub optionIn : List ℕ → ℕ → ℕ → ℕ → List Option → List Option
+optionIn s t a e rest = elim (eqb t optionTag) [ true ↦ optionOf s a e ∷ rest | false ↦ rest ]
+
+abbrev pub optionsIn : List ℕ → Walk → List Option
+optionsIn s done = []
+optionsIn s cut = []
+optionsIn s (step t a e w) = optionIn s t a e (optionsIn s w)
+
+abbrev pub requestWith : List ℕ → Headed → Request
+requestWith s NoHeading = record { scope = span 0 0; message = span 0 0; options = [] }
+requestWith s (Heads h) = record { scope = h .scope; message = h .message; options = optionsIn s (walk s (h .options) (length s)) }
+
+unfoldable pub requestOf : List ℕ → Request
+requestOf s = requestWith s (headingOf s)
+
+abbrev pub partsOf : List Option → ℕ
+partsOf [] = 0
+partsOf (o ∷ os) = length (o .parts) + partsOf os

@@ -1,0 +1,2 @@
+pub mod Leaves
+pub mod Form

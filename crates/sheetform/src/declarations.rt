@@ -1,0 +1,82 @@
+// Extensions, fields and enum values: each leaf holds what 01 allows it.
+ghost use mathlib.Core.Path.{_≡_};
+ghost use Prim.Native.Nat.{_≤_};
+ghost use lib.ListN.{length};
+ghost use Rattle.sheetform.specs.Declarations.{goodShape, goodField, isExtension, isField, isValue};
+use limits::MOST_LABEL;
+use limits::MOST_NUMBER;
+use limits::MOST_TYPE;
+use path::protobuf_ident::is_ident;
+use path::protobuf_rel_path::is_rel_path;
+use sheet::declaration::Declaration;
+use sheet::declaration::Declared;
+use sheet::declaration::Shape;
+use sheet::declaration::Valued;
+use sheet::declaration::has_type_path;
+
+// Whether number, type and label are in their ranges, and the type path is a path.
+fn good_shape(s: &[u8], h: Shape) -> bool
+    requires { ⌜ (h .path .from ≤ h .path .to) × (h .path .to ≤ length (now s)) ⌝ }
+    ensures { λ r. ⌜ r ≡ goodShape (now (s .entry)) h ⌝ }
+{
+    if (h.number < 1) | (MOST_NUMBER < h.number as u64) {
+        return false;
+    }
+    if (h.typ < 1) | (MOST_TYPE < h.typ) {
+        return false;
+    }
+    if (h.label < 1) | (MOST_LABEL < h.label) {
+        return false;
+    }
+    if !has_type_path(h.typ) {
+        return true;
+    }
+    is_rel_path(&s[h.path.from..h.path.to])
+}
+
+// Whether the name is an identifier, and the shape is good.
+fn good_field(s: &[u8], d: Declaration) -> bool
+    requires { ⌜ (d .name .from ≤ d .name .to) × (d .name .to ≤ length (now s)) × (d .shape .path .from ≤ d .shape .path .to) × (d .shape .path .to ≤ length (now s)) ⌝ }
+    ensures { λ r. ⌜ r ≡ goodField (now (s .entry)) d ⌝ }
+{
+    if !is_ident(&s[d.name.from..d.name.to]) {
+        return false;
+    }
+    good_shape(s, d.shape)
+}
+
+// Whether from..to is the payload of a field.
+pub fn is_field(s: &[u8], from: usize, to: usize) -> bool
+    requires { ⌜ (from ≤ to) × (to ≤ length (now s)) ⌝ }
+    ensures { λ r. ⌜ r ≡ isField (now (s .entry)) from to ⌝ }
+{
+    let Declared::Declares(d) = sheet::declaration::field_at(s, from, to) else {
+        return false;
+    };
+    good_field(s, d)
+}
+
+// Whether from..to is the payload of an extension.
+pub fn is_extension(s: &[u8], from: usize, to: usize) -> bool
+    requires { ⌜ (from ≤ to) × (to ≤ length (now s)) ⌝ }
+    ensures { λ r. ⌜ r ≡ isExtension (now (s .entry)) from to ⌝ }
+{
+    let Declared::Declares(d) = sheet::declaration::extension_at(s, from, to) else {
+        return false;
+    };
+    if !is_rel_path(&s[d.extendee.from..d.extendee.to]) {
+        return false;
+    }
+    good_field(s, d)
+}
+
+// Whether from..to is the payload of an enum value.
+pub fn is_value(s: &[u8], from: usize, to: usize) -> bool
+    requires { ⌜ (from ≤ to) × (to ≤ length (now s)) ⌝ }
+    ensures { λ r. ⌜ r ≡ isValue (now (s .entry)) from to ⌝ }
+{
+    let Valued::Values(v) = sheet::declaration::value_at(s, from, to) else {
+        return false;
+    };
+    is_ident(&s[v.name.from..v.name.to])
+}
