@@ -1,15 +1,10 @@
 -- Closed cases of the definitions, which the checker computes: of each range its two ends and what stands beside them; texts in either
--- case, with blanks and line ends anywhere, empty, ended within a byte, and with a character that is no digit; a field that is due.
+-- case, with blanks and line ends anywhere, empty, ended within a byte, and with a character that is no digit.
 -- Assumes nothing.
 use mathlib.Core.Path.{_≡_, refl}
 use mathlib.Core.List.{List, [], _∷_, map}
 use Prim.Native.Nat.{ℕ}
 use Rattle.reply.specs.Reply.{ascii}
-use Rattle.octets.specs.Octets.{bigAt}
-use Rattle.field.specs.Field.{fieldAt}
-use Rattle.console.specs.declared.input.Payload.{Payload}
-use Rattle.console.specs.declared.input.Payload.the-variants.{At, Wrong}
-use Rattle.console.specs.Input.{payloadOf}
 use Rattle.console.specs.Hex.{blank, other, digitOf, Spelled, bytes, noDigit, halfByte, unhex}
 
 -- ---- a byte: before the range, its first, its last, after it
@@ -71,20 +66,3 @@ bad = refl
 bad-first : spells (ascii "4g4") ≡ noDigit 1
 unfolding spells unhex digitOf
 bad-first = refl
-
--- ---- a field that is due: of tag 5 at byte 1, with two bytes; then the end
-due : ℕ → ℕ → Payload
-due tag at = payloadOf tag (fieldAt (9 ∷ 5 ∷ 0 ∷ 2 ∷ 7 ∷ 8 ∷ []) at 6)
-
-due-taken : due 5 1 ≡ At 4 6
-unfolding due payloadOf fieldAt bigAt
-due-taken = refl
-
-due-other : map (λ tag. due tag 1) (4 ∷ 6 ∷ 0 ∷ []) ≡ Wrong ∷ Wrong ∷ Wrong ∷ []
-unfolding due payloadOf fieldAt bigAt
-due-other = refl
-
--- a length that runs past the end, a header that is cut, nothing at all
-due-cut : due 9 0 ∷ due 7 4 ∷ due 0 6 ∷ [] ≡ Wrong ∷ Wrong ∷ Wrong ∷ []
-unfolding due payloadOf fieldAt bigAt
-due-cut = refl

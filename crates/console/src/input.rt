@@ -4,14 +4,15 @@ ghost use mathlib.Core.Path.{_≡_};
 ghost use Prim.Native.Nat.{_-_, _%_, _≤_};
 ghost use lib.Dec.{eqb};
 ghost use lib.ListN.{length};
-ghost use Rattle.field.specs.Field.{fieldAt};
-ghost use Rattle.console.specs.Input.{Fills, payloadOf};
+ghost use Rattle.field.specs.Leaf.{anyBytes, leafAt};
+ghost use Rattle.console.specs.Input.{Fills};
 use crate::hex::Decoded;
 use crate::hex::decode;
 use crate::output::hex_byte;
 use crate::output::number;
 use crate::output::text;
 use field::Field;
+use field::Leaf;
 
 // A program's input has at most so many bytes: a sheet and a request, each a field of 65,535 bytes with its header of 3.
 pub const MOST_BYTES: usize = 131_076;
@@ -71,23 +72,17 @@ fn too_much(verb: &[u8], most: usize) {
     text(b" bytes\n");
 }
 
-pub enum Payload {
-    // The payload is from..to, and the next field starts at `to`.
-    At { from: usize, to: usize },
-    Wrong,
-}
-
 // The field at a place, which has to have this tag.
-pub fn field_of(s: &[u8], at: usize, tag: u8) -> Payload
+pub fn field_of(s: &[u8], at: usize, tag: u8) -> Leaf
     requires { ⌜ at ≤ length (now s) ⌝ }
-    ensures { λ r. ⌜ r ≡ payloadOf tag (fieldAt (now (s .entry)) at (length (now (s .entry)))) ⌝ }
+    ensures { λ r. ⌜ r ≡ leafAt tag anyBytes (now (s .entry)) at (length (now (s .entry))) ⌝ }
 {
     if at == s.len() {
         place(at);
         text(b": the input ends, where a field of tag ");
         hex_byte(tag);
         text(b" is due\n");
-        return Payload::Wrong;
+        return Leaf::Not;
     }
     let Field::Whole {
         tag: found,
@@ -97,7 +92,7 @@ pub fn field_of(s: &[u8], at: usize, tag: u8) -> Payload
     else {
         place(at);
         text(b": the field that starts here is cut\n");
-        return Payload::Wrong;
+        return Leaf::Not;
     };
     if found != tag {
         place(at);
@@ -106,9 +101,9 @@ pub fn field_of(s: &[u8], at: usize, tag: u8) -> Payload
         text(b", where tag ");
         hex_byte(tag);
         text(b" is due\n");
-        return Payload::Wrong;
+        return Leaf::Not;
     }
-    Payload::At { from: from, to: to }
+    Leaf::At { from: from, to: to }
 }
 
 // Whether the input ends at a place.

@@ -1,10 +1,22 @@
--- Closed cases of the definition, which the checker computes: whole fields, an empty one and one in the middle; headers and payloads cut.
+-- Closed cases of the definitions, which the checker computes: whole fields, an empty one and one in the middle; headers and payloads cut;
+-- leaves by tag and by length; lists of fields that end and that are cut; containers with one fault and with two.
 -- Assumes nothing.
 use mathlib.Core.Path.{_≡_, refl}
-use mathlib.Core.List.{[], _∷_}
+use mathlib.Core.Bool.{Bool, true, false}
+use mathlib.Core.List.{List, [], _∷_, map}
+use Prim.Native.Nat.{ℕ}
+use lib.Dec.{eqb, ltb}
 use Rattle.octets.specs.Octets.{bigAt}
+use Rattle.reply.specs.declared.Refusal.the-variants.{BadSheet, BeyondLimit}
+use Rattle.reply.specs.declared.Verdict.{Verdict}
+use Rattle.reply.specs.declared.Verdict.the-variants.{Fine, Refused}
 use Rattle.field.specs.declared.Field.the-variants.{Whole, Cut}
+use Rattle.field.specs.declared.Leaf.{Leaf}
+use Rattle.field.specs.declared.Leaf.the-variants.{At, Not}
 use Rattle.field.specs.Field.{fieldAt}
+use Rattle.field.specs.Leaf.{anyBytes, ofSize, leafAt}
+use Rattle.field.specs.Walk.{Walk, done, cut, step, walk}
+use Rattle.field.specs.Each.{each, eachFrom}
 
 -- 10 00 00, an empty package
 empty : fieldAt (0x10 ∷ 0 ∷ 0 ∷ []) 0 3 ≡ Whole 0x10 3 3
@@ -28,3 +40,60 @@ cut-header = refl
 long : fieldAt (0x11 ∷ 1 ∷ 0 ∷ []) 0 3 ≡ Cut
 unfolding fieldAt bigAt
 long = refl
+
+-- ---- a leaf: of tag 5 at byte 1, with two bytes; then the end
+due : ℕ → (List ℕ → Bool) → ℕ → Leaf
+due tag good at = leafAt tag good (9 ∷ 5 ∷ 0 ∷ 2 ∷ 7 ∷ 8 ∷ []) at 6
+
+due-taken : due 5 anyBytes 1 ≡ At 4 6
+unfolding due leafAt fieldAt bigAt
+due-taken = refl
+
+due-other : map (λ tag. due tag anyBytes 1) (4 ∷ 6 ∷ 0 ∷ []) ≡ Not ∷ Not ∷ Not ∷ []
+unfolding due leafAt fieldAt bigAt
+due-other = refl
+
+due-size : map (λ n. due 5 (ofSize n) 1) (1 ∷ 2 ∷ 3 ∷ []) ≡ Not ∷ At 4 6 ∷ Not ∷ []
+unfolding due leafAt fieldAt bigAt
+due-size = refl
+
+-- a length that runs past the end, a header that is cut, nothing at all
+due-cut : due 9 anyBytes 0 ∷ due 7 anyBytes 4 ∷ due 0 anyBytes 6 ∷ [] ≡ Not ∷ Not ∷ Not ∷ []
+unfolding due leafAt fieldAt bigAt
+due-cut = refl
+
+-- ---- two fields, 1 with no payload and 2 with one byte, and a third that is cut
+fields : List ℕ
+fields = 1 ∷ 0 ∷ 0 ∷ 2 ∷ 0 ∷ 1 ∷ 7 ∷ 3 ∷ 0 ∷ []
+
+walk-whole : walk fields 0 7 ≡ step 1 3 3 (step 2 6 7 done)
+unfolding fields walk fieldAt bigAt
+walk-whole = refl
+
+walk-ends-cut : walk fields 0 9 ≡ step 1 3 3 (step 2 6 7 cut)
+unfolding fields walk fieldAt bigAt
+walk-ends-cut = refl
+
+walk-nothing : walk fields 7 7 ≡ done
+unfolding fields walk
+walk-nothing = refl
+
+-- ---- the first fault is the answer: at the second field, at the cut behind it, and where both are
+second : ℕ → ℕ → ℕ → Verdict
+second t a e = elim (eqb t 2) [ true ↦ Refused BeyondLimit | false ↦ Fine ]
+
+fine : ℕ → ℕ → ℕ → Verdict
+fine t a e = Fine
+
+first-fault : each BadSheet second (walk fields 0 7) ∷ each BadSheet fine (walk fields 0 9) ∷ each BadSheet second (walk fields 0 9) ∷ []
+    ≡ Refused BeyondLimit ∷ Refused BadSheet ∷ Refused BeyondLimit ∷ []
+unfolding fields second fine walk fieldAt bigAt
+first-fault = refl
+
+-- a limit of one field
+few : ℕ → ℕ → ℕ → ℕ → Verdict
+few n t a e = elim (ltb n 1) [ true ↦ Fine | false ↦ Refused BeyondLimit ]
+
+counted : eachFrom BadSheet few 0 (walk fields 0 3) ∷ eachFrom BadSheet few 0 (walk fields 0 7) ∷ [] ≡ Fine ∷ Refused BeyondLimit ∷ []
+unfolding fields few walk fieldAt bigAt
+counted = refl

@@ -5,7 +5,7 @@ use mathlib.Core.Bool.{Bool, true, false, _&&_}
 use mathlib.Core.List.{List}
 use Prim.Native.Nat.{ℕ, _+_, _-_, _≤_, _<_}
 use native.Mathlib.Omega.{arith}
-use borrow.Author.Tests.{eq-eqb, ne-eqb}
+use borrow.Author.Tests.{eq-eqb, ne-eqb, eqb-true}
 use lib.Dec.{eqb}
 use lib.ListN.{length, drop, length-take, length-drop}
 use Rattle.octets.specs.Octets.{part}
@@ -14,7 +14,7 @@ use Rattle.field.specs.declared.Field.the-variants.{Whole, Cut}
 use Rattle.field.specs.declared.Leaf.{Leaf}
 use Rattle.field.specs.declared.Leaf.the-variants.{At, Not}
 use Rattle.field.specs.Field.{fieldAt}
-use Rattle.field.specs.Leaf.{anyBytes, ofSize, onlyIf, leafOf, leafAt}
+use Rattle.field.specs.Leaf.{anyBytes, ofSize, onlyIf, onLeaf, leafOf, leafAt}
 use Rattle.field.proofs.FieldLaws.{Bounds, field-bounds}
 
 -- ---- from the field
@@ -103,20 +103,59 @@ module _ (k : ℕ) (good : List ℕ → Bool) (s : List ℕ) (at end : ℕ) wher
 pub ruleset leaf-test-laws = (leaf-none, leaf-bad, leaf-good, leaf-places)
 
 -- ---- the length of a payload
-module _ (k : ℕ) (s : List ℕ) (at end : ℕ) (r : Leaf) (q : r ≡ leafAt k anyBytes s at end) (a e n : ℕ) (g : r ≡ At a e) (h : end ≤ length s) where
+module _ (k : ℕ) (good : List ℕ → Bool) (s : List ℕ) (at end : ℕ) (r : Leaf) (q : r ≡ leafAt k good s at end) (a e : ℕ) (g : r ≡ At a e)
+    (h : end ≤ length s) where
   part-length : length (part s a e) ≡ e - a
   part-length =
-      let o : a ≤ e = leaf-ordered k anyBytes s at end r q a e g in
-      let i : e ≤ length s = leaf-within k anyBytes s at end r q a e g h in
+      let o : a ≤ e = leaf-ordered k good s at end r q a e g in
+      let i : e ≤ length s = leaf-within k good s at end r q a e g h in
       let d : length (drop a s) ≡ length s - a = length-drop a s in
       length-take (e - a) (drop a s) ∙ omega arith
 
+module _ (k : ℕ) (s : List ℕ) (at end : ℕ) (r : Leaf) (q : r ≡ leafAt k anyBytes s at end) (a e n : ℕ) (g : r ≡ At a e)
+    (h : end ≤ length s) where
   pub size-other : (e - a ≡ n → ⊥) → Not ≡ leafAt k (ofSize n) s at end
-  size-other x = leaf-bad k (ofSize n) s at end r q a e g false (rw (part-length) (sym (ne-eqb (e - a) n x))) refl
+  size-other x =
+      leaf-bad k (ofSize n) s at end r q a e g false (rw (part-length k anyBytes s at end r q a e g h) (sym (ne-eqb (e - a) n x))) refl
 
   pub size-same : e - a ≡ n → At a e ≡ leafAt k (ofSize n) s at end
-  size-same x = leaf-good k (ofSize n) s at end r q a e g true (rw (part-length) (sym (eq-eqb (e - a) n x))) refl
+  size-same x =
+      leaf-good k (ofSize n) s at end r q a e g true (rw (part-length k anyBytes s at end r q a e g h) (sym (eq-eqb (e - a) n x))) refl
 
 pub ruleset leaf-any-laws = (leaf-cut, leaf-other, leaf-any)
 
 pub ruleset sized-laws = (leaf-none, size-other, size-same, leaf-ordered)
+
+-- ---- what a leaf passed
+leaf-passed : (k : ℕ) (good : List ℕ → Bool) (s : List ℕ) (a e : ℕ) (f : Field) → At a e ≡ leafOf k good s f → good (part s a e) ≡ true
+leaf-passed k good s a e Cut p = absurd (let z : _≡_ {A = ℕ} 0 1 = cc in omega arith)
+leaf-passed k good s a e (Whole t n m) p = go (eqb t k) (good (part s n m)) refl p
+  where
+    go : (b b′ : Bool) → good (part s n m) ≡ b′ → At a e ≡ onlyIf (b && b′) (At n m) → good (part s a e) ≡ true
+    go false b′ x p = absurd (let z : _≡_ {A = ℕ} 0 1 = cc in omega arith)
+    go true false x p = absurd (let z : _≡_ {A = ℕ} 0 1 = cc in omega arith)
+    go true true x p =
+        let u : a ≡ n = cc in
+        let v : e ≡ m = cc in
+        rw (u, v) x
+
+module _ (s : List ℕ) (a e : ℕ) (r : Leaf) (g : r ≡ At a e) (k at end : ℕ) where
+  pub size-holds : (n : ℕ) → r ≡ leafAt k (ofSize n) s at end → end ≤ length s → a + n ≤ length s
+  unfolding leafAt
+  size-holds n q h =
+      let o : a ≤ e = leaf-ordered k (ofSize n) s at end r q a e g in
+      let i : e ≤ length s = leaf-within k (ofSize n) s at end r q a e g h in
+      let l : length (part s a e) ≡ e - a = part-length k (ofSize n) s at end r q a e g h in
+      let p : length (part s a e) ≡ n = eqb-true (length (part s a e)) n (leaf-passed k (ofSize n) s a e (fieldAt s at end) (sym g ∙ q)) in
+      omega arith
+
+  pub byte-holds : r ≡ leafAt k (ofSize 1) s at end → end ≤ length s → a < length s
+  byte-holds q h = omega (arith, size-holds 1 q h)
+
+pub ruleset size-laws = (size-holds, byte-holds)
+
+-- ---- what is said of a leaf, where it is not what is said of none
+pub on-leaf-some : {A : Type 0} (none x : A) (l : Leaf) (some : ℕ → ℕ → A) (P : Type 0) → (x ≡ none → ⊥)
+    → ((a e : ℕ) → l ≡ At a e → x ≡ some a e → P) → x ≡ onLeaf none l some → P
+on-leaf-some none x Not some P n f p = absurd (n p)
+on-leaf-some none x (At a e) some P n f p = f a e refl p

@@ -1,8 +1,8 @@
 // Gives each field of a message the oneof it belongs to. Input: 49 the words (4 bytes each).
 use console::input::Input;
 use console::input::MOST_BYTES;
-use console::input::Payload;
 use console::words::MOST_PAYLOAD_WORDS;
+use field::Leaf;
 use limits::MOST_WORDS;
 
 const WORDS: u8 = 0x49;
@@ -19,7 +19,7 @@ fn lower(payload: &[u8]) {
 }
 
 fn run(s: &[u8]) {
-    let Payload::At { from, to } = console::input::field_of(s, 0, WORDS) else {
+    let Leaf::At { from, to } = console::input::field_of(s, 0, WORDS) else {
         return;
     };
     if !console::input::has_words(WORDS, from, to) {

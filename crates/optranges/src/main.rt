@@ -1,8 +1,8 @@
 // Lowers ranges. Input: 47 the kind (4 bytes), 48 the words, starts and ends in turn (4 bytes each).
 use console::input::Input;
 use console::input::MOST_BYTES;
-use console::input::Payload;
 use console::words::MOST_PAYLOAD_WORDS;
+use field::Leaf;
 use limits::MOST_WORDS;
 
 const KIND: u8 = 0x47;
@@ -21,13 +21,13 @@ fn lower(kind: u32, payload: &[u8]) {
 }
 
 fn run(s: &[u8]) {
-    let Payload::At { from: k, to: next } = console::input::field_of(s, 0, KIND) else {
+    let Leaf::At { from: k, to: next } = console::input::field_of(s, 0, KIND) else {
         return;
     };
     if !console::input::has_size(KIND, k, next, 4) {
         return;
     }
-    let Payload::At { from, to } = console::input::field_of(s, next, WORDS) else {
+    let Leaf::At { from, to } = console::input::field_of(s, next, WORDS) else {
         return;
     };
     if !console::input::has_words(WORDS, from, to) {

@@ -1,0 +1,7 @@
+pub mod ShapeLaws
+pub mod DeclarationLaws
+pub mod PlaceLaws
+pub mod TreeLaws
+pub mod CountLaws
+pub mod Tally
+pub mod Controls

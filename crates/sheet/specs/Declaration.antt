@@ -19,7 +19,7 @@ use Rattle.octets.specs.Octets.{bigAt}
 use Rattle.field.specs.declared.Leaf.{Leaf}
 use Rattle.field.specs.declared.Leaf.the-variants.{At, Not}
 use Rattle.field.specs.declared.Span.{Span}
-use Rattle.field.specs.Leaf.{anyBytes, ofSize, onlyIf, onLeaf, leafAt}
+use Rattle.field.specs.Leaf.{span, anyBytes, ofSize, onlyIf, onLeaf, leafAt}
 use Rattle.wire.specs.Types.{TYPE_GROUP, TYPE_MESSAGE, TYPE_ENUM}
 use Rattle.sheet.specs.declared.declaration.Shape.{Shape}
 use Rattle.sheet.specs.declared.declaration.Shaped.{Shaped}
@@ -31,9 +31,6 @@ use Rattle.sheet.specs.declared.declaration.Value.{Value}
 use Rattle.sheet.specs.declared.declaration.Valued.{Valued}
 use Rattle.sheet.specs.declared.declaration.Valued.the-variants.{Values, NoValue}
 use Rattle.sheet.specs.Table.{nameTag, extendeeTag, numberTag, typeTag, labelTag, typePathTag, signedNumberTag}
-
-abbrev pub span : ℕ → ℕ → Span
-span a e = record { from = a; to = e }
 
 -- "16 type path exactly for types 10, 11, 14"
 unfoldable pub hasTypePath : ℕ → Bool

@@ -20,7 +20,7 @@ use lib.Dec.{eqb}
 use lib.ListN.{length}
 use Rattle.limits.specs.Figures.{mostMessages}
 use Rattle.field.specs.declared.Span.{Span}
-use Rattle.field.specs.Leaf.{anyBytes, onLeaf, leafAt}
+use Rattle.field.specs.Leaf.{span, anyBytes, onLeaf, leafAt}
 use Rattle.field.specs.Walk.{Walk, done, cut, step, walk}
 use Rattle.sheet.specs.declared.declaration.Declaration.{Declaration}
 use Rattle.sheet.specs.declared.declaration.Declared.{Declared}
@@ -29,7 +29,7 @@ use Rattle.sheet.specs.declared.declaration.Value.{Value}
 use Rattle.sheet.specs.declared.declaration.Valued.{Valued}
 use Rattle.sheet.specs.declared.declaration.Valued.the-variants.{Values, NoValue}
 use Rattle.sheet.specs.Table.{fileTag, messageTag, extensionTag, enumTag, fieldTag, valueTag, packageTag, nameTag}
-use Rattle.sheet.specs.Declaration.{span, extensionAt, fieldAt, valueAt}
+use Rattle.sheet.specs.Declaration.{extensionAt, fieldAt, valueAt}
 
 -- names and declarations hold places of the sheet
 pub data Items : Type 0 where

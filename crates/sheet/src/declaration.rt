@@ -85,7 +85,11 @@ pub fn shape_at(s: &[u8], at: usize, end: usize) -> Shaped
     let Leaf::At { from: n, to: types } = sized_at(s, at, end, table::NUMBER, 4) else {
         return Shaped::NoShape;
     };
-    let Leaf::At { from: t, to: labels } = sized_at(s, types, end, table::TYPE, 1) else {
+    let Leaf::At {
+        from: t,
+        to: labels,
+    } = sized_at(s, types, end, table::TYPE, 1)
+    else {
         return Shaped::NoShape;
     };
     let Leaf::At { from: l, to: paths } = sized_at(s, labels, end, table::LABEL, 1) else {
@@ -108,18 +112,32 @@ pub fn extension_at(s: &[u8], from: usize, to: usize) -> Declared
     requires { ⌜ (from ≤ to) × (to ≤ length (now s)) ⌝ }
     ensures { λ r. ⌜ r ≡ extensionAt (now (s .entry)) from to ⌝ }
 {
-    let Leaf::At { from: n, to: extendees } = leaf_at(s, from, to, table::NAME) else {
+    let Leaf::At {
+        from: n,
+        to: extendees,
+    } = leaf_at(s, from, to, table::NAME)
+    else {
         return Declared::NoDeclaration;
     };
-    let Leaf::At { from: x, to: shapes } = leaf_at(s, extendees, to, table::EXTENDEE) else {
+    let Leaf::At {
+        from: x,
+        to: shapes,
+    } = leaf_at(s, extendees, to, table::EXTENDEE)
+    else {
         return Declared::NoDeclaration;
     };
     let Shaped::Shapes(shape) = shape_at(s, shapes, to) else {
         return Declared::NoDeclaration;
     };
     Declared::Declares(Declaration {
-        name: Span { from: n, to: extendees },
-        extendee: Span { from: x, to: shapes },
+        name: Span {
+            from: n,
+            to: extendees,
+        },
+        extendee: Span {
+            from: x,
+            to: shapes,
+        },
         shape: shape,
     })
 }
@@ -129,14 +147,21 @@ pub fn field_at(s: &[u8], from: usize, to: usize) -> Declared
     requires { ⌜ (from ≤ to) × (to ≤ length (now s)) ⌝ }
     ensures { λ r. ⌜ r ≡ fieldAt (now (s .entry)) from to ⌝ }
 {
-    let Leaf::At { from: n, to: shapes } = leaf_at(s, from, to, table::NAME) else {
+    let Leaf::At {
+        from: n,
+        to: shapes,
+    } = leaf_at(s, from, to, table::NAME)
+    else {
         return Declared::NoDeclaration;
     };
     let Shaped::Shapes(shape) = shape_at(s, shapes, to) else {
         return Declared::NoDeclaration;
     };
     Declared::Declares(Declaration {
-        name: Span { from: n, to: shapes },
+        name: Span {
+            from: n,
+            to: shapes,
+        },
         extendee: Span { from: 0, to: 0 },
         shape: shape,
     })
@@ -147,7 +172,11 @@ pub fn value_at(s: &[u8], from: usize, to: usize) -> Valued
     requires { ⌜ (from ≤ to) × (to ≤ length (now s)) ⌝ }
     ensures { λ r. ⌜ r ≡ valueAt (now (s .entry)) from to ⌝ }
 {
-    let Leaf::At { from: n, to: numbers } = leaf_at(s, from, to, table::NAME) else {
+    let Leaf::At {
+        from: n,
+        to: numbers,
+    } = leaf_at(s, from, to, table::NAME)
+    else {
         return Valued::NoValue;
     };
     let Leaf::At { from: k, to: end } = sized_at(s, numbers, to, table::SIGNED_NUMBER, 4) else {
@@ -157,7 +186,10 @@ pub fn value_at(s: &[u8], from: usize, to: usize) -> Valued
         return Valued::NoValue;
     }
     Valued::Values(Value {
-        name: Span { from: n, to: numbers },
+        name: Span {
+            from: n,
+            to: numbers,
+        },
         number: octets::u32_at(s, k),
     })
 }

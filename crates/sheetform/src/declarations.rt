@@ -31,7 +31,9 @@ fn good_shape(s: &[u8], h: Shape) -> bool
     if !has_type_path(h.typ) {
         return true;
     }
-    is_rel_path(&s[h.path.from..h.path.to])
+    let from = h.path.from;
+    let to = h.path.to;
+    is_rel_path(&s[from..to])
 }
 
 // Whether the name is an identifier, and the shape is good.
@@ -39,7 +41,9 @@ fn good_field(s: &[u8], d: Declaration) -> bool
     requires { ⌜ (d .name .from ≤ d .name .to) × (d .name .to ≤ length (now s)) × (d .shape .path .from ≤ d .shape .path .to) × (d .shape .path .to ≤ length (now s)) ⌝ }
     ensures { λ r. ⌜ r ≡ goodField (now (s .entry)) d ⌝ }
 {
-    if !is_ident(&s[d.name.from..d.name.to]) {
+    let from = d.name.from;
+    let to = d.name.to;
+    if !is_ident(&s[from..to]) {
         return false;
     }
     good_shape(s, d.shape)
@@ -64,7 +68,9 @@ pub fn is_extension(s: &[u8], from: usize, to: usize) -> bool
     let Declared::Declares(d) = sheet::declaration::extension_at(s, from, to) else {
         return false;
     };
-    if !is_rel_path(&s[d.extendee.from..d.extendee.to]) {
+    let x = d.extendee.from;
+    let end = d.extendee.to;
+    if !is_rel_path(&s[x..end]) {
         return false;
     }
     good_field(s, d)
@@ -78,5 +84,7 @@ pub fn is_value(s: &[u8], from: usize, to: usize) -> bool
     let Valued::Values(v) = sheet::declaration::value_at(s, from, to) else {
         return false;
     };
-    is_ident(&s[v.name.from..v.name.to])
+    let n = v.name.from;
+    let end = v.name.to;
+    is_ident(&s[n..end])
 }

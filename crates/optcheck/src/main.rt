@@ -1,0 +1,110 @@
+// Checks the form of sheets and requests. Input: 40 a sheet, or 40 a sheet and 41 a request; several of these one after the other are several
+// cases, each answered in its turn. On 0 it says what it read.
+ghost use Prim.Native.Nat.{_≤_};
+ghost use lib.ListN.{length};
+use console::input::Input;
+use console::input::MOST_BYTES;
+use console::output::number;
+use console::output::text;
+use field::Leaf;
+use model::request::count_options;
+use model::request::count_parts;
+use reply::Verdict;
+use sheet::count::count;
+use sheet::table;
+
+const SHEET: u8 = 0x40;
+
+const REQUEST: u8 = 0x41;
+
+// A word and a count.
+fn counted(what: &[u8], n: usize) {
+    text(what);
+    number(n as u64);
+}
+
+// What the sheet declares.
+fn tell_sheet(sheet: &[u8]) {
+    counted(b"files ", count(sheet, table::FILE));
+    counted(b" messages ", count(sheet, table::MESSAGE));
+    counted(b" fields ", count(sheet, table::FIELD));
+    counted(b" extensions ", count(sheet, table::EXTENSION));
+    counted(b" enums ", count(sheet, table::ENUM));
+    counted(b" values ", count(sheet, table::VALUE));
+    text(b"\n");
+}
+
+// What the request has.
+fn tell_request(request: &[u8]) {
+    counted(b"options ", count_options(request));
+    counted(b" parts ", count_parts(request));
+    text(b"\n");
+}
+
+// The line of a verdict, and whether it is fine.
+fn told(verdict: Verdict) -> bool {
+    let Verdict::Refused(why) = verdict else {
+        return true;
+    };
+    console::output::answer(reply::refused(why));
+    false
+}
+
+// A sheet alone.
+fn check_sheet(sheet: &[u8]) {
+    if told(sheetform::check_sheet(sheet)) {
+        console::output::answer(reply::done(0));
+        tell_sheet(sheet);
+    }
+}
+
+// A sheet and a request, the sheet first.
+fn check_both(sheet: &[u8], request: &[u8]) {
+    if !told(sheetform::check_sheet(sheet)) {
+        return;
+    }
+    if told(modelform::check_request(request)) {
+        console::output::answer(reply::done(0));
+        tell_sheet(sheet);
+        tell_request(request);
+    }
+}
+
+// Whether a request stands at a place.
+fn has_request(s: &[u8], at: usize) -> bool {
+    if s.len() <= at {
+        return false;
+    }
+    s[at] == REQUEST
+}
+
+// All cases, of which there has to be one.
+fn run(s: &[u8]) {
+    let mut at = 0;
+    loop {
+        let Leaf::At { from, to } = console::input::field_of(s, at, SHEET) else {
+            return;
+        };
+        if has_request(s, to) {
+            let Leaf::At { from: a, to: e } = console::input::field_of(s, to, REQUEST) else {
+                return;
+            };
+            check_both(&s[from..to], &s[a..e]);
+            at = e;
+        } else {
+            check_sheet(&s[from..to]);
+            at = to;
+        }
+        if at == s.len() {
+            return;
+        }
+    }
+}
+
+fn main() {
+    let mut bytes = [0u8; MOST_BYTES];
+    let Input::Bytes(n) = console::input::read(&mut bytes) else {
+        return;
+    };
+    run(&bytes[..n]);
+}

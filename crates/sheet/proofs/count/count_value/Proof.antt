@@ -1,0 +1,13 @@
+use Rattle.sheet.proofs.CountLaws.{value-laws}
+use borrow.Author.Needs.{needs}
+use Rattle.sheet.proofs.count.count_value.Statement.{statement}
+use Rattle.sheet.proofs.count.count_value.Tie as tie
+
+pub count-value-spec : {M : Type 1} → statement M
+count-value-spec = tie.close (tie.spec
+    (λ c. search (needs, value-laws))
+    (λ c κs. search (needs, value-laws))
+    (λ c. search (needs, value-laws))
+    (λ c. search (needs, value-laws))
+    (λ c. search (needs, value-laws))
+    (λ c. search (needs, value-laws)))

@@ -1,0 +1,4 @@
+pub mod DeclarationLaws
+pub mod MessageLaws
+pub mod SheetLaws
+pub mod Controls

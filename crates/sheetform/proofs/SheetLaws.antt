@@ -1,0 +1,77 @@
+-- The laws of files and sheets: the ways through `check_file` and `check_sheet`.
+-- Assumes nothing.
+use mathlib.Core.Path.{_≡_, refl, sym, _∙_}
+use mathlib.Core.Bool.{Bool, true, false}
+use mathlib.Core.List.{List}
+use Prim.Native.Nat.{ℕ, _+_, _^_, _≤_, _<_}
+use native.Mathlib.Omega.{arith}
+use borrow.Author.Tests.{eq-eqb, ne-eqb, lt-ltb, le-ltb, ltb-true}
+use lib.Dec.{eqb, ltb}
+use lib.ListN.{length}
+use Rattle.limits.specs.Figures.{mostSheet, mostFiles, mostMessages}
+use Rattle.path.specs.Path.{isRelOrEmpty}
+use Rattle.reply.specs.declared.Refusal.the-variants.{BadSheet}
+use Rattle.reply.specs.declared.Verdict.{Verdict}
+use Rattle.reply.specs.declared.Verdict.the-variants.{Fine}
+use Rattle.field.specs.declared.Leaf.{Leaf}
+use Rattle.field.specs.declared.Leaf.the-variants.{At, Not}
+use Rattle.field.specs.Walk.{Walk}
+use Rattle.field.specs.Leaf.{leafAt}
+use Rattle.field.specs.Each.{eachFrom}
+use Rattle.field.proofs.FieldLaws.{field-ordered}
+use Rattle.field.proofs.LeafLaws.{leaf-inside}
+use Rattle.field.proofs.Rest.{Rest, rest-start}
+use Rattle.field.proofs.EachLaws.{each-from-laws}
+use Rattle.sheet.specs.Table.{fileTag, packageTag}
+use Rattle.sheetform.specs.Form.{malformed, beyond, judgeItems, judgeFile, judgeSheet}
+
+-- ---- check_file
+module _ (s : List ℕ) (i t a e : ℕ) where
+  pub file-other : (t ≡ fileTag → ⊥) → malformed ≡ judgeFile s i t a e
+  unfolding judgeFile
+  file-other n = simp (judgeFile, ne-eqb t fileTag n)
+
+  module _ (y : t ≡ fileTag) where
+    pub file-beyond : mostFiles ≤ i → beyond ≡ judgeFile s i t a e
+    unfolding judgeFile
+    file-beyond h = simp (judgeFile, eq-eqb t fileTag y, le-ltb i mostFiles h)
+
+    module _ (h : i < mostFiles) (r : Leaf) (q : r ≡ leafAt packageTag isRelOrEmpty s a e) where
+      pub file-unnamed : r ≡ Not → malformed ≡ judgeFile s i t a e
+      unfolding judgeFile
+      file-unnamed g = simp (judgeFile, eq-eqb t fileTag y, lt-ltb i mostFiles h, ← q, g)
+
+      pub file-items : (n body : ℕ) → r ≡ At n body → (v : Verdict) → v ≡ judgeItems mostMessages false s body e → v ≡ judgeFile s i t a e
+      unfolding judgeFile
+      file-items n body g v p = simp (judgeFile, eq-eqb t fileTag y, lt-ltb i mostFiles h, ← q, g) p
+
+pub ruleset file-laws = (file-other, file-beyond, file-unnamed, file-items, leaf-inside)
+
+-- ---- check_sheet
+abbrev pub files : List ℕ → ℕ → Walk → Verdict
+files s = eachFrom BadSheet (judgeFile s)
+
+module _ (s : List ℕ) where
+  pub sheet-long : mostSheet < length s → beyond ≡ judgeSheet s
+  unfolding judgeSheet
+  sheet-long h = simp (judgeSheet, lt-ltb mostSheet (length s) h)
+
+  pub sheet-start : length s ≤ mostSheet → Rest (judgeSheet s) (files s 0) s (length s) 0
+  unfolding judgeSheet
+  sheet-start h = simp (judgeSheet, le-ltb mostSheet (length s) h) (rest-start (files s 0) s 0 (length s) (omega arith) (omega arith))
+
+-- a file that is fine is one of the first
+file-early : (s : List ℕ) (i t a e : ℕ) → Fine ≡ judgeFile s i t a e → i < mostFiles
+unfolding judgeFile
+file-early s i t a e = go (eqb t fileTag) (ltb i mostFiles) refl _
+  where
+    go : (b b′ : Bool) → ltb i mostFiles ≡ b′ → (v : Verdict)
+        → Fine ≡ elim b [ true ↦ elim b′ [ true ↦ v | false ↦ beyond ] | false ↦ malformed ] → i < mostFiles
+    go true true p v h = ltb-true i mostFiles p
+    go true false p v h = absurd (let z : _≡_ {A = ℕ} 0 1 = cc in omega arith)
+    go false b′ p v h = absurd (let z : _≡_ {A = ℕ} 0 1 = cc in omega arith)
+
+pub file-counted : (s : List ℕ) (i t a e : ℕ) (u : Verdict) → u ≡ judgeFile s i t a e → u ≡ Fine → i + 1 < 2 ^ 64
+file-counted s i t a e u q g = omega (arith, file-early s i t a e (sym g ∙ q))
+
+pub ruleset sheet-laws = (sheet-long, sheet-start, file-counted, field-ordered, each-from-laws)

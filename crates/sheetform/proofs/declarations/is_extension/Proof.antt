@@ -1,0 +1,20 @@
+-- `declarations::is_extension` meets its contract.
+-- Assumes nothing.
+use Rattle.sheetform.proofs.DeclarationLaws.{is-extension-laws}
+use borrow.Author.Needs.{needs}
+use Rattle.sheetform.proofs.declarations.is_extension.Statement.{statement}
+use Rattle.sheetform.proofs.declarations.is_extension.Tie as tie
+
+pub is-extension-spec : {M : Type 1} → statement M
+is-extension-spec = tie.close (tie.spec
+    (λ c κs. search (needs, is-extension-laws))
+    (λ c. search (needs, is-extension-laws))
+    (λ c. search (needs, is-extension-laws))
+    (λ c. search (needs, is-extension-laws))
+    (λ c. search (needs, is-extension-laws))
+    (λ c. search (needs, is-extension-laws))
+    (λ c. search (needs, is-extension-laws))
+    (λ c κs. search (needs, is-extension-laws))
+    (λ c. search (needs, is-extension-laws))
+    (λ c κs. search (needs, is-extension-laws))
+    (λ c. search (needs, is-extension-laws)))
