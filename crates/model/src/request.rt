@@ -34,12 +34,19 @@ pub fn heading_of(s: &[u8]) -> Headed
     let Leaf::At { from: a, to: types } = leaf_at(s, 0, end, table::SCOPE) else {
         return Headed::NoHeading;
     };
-    let Leaf::At { from: m, to: options } = leaf_at(s, types, end, table::OPTIONS_TYPE) else {
+    let Leaf::At {
+        from: m,
+        to: options,
+    } = leaf_at(s, types, end, table::OPTIONS_TYPE)
+    else {
         return Headed::NoHeading;
     };
     Headed::Heads(Heading {
         scope: Span { from: a, to: types },
-        message: Span { from: m, to: options },
+        message: Span {
+            from: m,
+            to: options,
+        },
         options: options,
     })
 }

@@ -1,0 +1,6 @@
+pub mod PartLaws
+pub mod PairLaws
+pub mod ConstantLaws
+pub mod RequestLaws
+pub mod ConstantControls
+pub mod RequestControls

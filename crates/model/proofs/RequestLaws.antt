@@ -1,0 +1,294 @@
+-- The laws of a request: the ways through `heading_of`, where a heading lies and parts end, and the loops that count parts and options.
+-- Assumes nothing.
+use mathlib.Core.Path.{_≡_, refl, sym, ap, _∙_}
+use mathlib.Core.Bool.{Bool, true, false}
+use mathlib.Core.List.{List, [], _∷_}
+use Prim.Native.Nat.{ℕ, zero, suc, _+_, _-_, _≤_, _<_}
+use native.Mathlib.Omega.{arith}
+use native.Mathlib.Nat.{zero-add, add-zero, add-assoc}
+use borrow.Author.Tests.{eq-eqb, ne-eqb, ltb-true, ltb-false}
+use lib.Dec.{ltb}
+use lib.ListN.{length}
+use mir.Syntax.{w64}
+use mir.Val.{Fits}
+use Rattle.field.specs.declared.Field.{Field}
+use Rattle.field.specs.declared.Field.the-variants.{Whole, Cut}
+use Rattle.field.specs.declared.Leaf.{Leaf}
+use Rattle.field.specs.declared.Leaf.the-variants.{At, Not}
+use Rattle.field.specs.Field.{fieldAt}
+use Rattle.field.specs.Leaf.{span, anyBytes, onLeaf, leafAt}
+use Rattle.field.specs.Walk.{Walk, done, cut, step, walk}
+use Rattle.field.proofs.FieldLaws.{Bounds, field-bounds, field-ordered}
+use Rattle.field.proofs.EachLaws.{field-within, field-less}
+use Rattle.field.proofs.LeafLaws.{leaf-bounds, leaf-inside}
+use Rattle.field.proofs.WalkLaws.{walk-done, walk-cut, walk-step}
+use Rattle.field.proofs.Rest.{Rest, rest-start, rest-end, rest-cut, rest-next}
+use Rattle.model.specs.declared.name.Part.{Part}
+use Rattle.model.specs.declared.name.Parted.{Parted}
+use Rattle.model.specs.declared.name.Parted.the-variants.{Is, NoPart}
+use Rattle.model.specs.declared.request.Heading.{Heading}
+use Rattle.model.specs.declared.request.Headed.{Headed}
+use Rattle.model.specs.declared.request.Headed.the-variants.{Heads, NoHeading}
+use Rattle.model.specs.Table.{scopeTag, optionsTypeTag, optionTag}
+use Rattle.model.specs.Name.{partAt, partOf, partsIn, further, afterParts}
+use Rattle.model.specs.Request.{headingOf, requestOf, optionOf, optionIn, optionsIn, partsOf}
+use Rattle.model.proofs.PartLaws.{part-bounds, part-less, rest-no-part, rest-part-next}
+
+-- ---- the heading
+abbrev heading : ℕ → ℕ → ℕ → ℕ → Heading
+heading a b m e = record { scope = span a b; message = span m e; options = e }
+
+abbrev heads : ℕ → ℕ → ℕ → ℕ → Headed
+heads a b m e = Heads (heading a b m e)
+
+module _ (s : List ℕ) (l : Leaf) (q : l ≡ leafAt scopeTag anyBytes s 0 (length s)) where
+  pub heading-unscoped : l ≡ Not → NoHeading ≡ headingOf s
+  unfolding headingOf
+  heading-unscoped g = rw (← q, g)
+
+  module _ (a b : ℕ) (g : l ≡ At a b) (l′ : Leaf) (q′ : l′ ≡ leafAt optionsTypeTag anyBytes s b (length s)) where
+    heading-open : headingOf s ≡ onLeaf NoHeading l′ (heads a b)
+    unfolding headingOf
+    heading-open = rw (← q, g, ← q′)
+
+    pub heading-untyped : l′ ≡ Not → NoHeading ≡ headingOf s
+    heading-untyped g′ = rw (heading-open, g′)
+
+    pub heading-is : (m e : ℕ) → l′ ≡ At m e → heads a b m e ≡ headingOf s
+    heading-is m e g′ = rw (heading-open, g′)
+
+pub ruleset heading-laws = (heading-unscoped, heading-untyped, heading-is, leaf-inside)
+
+-- ---- where a heading lies
+pub record HeadingPlaces (s : List ℕ) (h : Heading) : Type 0 where
+  pub scope : Bounds 0 (length s) (h .scope .from) (h .scope .to)
+  pub message : Bounds (h .scope .to) (length s) (h .message .from) (h .message .to)
+  pub options : h .options ≡ h .message .to
+
+module _ (s : List ℕ) (h : Heading) where
+  typed : (a b : ℕ) → Bounds 0 (length s) a b → (l : Leaf) → l ≡ leafAt optionsTypeTag anyBytes s b (length s)
+      → Heads h ≡ onLeaf NoHeading l (heads a b) → HeadingPlaces s h
+  typed a b k Not q g = absurd (let z : _≡_ {A = ℕ} 0 1 = cc in omega arith)
+  typed a b k (At m e) q g =
+      let x : h ≡ heading a b m e = cc in
+      rw x (record { scope = k; message = leaf-bounds optionsTypeTag anyBytes s b (length s) (At m e) q m e refl; options = refl })
+
+  scoped : (l : Leaf) → l ≡ leafAt scopeTag anyBytes s 0 (length s)
+      → Heads h ≡ onLeaf NoHeading l (λ a b. onLeaf NoHeading (leafAt optionsTypeTag anyBytes s b (length s)) (heads a b))
+      → HeadingPlaces s h
+  scoped Not q g = absurd (let z : _≡_ {A = ℕ} 0 1 = cc in omega arith)
+  scoped (At a b) q g =
+      typed a b (leaf-bounds scopeTag anyBytes s 0 (length s) (At a b) q a b refl) (leafAt optionsTypeTag anyBytes s b (length s)) refl g
+
+module _ (s : List ℕ) (r : Headed) (q : r ≡ headingOf s) (h : Heading) (g : r ≡ Heads h) where
+  pub heading-places : HeadingPlaces s h
+  unfolding headingOf
+  heading-places = scoped s h (leafAt scopeTag anyBytes s 0 (length s)) refl (sym g ∙ q)
+
+  pub scope-ordered : h .scope .from ≤ h .scope .to
+  scope-ordered = heading-places .scope .ordered
+
+  pub scope-inside : h .scope .to ≤ length s
+  scope-inside = heading-places .scope .inside
+
+  pub message-ordered : h .message .from ≤ h .message .to
+  message-ordered = heading-places .message .ordered
+
+  pub message-inside : h .message .to ≤ length s
+  message-inside = heading-places .message .inside
+
+  pub options-inside : h .options ≤ length s
+  options-inside = rw (heading-places .options) message-inside
+
+pub ruleset heading-spans = (scope-ordered, scope-inside, message-ordered, message-inside, options-inside)
+
+-- ---- the loop of `after_parts`
+module _ (v : ℕ) (s : List ℕ) (to at : ℕ) (k : Rest v (afterParts at) s to at) where
+  pub after-end : to ≤ at → at ≡ v
+  after-end h = sym (rest-end v (afterParts at) s to at k h)
+
+  module _ (h : at < to) (r : Parted) (q : r ≡ partAt s at to) where
+    pub after-stop : r ≡ NoPart → at ≡ v
+    after-stop g = sym (rest-no-part v (afterParts at) s to at k r q at refl refl (λ t a e w n. rw n) g)
+
+    pub after-next : (p : Part) → r ≡ Is p → Rest v (afterParts (p .name .to)) s to (p .name .to)
+    after-next p g = rest-part-next v (afterParts at) s to at k r q p g (afterParts (p .name .to)) (λ t w n. rw n)
+
+pub ruleset after-laws = (rest-start, after-end, after-stop, after-next, part-less)
+
+-- ---- where the parts end: between the two places
+record Between (from to x : ℕ) : Type 0 where
+  pub after : from ≤ x
+  pub inside : x ≤ to
+
+module _ (s : List ℕ) (to : ℕ) where
+  abbrev Ends : ℕ → Type 0
+  Ends at = Between at to (afterParts at (walk s at to))
+
+  ends-further : (at x : ℕ) → at ≤ to → Between at to x → (r : Parted) → Between at to (further r at x)
+  ends-further at x h b NoPart = record { after = omega arith; inside = h }
+  ends-further at x h b (Is p) = b
+
+  ends-done : (at : ℕ) → at ≤ to → to ≤ at → Ends at
+  ends-done at h l = rw (walk-done s at to l) (record { after = omega arith; inside = h })
+
+  module _ (n at : ℕ) (h : at ≤ to) (l : to - at ≤ suc n) (next : (e : ℕ) → e ≤ to → to - e ≤ n → Ends e) where
+    ends-field : at < to → (f : Field) → f ≡ fieldAt s at to → Ends at
+    ends-field k Cut q = rw (walk-cut s at to k Cut q refl) (record { after = omega arith; inside = h })
+    ends-field k (Whole t a e) q =
+        let b = field-bounds s at to (Whole t a e) q t a e refl in
+        let i = next e (b .inside) (omega (arith, b .starts, b .ordered)) in
+        rw (walk-step s at to k (Whole t a e) q t a e refl)
+        (ends-further at (afterParts e (walk s e to)) h
+        (record { after = omega (arith, b .starts, b .ordered, i .after); inside = i .inside }) (partOf t a e))
+
+    ends-test : (x : Bool) → ltb at to ≡ x → Ends at
+    ends-test true p = ends-field (ltb-true at to p) (fieldAt s at to) refl
+    ends-test false p = ends-done at h (ltb-false at to p)
+
+  ends : (n at : ℕ) → at ≤ to → to - at ≤ n → Ends at
+  ends zero at h l = ends-done at h (omega arith)
+  ends (suc n) at h l = ends-test n at h l (ends n) (ltb at to) refl
+
+module _ (s : List ℕ) (from to r : ℕ) (q : r ≡ afterParts from (walk s from to)) (h : from ≤ to) where
+  between : Between from to r
+  between = rw q (ends s to (to - from) from h (omega arith))
+
+  pub after-from : from ≤ r
+  after-from = between .after
+
+  pub after-inside : r ≤ to
+  after-inside = between .inside
+
+pub ruleset after-places = (after-from, after-inside)
+
+-- ---- loops that count: n was counted up to the place `at`, no more than there are bytes, and f counts what is left
+abbrev pub counted : (Walk → ℕ) → ℕ → Walk → ℕ
+counted f n w = n + f w
+
+pub record Counting (v : ℕ) (f : Walk → ℕ) (s : List ℕ) (from to n at : ℕ) : Type 0 where
+  pub left : Rest v (counted f n) s to at
+  pub few : n + from ≤ at
+
+pub counting-start : (f : Walk → ℕ) (s : List ℕ) (from to : ℕ) → from ≤ to → to ≤ length s
+    → Counting (f (walk s from to)) f s from to 0 from
+counting-start f s from to h k =
+    record { left = record { within = h; inside = k; rest = sym (zero-add (f (walk s from to))) }; few = omega arith }
+
+module _ (v : ℕ) (f : Walk → ℕ) (s : List ℕ) (from to n at : ℕ) (k : Counting v f s from to n at) where
+  pub counting-end : to ≤ at → f done ≡ 0 → n ≡ v
+  counting-end h z = sym (rest-end v (counted f n) s to at (k .left) h ∙ rw z (add-zero n))
+
+  pub counting-few : n ≤ to - from
+  counting-few = omega (arith, k .few, k .left .within)
+
+  module _ (h : at < to) (r : Field) (q : r ≡ fieldAt s at to) where
+    pub counting-cut : r ≡ Cut → f cut ≡ 0 → n ≡ v
+    counting-cut g z = sym (rest-cut v (counted f n) s to at (k .left) h r q g ∙ rw z (add-zero n))
+
+    module _ (t a e : ℕ) (g : r ≡ Whole t a e) where
+      pub counting-more : (m : ℕ) → f (step t a e (walk s e to)) ≡ m + f (walk s e to) → m ≤ e - at → Counting v f s from to (n + m) e
+      counting-more m p l =
+          let b = field-bounds s at to r q t a e g in
+          let same = sym (add-assoc n m (f (walk s e to))) in
+          record {
+            left = rest-next v (counted f n) s to at (k .left) h r q t a e g (counted f (n + m)) (rw p same);
+            few = omega (arith, k .few, b .starts, b .ordered);
+          }
+
+      pub counting-other : f (step t a e (walk s e to)) ≡ f (walk s e to) → Counting v f s from to n e
+      counting-other p = rw (add-zero n) at (counting-more 0 (p ∙ sym (zero-add (f (walk s e to)))) (omega arith))
+
+-- ---- the loop of `count_parts_at`
+abbrev pub partCount : Walk → ℕ
+partCount w = length (partsIn w)
+
+module _ (v : ℕ) (s : List ℕ) (from to n at : ℕ) (k : Counting v partCount s from to n at) (h : at < to)
+    (r : Parted) (q : r ≡ partAt s at to) where
+  pub parts-stop : r ≡ NoPart → n ≡ v
+  parts-stop g = sym (rest-no-part v (counted partCount n) s to at (k .left) r q n (add-zero n) (add-zero n) (λ t a e w x. rw x (add-zero n)) g)
+
+  pub parts-next : (p : Part) → r ≡ Is p → Counting v partCount s from to (n + 1) (p .name .to)
+  parts-next p g =
+      let b = part-bounds s at to r q p g in
+      record {
+        left = rest-part-next v (counted partCount n) s to at (k .left) r q p g (counted partCount (n + 1)) (λ t w x. rw x (omega arith));
+        few = omega (arith, k .few, b .starts, b .ordered);
+      }
+
+pub ruleset parts-laws = (counting-start, counting-end, counting-few, parts-stop, parts-next, part-less)
+
+-- ---- the loops over options, from the heading on
+abbrev pub optionCount : List ℕ → Walk → ℕ
+optionCount s w = length (optionsIn s w)
+
+abbrev pub nameCount : List ℕ → Walk → ℕ
+nameCount s w = partsOf (optionsIn s w)
+
+module _ (s : List ℕ) (r : Headed) (q : r ≡ headingOf s) where
+  request-none : r ≡ NoHeading → requestOf s .options ≡ []
+  unfolding requestOf
+  request-none g = rw (← q, g)
+
+  pub no-options : r ≡ NoHeading → 0 ≡ length (requestOf s .options)
+  no-options g = rw (request-none g)
+
+  pub no-names : r ≡ NoHeading → 0 ≡ partsOf (requestOf s .options)
+  no-names g = rw (request-none g)
+
+  module _ (h : Heading) (g : r ≡ Heads h) where
+    request-options : requestOf s .options ≡ optionsIn s (walk s (h .options) (length s))
+    unfolding requestOf
+    request-options = rw (← q, g)
+
+    start : (f : Walk → ℕ) → Counting (f (walk s (h .options) (length s))) f s (h .options) (length s) 0 (h .options)
+    start f = counting-start f s (h .options) (length s) (options-inside s r q h g) (omega arith)
+
+    pub options-start : Counting (length (requestOf s .options)) (optionCount s) s (h .options) (length s) 0 (h .options)
+    options-start = rw request-options (start (optionCount s))
+
+    pub names-start : Counting (partsOf (requestOf s .options)) (nameCount s) s (h .options) (length s) 0 (h .options)
+    names-start = rw request-options (start (nameCount s))
+
+module _ (s : List ℕ) (t a e : ℕ) (w : Walk) where
+  option-other : (t ≡ optionTag → ⊥) → optionsIn s (step t a e w) ≡ optionsIn s w
+  unfolding optionIn
+  option-other n = simp (optionIn, ne-eqb t optionTag n)
+
+  option-first : t ≡ optionTag → optionsIn s (step t a e w) ≡ optionOf s a e ∷ optionsIn s w
+  unfolding optionIn
+  option-first n = simp (optionIn, eq-eqb t optionTag n)
+
+module _ (v : ℕ) (s : List ℕ) (from to n at : ℕ) (h : at < to) (r : Field) (q : r ≡ fieldAt s at to) (t a e : ℕ) (g : r ≡ Whole t a e) where
+  module _ (k : Counting v (optionCount s) s from to n at) where
+    pub options-other : (t ≡ optionTag → ⊥) → Counting v (optionCount s) s from to n e
+    options-other x = counting-other v (optionCount s) s from to n at k h r q t a e g (ap length (option-other s t a e (walk s e to) x))
+
+    pub options-next : t ≡ optionTag → Counting v (optionCount s) s from to (n + 1) e
+    options-next x =
+        let b = field-bounds s at to r q t a e g in
+        counting-more v (optionCount s) s from to n at k h r q t a e g 1
+        (ap length (option-first s t a e (walk s e to) x) ∙ omega arith) (omega (arith, b .starts, b .ordered))
+
+  module _ (k : Counting v (nameCount s) s from to n at) where
+    pub names-other : (t ≡ optionTag → ⊥) → Counting v (nameCount s) s from to n e
+    names-other x = counting-other v (nameCount s) s from to n at k h r q t a e g (ap partsOf (option-other s t a e (walk s e to) x))
+
+    module _ (m : ℕ) (l : m ≤ e - a) where
+      pub names-next : t ≡ optionTag → m ≡ partCount (walk s a e) → Counting v (nameCount s) s from to (n + m) e
+      unfolding optionOf
+      names-next x p =
+          let b = field-bounds s at to r q t a e g in
+          counting-more v (nameCount s) s from to n at k h r q t a e g m
+          (ap partsOf (option-first s t a e (walk s e to) x) ∙ ap (λ (y : ℕ). y + nameCount s (walk s e to)) (sym p))
+          (omega (arith, b .starts, b .ordered))
+
+      pub names-fit : Fits w64 to → Fits w64 (n + m)
+      names-fit f =
+          let b = field-bounds s at to r q t a e g in
+          record { fits = omega (arith, f .fits, k .few, b .starts, b .ordered, b .inside) }
+
+pub ruleset options-laws = (no-options, options-start, counting-end, counting-cut, options-other, options-next, field-less)
+
+pub ruleset names-laws =
+    (no-names, names-start, counting-end, counting-cut, names-other, names-next, names-fit, field-ordered, field-within, field-less)

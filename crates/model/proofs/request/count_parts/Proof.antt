@@ -1,0 +1,33 @@
+-- `request::count_parts` meets its contract.
+-- Assumes nothing.
+use Prim.Native.Nat.{_-_}
+use Rattle.model.specs.Request.{requestOf, partsOf}
+use Rattle.model.proofs.RequestLaws.{Counting, nameCount, names-laws}
+use borrow.Author.Needs.{needs}
+use Rattle.model.proofs.request.count_parts.Statement.{statement}
+use Rattle.model.proofs.request.count_parts.Tie as tie
+
+abbrev Inv-loop : tie.InvT-loop
+Inv-loop s end n₀ at₀ n at = Counting (partsOf (requestOf s .options)) (nameCount s) s at₀ end n at
+
+abbrev μ-loop : tie.MeasureT-loop
+μ-loop s end n₀ at₀ n at = end - at
+
+pub count-parts-spec : {M : Type 1} → statement M
+count-parts-spec = tie.close (tie.spec Inv-loop μ-loop
+    (λ c κs. search (needs, names-laws))
+    (λ c. search (needs, names-laws))
+    (λ c. search (needs, names-laws))
+    (λ c. search (needs, names-laws))
+    (λ c. search (needs, names-laws))
+    (λ c κs. search (needs, names-laws))
+    (λ c. search (needs, names-laws))
+    (λ c. search (needs, names-laws))
+    (λ c. search (needs, names-laws))
+    (λ c κs. search (needs, names-laws))
+    (λ c. search (needs, names-laws))
+    (λ c. search (needs, names-laws))
+    (λ c. search (needs, names-laws))
+    (λ c. search (needs, names-laws))
+    (λ c. search (needs, names-laws))
+    (λ c. search (needs, names-laws)))
