@@ -124,20 +124,17 @@ module _ {A : Type 0} (v : A) (F : Walk → A) (s : List ℕ) (to i : ℕ) (k : 
     ]
 
   module _ (p : Part) (g : r ≡ Is p) where
-    rest-part-step : v ≡ F (step (part-field s i to r q p g .tag) (p .name .from) (p .name .to) (walk s (p .name .to) to))
-    rest-part-step = k .rest ∙ ap F (part-step s i to r q p g)
-
     pub rest-part : (x : A)
-        → ((t : ℕ) (w : Walk) → partOf t (p .name .from) (p .name .to) ≡ Is p → F (step t (p .name .from) (p .name .to) w) ≡ x)
+        → ((t : ℕ) → partOf t (p .name .from) (p .name .to) ≡ Is p
+        → F (step t (p .name .from) (p .name .to) (walk s (p .name .to) to)) ≡ x)
         → v ≡ x
     rest-part x f =
-        rest-part-step ∙ f (part-field s i to r q p g .tag) (walk s (p .name .to) to) (part-field s i to r q p g .is)
+        let o : PartField s i to p = part-field s i to r q p g in
+        k .rest ∙ ap F (part-step s i to r q p g) ∙ f (o .tag) (o .is)
 
     pub rest-part-next : (G : Walk → A)
-        → ((t : ℕ) (w : Walk) → partOf t (p .name .from) (p .name .to) ≡ Is p → F (step t (p .name .from) (p .name .to) w) ≡ G w)
+        → ((t : ℕ) → partOf t (p .name .from) (p .name .to) ≡ Is p
+        → F (step t (p .name .from) (p .name .to) (walk s (p .name .to) to)) ≡ G (walk s (p .name .to) to))
         → Rest v G s to (p .name .to)
-    rest-part-next G f = record {
-      within = part-inside s i to r q p g;
-      inside = k .inside;
-      rest = rest-part-step ∙ f (part-field s i to r q p g .tag) (walk s (p .name .to) to) (part-field s i to r q p g .is);
-    }
+    rest-part-next G f =
+        record { within = part-inside s i to r q p g; inside = k .inside; rest = rest-part (G (walk s (p .name .to) to)) f }

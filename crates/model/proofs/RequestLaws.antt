@@ -112,7 +112,7 @@ module _ (v : ℕ) (s : List ℕ) (to at : ℕ) (k : Rest v (afterParts at) s to
     after-stop g = sym (rest-no-part v (afterParts at) s to at k r q at refl refl (λ t a e w n. rw n) g)
 
     pub after-next : (p : Part) → r ≡ Is p → Rest v (afterParts (p .name .to)) s to (p .name .to)
-    after-next p g = rest-part-next v (afterParts at) s to at k r q p g (afterParts (p .name .to)) (λ t w n. rw n)
+    after-next p g = rest-part-next v (afterParts at) s to at k r q p g (afterParts (p .name .to)) (λ t n. rw n)
 
 pub ruleset after-laws = (rest-start, after-end, after-stop, after-next, part-less)
 
@@ -212,7 +212,7 @@ module _ (v : ℕ) (s : List ℕ) (from to n at : ℕ) (k : Counting v partCount
   parts-next p g =
       let b = part-bounds s at to r q p g in
       record {
-        left = rest-part-next v (counted partCount n) s to at (k .left) r q p g (counted partCount (n + 1)) (λ t w x. rw x (omega arith));
+        left = rest-part-next v (counted partCount n) s to at (k .left) r q p g (counted partCount (n + 1)) (λ t x. rw x (omega arith));
         few = omega (arith, k .few, b .starts, b .ordered);
       }
 

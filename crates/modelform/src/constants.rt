@@ -66,10 +66,18 @@ fn check_pairs(s: &[u8], from: usize, to: usize, left: usize) -> Verdict
         let Paired::Pairs(p) = pair_at(s, at, to) else {
             return Verdict::Refused(Refusal::BadRequest);
         };
-        if !good_pair_name(p.by, &s[p.name.from..p.name.to]) {
+        let a = p.name.from;
+        let e = p.name.to;
+        if !good_pair_name(p.by, &s[a..e]) {
             return Verdict::Refused(Refusal::BadRequest);
         }
-        if let Verdict::Refused(why) = check_constant(s, p.tag, p.constant.from, p.constant.to, left) {
+        if let Verdict::Refused(why) = check_constant(
+            s,
+            p.tag,
+            p.constant.from,
+            p.constant.to,
+            left,
+        ) {
             return Verdict::Refused(why);
         }
         at = p.constant.to;

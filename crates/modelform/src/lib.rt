@@ -28,7 +28,11 @@ pub fn check_request(s: &[u8]) -> Verdict
     let Leaf::At { from: _, to: types } = leaf::rel_or_empty_at(s, 0, end, table::SCOPE) else {
         return Verdict::Refused(Refusal::BadRequest);
     };
-    let Leaf::At { from: _, to: options } = leaf::rel_path_at(s, types, end, table::OPTIONS_TYPE) else {
+    let Leaf::At {
+        from: _,
+        to: options,
+    } = leaf::rel_path_at(s, types, end, table::OPTIONS_TYPE)
+    else {
         return Verdict::Refused(Refusal::BadRequest);
     };
     check_options(s, options, end)

@@ -37,11 +37,13 @@ fn check_parts(s: &[u8], from: usize, to: usize) -> Parts
         if MOST_PARTS <= n {
             return Parts::Refuses(Refusal::BeyondLimit);
         }
-        if !good_part(p.extension, &s[p.name.from..p.name.to]) {
+        let a = p.name.from;
+        let e = p.name.to;
+        if !good_part(p.extension, &s[a..e]) {
             return Parts::Refuses(Refusal::BadRequest);
         }
         n += 1;
-        at = p.name.to;
+        at = e;
     }
     Parts::After(at)
 }

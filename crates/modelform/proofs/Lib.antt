@@ -1,0 +1,5 @@
+pub mod LeafRules
+pub mod ConstantLaws
+pub mod OptionLaws
+pub mod RequestLaws
+pub mod Controls

@@ -1,0 +1,15 @@
+-- `options::check_name` meets its contract.
+-- Assumes nothing.
+use Rattle.modelform.proofs.OptionLaws.{name-laws}
+use borrow.Author.Needs.{needs}
+use Rattle.modelform.proofs.options.check_name.Statement.{statement}
+use Rattle.modelform.proofs.options.check_name.Tie as tie
+
+pub check-name-spec : {M : Type 1} → statement M
+check-name-spec = tie.close (tie.spec
+    (λ c κs. search (needs, name-laws))
+    (λ c. search (needs, name-laws))
+    (λ c. search (needs, name-laws))
+    (λ c κs. search (needs, name-laws))
+    (λ c. search (needs, name-laws))
+    (λ c. search (needs, name-laws)))
