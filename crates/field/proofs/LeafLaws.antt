@@ -139,6 +139,25 @@ leaf-passed k good s a e (Whole t n m) p = go (eqb t k) (good (part s n m)) refl
         let v : e ≡ m = cc in
         rw (u, v) x
 
+leaf-dropped : (k : ℕ) (good : List ℕ → Bool) (s : List ℕ) (a e : ℕ) (f : Field) → At a e ≡ leafOf k good s f
+    → At a e ≡ leafOf k anyBytes s f
+leaf-dropped k good s a e Cut p = p
+leaf-dropped k good s a e (Whole t n m) p = go (eqb t k) (good (part s n m)) p
+  where
+    go : (b b′ : Bool) → At a e ≡ onlyIf (b && b′) (At n m) → At a e ≡ onlyIf (b && true) (At n m)
+    go false b′ p = p
+    go true false p = absurd (let z : _≡_ {A = ℕ} 0 1 = cc in omega arith)
+    go true true p = p
+
+module _ (k : ℕ) (good : List ℕ → Bool) (s : List ℕ) (at end a e : ℕ) (p : leafAt k good s at end ≡ At a e) where
+  pub leaf-tested : good (part s a e) ≡ true
+  unfolding leafAt
+  leaf-tested = leaf-passed k good s a e (fieldAt s at end) (sym p)
+
+  pub leaf-untested : leafAt k anyBytes s at end ≡ At a e
+  unfolding leafAt
+  leaf-untested = sym (leaf-dropped k good s a e (fieldAt s at end) (sym p))
+
 module _ (s : List ℕ) (a e : ℕ) (r : Leaf) (g : r ≡ At a e) (k at end : ℕ) where
   pub size-holds : (n : ℕ) → r ≡ leafAt k (ofSize n) s at end → end ≤ length s → a + n ≤ length s
   unfolding leafAt

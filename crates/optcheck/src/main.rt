@@ -78,26 +78,37 @@ fn has_request(s: &[u8], at: usize) -> bool {
     s[at] == REQUEST
 }
 
+// One case, and where the next one starts; 0 where the input is no such fields.
+fn check_case(s: &[u8], at: usize) -> usize
+    requires { ⌜ at ≤ length (now s) ⌝ }
+    ensures { λ r. ⌜ r ≤ length (now (s .entry)) ⌝ }
+{
+    let Leaf::At { from, to } = console::input::field_of(s, at, SHEET) else {
+        return 0;
+    };
+    if !has_request(s, to) {
+        check_sheet(&s[from..to]);
+        return to;
+    }
+    let Leaf::At { from: a, to: e } = console::input::field_of(s, to, REQUEST) else {
+        return 0;
+    };
+    check_both(&s[from..to], &s[a..e]);
+    e
+}
+
 // All cases, of which there has to be one.
 fn run(s: &[u8]) {
     let mut at = 0;
     loop {
-        let Leaf::At { from, to } = console::input::field_of(s, at, SHEET) else {
-            return;
-        };
-        if has_request(s, to) {
-            let Leaf::At { from: a, to: e } = console::input::field_of(s, to, REQUEST) else {
-                return;
-            };
-            check_both(&s[from..to], &s[a..e]);
-            at = e;
-        } else {
-            check_sheet(&s[from..to]);
-            at = to;
-        }
-        if at == s.len() {
+        let next = check_case(s, at);
+        if next <= at {
             return;
         }
+        if next == s.len() {
+            return;
+        }
+        at = next;
     }
 }
 

@@ -1,7 +1,9 @@
--- The laws of verdicts: the first fault is the answer, and what `judge` returns.
+-- The laws of verdicts: the first fault is the answer, what `judge` returns, and what a verdict that is fine says of its parts.
 -- Assumes nothing.
 use mathlib.Core.Path.{_≡_, refl}
 use mathlib.Core.Bool.{Bool, true, false}
+use Prim.Native.Nat.{ℕ}
+use native.Mathlib.Omega.{arith}
 use Rattle.reply.specs.declared.Refusal.{Refusal}
 use Rattle.reply.specs.declared.Verdict.{Verdict}
 use Rattle.reply.specs.declared.Verdict.the-variants.{Fine, Refused}
@@ -20,3 +22,19 @@ module _ (w : Refusal) (b : Bool) where
 
   pub judged-false : b ≡ false → Refused w ≡ judged w b
   judged-false g = rw g
+
+-- ---- what is fine
+pub refused-fine : (w : Refusal) → Refused w ≡ Fine → ⊥
+refused-fine w p = let z : _≡_ {A = ℕ} 0 1 = cc in omega arith
+
+pub first-fine-front : (u v : Verdict) → first u v ≡ Fine → u ≡ Fine
+first-fine-front Fine v p = refl
+first-fine-front (Refused w) v p = p
+
+pub first-fine-rest : (u v : Verdict) → first u v ≡ Fine → v ≡ Fine
+first-fine-rest Fine v p = p
+first-fine-rest (Refused w) v p = absurd (refused-fine w p)
+
+pub judged-fine : (w : Refusal) (b : Bool) → judged w b ≡ Fine → b ≡ true
+judged-fine w true p = refl
+judged-fine w false p = absurd (refused-fine w p)

@@ -1,5 +1,5 @@
--- Closed cases of the tree and its counts, which the checker computes: P1's sheet with every place, the empty sheet, a message with one of
--- each kind inside, what is cut at the end of a sheet and of a file, what is no declaration, and messages as deep as 01 allows and one deeper.
+-- Closed cases of the tree and its counts, which the checker computes: P1's sheet with every place, the empty sheet, a message that holds
+-- another, a field and an enum, cuts at the end of a sheet and of a file, what is no declaration, messages as deep as 01 allows and deeper.
 -- Assumes nothing.
 use mathlib.Core.Path.{_≡_, refl}
 use mathlib.Core.List.{List, [], _∷_, _++_, map}
@@ -10,7 +10,7 @@ use Rattle.field.specs.Leaf.{span, leafAt}
 use Rattle.field.specs.Walk.{walk}
 use Rattle.sheet.specs.Table.{fileTag, messageTag, extensionTag, enumTag, fieldTag, valueTag}
 use Rattle.sheet.specs.Declaration.{hasTypePath, typePathAt, shape, shapeAt, extensionAt, fieldAt, valueAt}
-use Rattle.sheet.specs.Tree.{none, message, extension, enumeration, field, File, valueIn, itemIn, itemsIn, fileIn, treeOf}
+use Rattle.sheet.specs.Tree.{Items, none, message, extension, enumeration, field, File, valueIn, itemIn, itemsIn, fileIn, treeOf}
 use Rattle.sheet.specs.Count.{inSheet}
 
 tree : List ℕ → List File
@@ -35,7 +35,7 @@ abbrev p1-tree : List File
 p1-tree =
     record {
       packageName = span 6 7;
-      items = extension (record { name = span 13 14; extendee = span 17 20; shape = shape 5 13 1 0 0 }) none
+      items = extension (record { name = span 13 14; extendee = span 17 20; shape = shape 5 13 1 0 0 }) none;
     }
     ∷ record { packageName = span 41 42; items = message (span 48 49) none none }
     ∷ []
@@ -68,14 +68,13 @@ inside =
     ∷ 0x06 ∷ 0 ∷ 0x0B ∷ 0x11 ∷ 0 ∷ 1 ∷ 0x61 ∷ 0x17 ∷ 0 ∷ 4 ∷ 0 ∷ 0 ∷ 0 ∷ 0
     ∷ 0x06 ∷ 0 ∷ 0x0B ∷ 0x11 ∷ 0 ∷ 1 ∷ 0x62 ∷ 0x17 ∷ 0 ∷ 4 ∷ 0xFF ∷ 0xFF ∷ 0xFF ∷ 0xFF ∷ []
 
-inside-whole : tree inside ≡ record {
-  packageName = span 6 6;
-  items = message (span 12 13)
-    (message (span 19 20) none
-      (field (record { name = span 26 27; extendee = span 0 0; shape = shape 1 13 1 0 0 })
-        (enumeration (span 48 49) (record { name = span 55 56; number = 0 } ∷ record { name = span 69 70; number = 0xFFFFFFFF } ∷ []) none)))
-    none
-} ∷ []
+abbrev inside-items : Items
+inside-items =
+    message (span 19 20) none
+    (field (record { name = span 26 27; extendee = span 0 0; shape = shape 1 13 1 0 0 })
+    (enumeration (span 48 49) (record { name = span 55 56; number = 0 } ∷ record { name = span 69 70; number = 0xFFFFFFFF } ∷ []) none))
+
+inside-whole : tree inside ≡ record { packageName = span 6 6; items = message (span 12 13) inside-items none } ∷ []
 unfolding tree
 inside-whole = refl
 
@@ -89,19 +88,24 @@ unfolding tree
 cut-sheet = refl
 
 -- a header that is cut at the end of the first file: what stands before it and the second file are there
-cut-file : tree (
-  0x01 ∷ 0 ∷ 0x0C ∷ 0x10 ∷ 0 ∷ 0 ∷ 0x02 ∷ 0 ∷ 4 ∷ 0x11 ∷ 0 ∷ 1 ∷ 0x4D ∷ 0x02 ∷ 0
+abbrev cut-inside : List ℕ
+cut-inside =
+    0x01 ∷ 0 ∷ 0x0C ∷ 0x10 ∷ 0 ∷ 0 ∷ 0x02 ∷ 0 ∷ 4 ∷ 0x11 ∷ 0 ∷ 1 ∷ 0x4D ∷ 0x02 ∷ 0
     ∷ 0x01 ∷ 0 ∷ 3 ∷ 0x10 ∷ 0 ∷ 0 ∷ []
-) ≡ record { packageName = span 6 6; items = message (span 12 13) none none } ∷ record { packageName = span 21 21; items = none } ∷ []
+
+cut-file : tree cut-inside
+    ≡ record { packageName = span 6 6; items = message (span 12 13) none none } ∷ record { packageName = span 21 21; items = none } ∷ []
 unfolding tree
 cut-file = refl
 
 -- ---- a message with no name, a field with no shape and a tag of no declaration are left out, and what follows them is there
-left-out : tree (
-  0x01 ∷ 0 ∷ 0x17 ∷ 0x10 ∷ 0 ∷ 0
+abbrev odd : List ℕ
+odd =
+    0x01 ∷ 0 ∷ 0x17 ∷ 0x10 ∷ 0 ∷ 0
     ∷ 0x02 ∷ 0 ∷ 0 ∷ 0x05 ∷ 0 ∷ 4 ∷ 0x11 ∷ 0 ∷ 1 ∷ 0x66 ∷ 0x07 ∷ 0 ∷ 0
     ∷ 0x02 ∷ 0 ∷ 4 ∷ 0x11 ∷ 0 ∷ 1 ∷ 0x4D ∷ []
-) ≡ record { packageName = span 6 6; items = message (span 25 26) none none } ∷ []
+
+left-out : tree odd ≡ record { packageName = span 6 6; items = message (span 25 26) none none } ∷ []
 unfolding tree
 left-out = refl
 

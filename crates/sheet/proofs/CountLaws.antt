@@ -1,10 +1,10 @@
 -- The laws of counting: what a field holds and what follows it are counted apart, so that siblings are added up, and what each function
 -- that counts comes to, with the bounds by which no sum wraps.
 -- Assumes nothing.
-use mathlib.Core.Path.{_≡_, refl, sym, ap, _∙_}
+use mathlib.Core.Path.{_≡_, refl, ap, _∙_}
 use mathlib.Core.Bool.{Bool, true, false}
 use mathlib.Core.List.{List, [], _∷_}
-use Prim.Native.Nat.{ℕ, zero, suc, _+_, _*_, _-_, _≤_, _<_}
+use Prim.Native.Nat.{ℕ, zero, suc, _+_, _*_, _-_, _≤_}
 use native.Mathlib.Nat.{le-refl, mul-le-mul-right}
 use native.Mathlib.Omega.{arith}
 use borrow.Author.Tests.{eq-eqb, ne-eqb}
@@ -27,10 +27,14 @@ use Rattle.sheet.specs.declared.declaration.Valued.{Valued}
 use Rattle.sheet.specs.declared.declaration.Valued.the-variants.{Values, NoValue}
 use Rattle.sheet.specs.Table.{fileTag, messageTag, extensionTag, enumTag, fieldTag, valueTag, packageTag, nameTag}
 use Rattle.sheet.specs.Declaration.{extensionAt, fieldAt, valueAt}
-use Rattle.sheet.specs.Tree.{Items, none, message, enumeration, File, valued, valueIn, valuesIn, enumIn, extensionIn, fieldIn, itemIn, messageIn, itemsWith, itemsIn, fileIn, filesIn, treeOf}
+use Rattle.sheet.specs.Tree.{Items, none, message, enumeration, File, valued, valueIn, valuesIn, enumIn, extensionIn, fieldIn}
+use Rattle.sheet.specs.Tree.{itemIn, messageIn, itemsWith, itemsIn, fileIn, filesIn, treeOf}
 use Rattle.sheet.specs.Count.{one, declaredCount, inItems, inSheet}
 use Rattle.sheet.proofs.Tally.{Tally, total, tally-start, tally-laws}
-use Rattle.sheet.proofs.TreeLaws.{value-other, value-none, value-some, enum-unnamed, enum-named, message-beyond, message-unnamed, message-named, item-message, item-extension, item-no-extension, item-enum, item-field, item-no-field, item-other, file-other, file-unnamed, file-named, tree-files}
+use Rattle.sheet.proofs.TreeLaws.{value-other, value-none, value-some, enum-unnamed, enum-named}
+use Rattle.sheet.proofs.TreeLaws.{message-beyond, message-unnamed, message-named}
+use Rattle.sheet.proofs.TreeLaws.{item-message, item-extension, item-no-extension, item-enum, item-field, item-no-field, item-other}
+use Rattle.sheet.proofs.TreeLaws.{file-other, file-unnamed, file-named, tree-files}
 
 -- ---- a field, and what follows it
 module _ (s : List ℕ) (t a e : ℕ) where
@@ -49,12 +53,12 @@ module _ (s : List ℕ) (t a e : ℕ) where
   unfolding fileIn
   file-adds k rest = go (eqb t fileTag) (leafAt packageTag anyBytes s a e)
     where
-      at : ℕ → ℕ → List File → List File
-      at n m r = record { packageName = span n m; items = itemsIn mostMessages s (walk s m e) } ∷ r
+      file : ℕ → ℕ → List File → List File
+      file n m r = record { packageName = span n m; items = itemsIn mostMessages s (walk s m e) } ∷ r
 
       go : (b : Bool) (l : Leaf)
-          → inSheet k (elim b [ true ↦ onLeaf rest l (λ n m. at n m rest) | false ↦ rest ])
-          ≡ inSheet k (elim b [ true ↦ onLeaf [] l (λ n m. at n m []) | false ↦ [] ]) + inSheet k rest
+          → inSheet k (elim b [ true ↦ onLeaf rest l (λ n m. file n m rest) | false ↦ rest ])
+          ≡ inSheet k (elim b [ true ↦ onLeaf [] l (λ n m. file n m []) | false ↦ [] ]) + inSheet k rest
       go true Not = omega arith
       go true (At n m) = omega arith
       go false l = omega arith
@@ -68,7 +72,7 @@ enum-adds k s a e rest = go (leafAt nameTag anyBytes s a e)
     go Not = omega arith
     go (At n m) = omega arith
 
--- that a reader of messages leaves what follows as it is
+-- a reader of messages, after which what follows is counted apart too
 abbrev pub Adds : ℕ → (ℕ → ℕ → Items → Items) → Type 0
 Adds k inner = (a e : ℕ) (rest : Items) → inItems k (inner a e rest) ≡ inItems k (inner a e none) + inItems k rest
 
@@ -85,7 +89,8 @@ message-adds k (suc d) s a e rest = go (leafAt nameTag anyBytes s a e)
 pub item-adds : (k : ℕ) (inner : ℕ → ℕ → Items → Items) → Adds k inner → (s : List ℕ) (t a e : ℕ) (rest : Items)
     → inItems k (itemIn inner s t a e rest) ≡ inItems k (itemIn inner s t a e none) + inItems k rest
 unfolding itemIn
-item-adds k inner i s t a e rest = go (eqb t messageTag) (eqb t extensionTag) (eqb t enumTag) (eqb t fieldTag) (extensionAt s a e) (fieldAt s a e)
+item-adds k inner i s t a e rest =
+    go (eqb t messageTag) (eqb t extensionTag) (eqb t enumTag) (eqb t fieldTag) (extensionAt s a e) (fieldAt s a e)
   where
     item : Bool → Bool → Bool → Bool → Declared → Declared → Items → Items
     item b b′ b″ b‴ x y r = elim b [
@@ -105,7 +110,7 @@ item-adds k inner i s t a e rest = go (eqb t messageTag) (eqb t extensionTag) (e
     go false false false true x (Declares y) = omega arith
     go false false false false x y = omega arith
 
--- ---- so the fields of a walk are added up
+-- ---- so the fields between two places are added up
 abbrev pub valueCount : List ℕ → ℕ → ℕ → ℕ → ℕ
 valueCount s t a e = length (valueIn s t a e [])
 
@@ -153,15 +158,15 @@ module _ (k t : ℕ) where
   one-other h = simp (one, ne-eqb k t h)
 
   module _ (d : Declared) where
-    pub declared-none : d ≡ NoDeclaration → 0 ≡ declaredCount d k t
-    declared-none g = rw g
+    pub declared-count-none : d ≡ NoDeclaration → 0 ≡ declaredCount d k t
+    declared-count-none g = rw g
 
-    pub declared-some : (x : Declaration) → d ≡ Declares x → (n : ℕ) → n ≡ one k t → n ≡ declaredCount d k t
-    declared-some x g n p = rw g p
+    pub declared-count-some : (x : Declaration) → d ≡ Declares x → (n : ℕ) → n ≡ one k t → n ≡ declaredCount d k t
+    declared-count-some x g n p = rw g p
 
 pub ruleset one-laws = (one-same, one-other)
 
-pub ruleset declared-laws = (declared-none, declared-some)
+pub ruleset declared-count-laws = (declared-count-none, declared-count-some)
 
 module _ (s : List ℕ) (t a e : ℕ) where
   pub value-count-other : (t ≡ valueTag → ⊥) → 0 ≡ valueCount s t a e
@@ -174,12 +179,12 @@ module _ (s : List ℕ) (t a e : ℕ) where
     pub value-count-some : (v : Value) → r ≡ Values v → 1 ≡ valueCount s t a e
     value-count-some v g = rw (value-some s t a e [] h r q v g)
 
-pub ruleset value-laws = (value-count-other, value-count-none, value-count-some)
+pub ruleset value-count-laws = (value-count-other, value-count-none, value-count-some)
 
 pub few-one : (n m : ℕ) → n ≤ 1 → n ≤ m + 1
 few-one n m h = omega arith
 
-pub ruleset values-laws = (values-start, few-one, tally-laws)
+pub ruleset values-count-laws = (values-start, few-one, tally-laws)
 
 -- ---- what has a name or a package: itself, x, and what it holds, y
 module _ (k : ℕ) (s : List ℕ) (a e : ℕ) (r : Leaf) (q : r ≡ leafAt k anyBytes s a e) (n m : ℕ) (g : r ≡ At n m) (x y : ℕ) where
@@ -203,8 +208,8 @@ module _ (k : ℕ) (s : List ℕ) (a e : ℕ) (r : Leaf) (q : r ≡ leafAt nameT
   pub enum-count-unnamed : r ≡ Not → 0 ≡ inItems k (enumIn s a e none)
   enum-count-unnamed g = rw (enum-unnamed s a e none r q g)
 
-  pub enum-count-named : (n m : ℕ) → r ≡ At n m → (x y z : ℕ) → x ≡ one k enumTag → y ≡ one k valueTag → z ≡ length (valuesIn s (walk s m e))
-      → x + y * z ≡ inItems k (enumIn s a e none)
+  pub enum-count-named : (n m : ℕ) → r ≡ At n m → (x y z : ℕ) → x ≡ one k enumTag → y ≡ one k valueTag
+      → z ≡ length (valuesIn s (walk s m e)) → x + y * z ≡ inItems k (enumIn s a e none)
   enum-count-named n m g x y z p o l = rw (enum-named s a e none r q n m g, p, o, l) (omega arith)
 
   module _ (d : ℕ) where
@@ -213,14 +218,14 @@ module _ (k : ℕ) (s : List ℕ) (a e : ℕ) (r : Leaf) (q : r ≡ leafAt nameT
 
     pub message-count-named : (d ≡ 0 → ⊥) → (n m : ℕ) → r ≡ At n m → (x y : ℕ) → x ≡ one k messageTag
         → y ≡ inItems k (itemsIn (d - 1) s (walk s m e)) → x + y ≡ inItems k (messageIn d s a e none)
-    message-count-named z n m g x y p o = rw (message-named d s a e none r q z n m g, p, o) (omega arith)
+    message-count-named z n m g x y p o = rw (message-named d s a e none z r q n m g, p, o) (omega arith)
 
 pub message-count-beyond : (k d : ℕ) (s : List ℕ) (a e : ℕ) → d ≡ 0 → 0 ≡ inItems k (messageIn d s a e none)
 message-count-beyond k d s a e h = rw (message-beyond d s a e none h)
 
-pub ruleset enum-laws = (enum-count-unnamed, enum-count-named, part-few, part-fits, holder-laws)
+pub ruleset enum-count-laws = (enum-count-unnamed, enum-count-named, part-few, part-fits, holder-laws)
 
-pub ruleset message-laws = (message-count-beyond, message-count-unnamed, message-count-named, holder-laws)
+pub ruleset message-count-laws = (message-count-beyond, message-count-unnamed, message-count-named, holder-laws)
 
 -- ---- a field of a file or a message
 module _ (k d : ℕ) (s : List ℕ) (t a e n : ℕ) where
@@ -244,9 +249,9 @@ pub item-count-other : (k d : ℕ) (s : List ℕ) (t a e : ℕ)
     → (t ≡ messageTag → ⊥) → (t ≡ extensionTag → ⊥) → (t ≡ enumTag → ⊥) → (t ≡ fieldTag → ⊥) → 0 ≡ itemCount k d s t a e
 item-count-other k d s t a e x y z w = rw (item-other (messageIn d s) s t a e none x y z w)
 
-pub ruleset item-laws = (item-count-message, item-count-extension, item-count-enum, item-count-field, item-count-other)
+pub ruleset item-count-laws = (item-count-message, item-count-extension, item-count-enum, item-count-field, item-count-other)
 
-pub ruleset items-laws = (items-start, tally-laws)
+pub ruleset items-count-laws = (items-start, tally-laws)
 
 -- ---- a field of a sheet
 module _ (k : ℕ) (s : List ℕ) (t a e : ℕ) where
@@ -261,6 +266,6 @@ module _ (k : ℕ) (s : List ℕ) (t a e : ℕ) where
         → x + y ≡ fileCount k s t a e
     file-count-named n m g x y p o = rw (file-named s t a e [] h r q n m g, p, o) (omega arith)
 
-pub ruleset file-laws = (file-count-other, file-count-unnamed, file-count-named, holder-laws)
+pub ruleset file-count-laws = (file-count-other, file-count-unnamed, file-count-named, holder-laws)
 
-pub ruleset files-laws = (files-start, tally-laws)
+pub ruleset files-count-laws = (files-start, tally-laws)

@@ -1,7 +1,7 @@
 -- A loop that adds up a number for each of sibling fields: what is counted so far and what the fields that are left have make the whole. No
 -- field counts for more than its bytes, so the sums fit.
 -- Assumes nothing.
-use mathlib.Core.Path.{_≡_, refl, sym, ap, _∙_}
+use mathlib.Core.Path.{_≡_, _∙_}
 use mathlib.Core.List.{List}
 use Prim.Native.Nat.{ℕ, _+_, _-_, _≤_, _<_}
 use native.Mathlib.Omega.{arith}
@@ -60,7 +60,7 @@ module _ (v : ℕ) (f : ℕ → ℕ → ℕ → ℕ) (s : List ℕ) (from to n i
           record {
             left = rest-next v (counted f n) s to i (k .left) h r q t a e g (counted f (n + u)) (omega arith);
             after = omega (arith, k .after, x .starts, x .ordered);
-            few = omega (arith, k .few, k .after, x .starts, x .ordered)
+            few = omega (arith, k .few, k .after, x .starts, x .ordered);
           }
 
 pub ruleset tally-laws = (tally-few, tally-end, tally-cut, tally-fits, tally-next, field-ordered, field-within, field-less)

@@ -1,7 +1,7 @@
--- The laws of a sheet's tree: what a list of fields holds opens at its first field, and what one field holds goes by its tag. Who walks over
--- a sheet cites these, and nothing after them opens a definition of the tree.
+-- The laws of a sheet's tree: what a list of fields holds opens at its first field, and what one field holds goes by its tag. Who walks
+-- over a sheet cites these, and nothing after them opens a definition of the tree.
 -- Assumes nothing.
-use mathlib.Core.Path.{_≡_, refl, sym, ap, _∙_}
+use mathlib.Core.Path.{_≡_, refl, ap}
 use mathlib.Core.List.{List, [], _∷_}
 use Prim.Native.Nat.{ℕ, zero, suc, _-_, _≤_, _<_}
 use native.Mathlib.Omega.{arith}
@@ -24,47 +24,21 @@ use Rattle.sheet.specs.declared.declaration.Valued.{Valued}
 use Rattle.sheet.specs.declared.declaration.Valued.the-variants.{Values, NoValue}
 use Rattle.sheet.specs.Table.{fileTag, messageTag, extensionTag, enumTag, fieldTag, valueTag, packageTag, nameTag}
 use Rattle.sheet.specs.Declaration.{extensionAt, fieldAt, valueAt}
-use Rattle.sheet.specs.Tree.{Items, none, message, extension, enumeration, field, File, valueIn, valuesIn, enumIn, itemIn, messageIn, itemsIn, fileIn, filesIn, treeOf}
+use Rattle.sheet.specs.Tree.{Items, none, message, extension, enumeration, field, File}
+use Rattle.sheet.specs.Tree.{valueIn, valuesIn, enumIn, itemIn, messageIn, itemsIn, fileIn, filesIn, treeOf}
 
--- ---- the fields between two places: none at the end, none where the rest is cut, else the first and what stands after it
+-- ---- the values of an enum: none at the end or where the rest is cut, else what the first field is and what stands after it
 module _ (s : List ℕ) (i to : ℕ) where
   pub values-end : to ≤ i → valuesIn s (walk s i to) ≡ []
   values-end h = ap (valuesIn s) (walk-done s i to h)
-
-  pub items-end : (d : ℕ) → to ≤ i → itemsIn d s (walk s i to) ≡ none
-  unfolding itemsIn
-  items-end d h = ap (itemsIn d s) (walk-done s i to h)
-
-  pub files-end : to ≤ i → filesIn s (walk s i to) ≡ []
-  files-end h = ap (filesIn s) (walk-done s i to h)
 
   module _ (h : i < to) (r : Field) (q : r ≡ next s i to) where
     pub values-cut : r ≡ Cut → valuesIn s (walk s i to) ≡ []
     values-cut g = ap (valuesIn s) (walk-cut s i to h r q g)
 
-    pub items-cut : (d : ℕ) → r ≡ Cut → itemsIn d s (walk s i to) ≡ none
-    unfolding itemsIn
-    items-cut d g = ap (itemsIn d s) (walk-cut s i to h r q g)
+    pub values-step : (t a e : ℕ) → r ≡ Whole t a e → valuesIn s (walk s i to) ≡ valueIn s t a e (valuesIn s (walk s e to))
+    values-step t a e g = ap (valuesIn s) (walk-step s i to h r q t a e g)
 
-    pub files-cut : r ≡ Cut → filesIn s (walk s i to) ≡ []
-    files-cut g = ap (filesIn s) (walk-cut s i to h r q g)
-
-    module _ (t a e : ℕ) (g : r ≡ Whole t a e) where
-      pub values-step : valuesIn s (walk s i to) ≡ valueIn s t a e (valuesIn s (walk s e to))
-      values-step = ap (valuesIn s) (walk-step s i to h r q t a e g)
-
-      pub items-step : (d : ℕ) → itemsIn d s (walk s i to) ≡ itemIn (messageIn d s) s t a e (itemsIn d s (walk s e to))
-      unfolding itemsIn
-      items-step d = ap (itemsIn d s) (walk-step s i to h r q t a e g)
-
-      pub files-step : filesIn s (walk s i to) ≡ fileIn s t a e (filesIn s (walk s e to))
-      files-step = ap (filesIn s) (walk-step s i to h r q t a e g)
-
-pub tree-files : (s : List ℕ) → treeOf s ≡ filesIn s (walk s 0 (length s))
-unfolding treeOf
-tree-files s = refl
-
--- ---- a field of an enum
 module _ (s : List ℕ) (t a e : ℕ) (rest : List Value) where
   pub value-other : (t ≡ valueTag → ⊥) → valueIn s t a e rest ≡ rest
   unfolding valueIn
@@ -79,38 +53,22 @@ module _ (s : List ℕ) (t a e : ℕ) (rest : List Value) where
     unfolding valueIn
     value-some v g = rw (h, ← q, g)
 
--- ---- an enum
-module _ (s : List ℕ) (a e : ℕ) (rest : Items) (r : Leaf) (q : r ≡ leafAt nameTag anyBytes s a e) where
-  pub enum-unnamed : r ≡ Not → enumIn s a e rest ≡ rest
-  enum-unnamed g = rw (← q, g)
+-- ---- what a file or a message holds, with d levels of messages left
+module _ (d : ℕ) (s : List ℕ) (i to : ℕ) where
+  pub items-end : to ≤ i → itemsIn d s (walk s i to) ≡ none
+  unfolding itemsIn
+  items-end h = ap (itemsIn d s) (walk-done s i to h)
 
-  pub enum-named : (n m : ℕ) → r ≡ At n m → enumIn s a e rest ≡ enumeration (span n m) (valuesIn s (walk s m e)) rest
-  enum-named n m g = rw (← q, g)
+  module _ (h : i < to) (r : Field) (q : r ≡ next s i to) where
+    pub items-cut : r ≡ Cut → itemsIn d s (walk s i to) ≡ none
+    unfolding itemsIn
+    items-cut g = ap (itemsIn d s) (walk-cut s i to h r q g)
 
--- ---- a message, with d levels of messages left
-module _ (d : ℕ) (s : List ℕ) (a e : ℕ) (rest : Items) where
-  pub message-beyond : d ≡ 0 → messageIn d s a e rest ≡ rest
-  message-beyond h = rw h
+    pub items-step : (t a e : ℕ) → r ≡ Whole t a e
+        → itemsIn d s (walk s i to) ≡ itemIn (messageIn d s) s t a e (itemsIn d s (walk s e to))
+    unfolding itemsIn
+    items-step t a e g = ap (itemsIn d s) (walk-step s i to h r q t a e g)
 
-unnamed : (d : ℕ) (s : List ℕ) (a e : ℕ) (rest : Items) → Not ≡ leafAt nameTag anyBytes s a e → messageIn d s a e rest ≡ rest
-unnamed zero s a e rest q = refl
-unnamed (suc d) s a e rest q = rw (← q)
-
-named : (d : ℕ) (s : List ℕ) (a e : ℕ) (rest : Items) → (d ≡ 0 → ⊥) → (n m : ℕ) → At n m ≡ leafAt nameTag anyBytes s a e
-    → messageIn d s a e rest ≡ message (span n m) (itemsIn (d - 1) s (walk s m e)) rest
-unfolding itemsIn
-named zero s a e rest z n m q = absurd (z refl)
-named (suc d) s a e rest z n m q = let p : suc d - 1 ≡ d = omega arith in rw (p, ← q)
-
-module _ (d : ℕ) (s : List ℕ) (a e : ℕ) (rest : Items) (r : Leaf) (q : r ≡ leafAt nameTag anyBytes s a e) where
-  pub message-unnamed : r ≡ Not → messageIn d s a e rest ≡ rest
-  message-unnamed g = unnamed d s a e rest (sym g ∙ q)
-
-  pub message-named : (d ≡ 0 → ⊥) → (n m : ℕ) → r ≡ At n m
-      → messageIn d s a e rest ≡ message (span n m) (itemsIn (d - 1) s (walk s m e)) rest
-  message-named z n m g = named d s a e rest z n m (sym g ∙ q)
-
--- ---- a field of a file or a message, where `inner` reads a message
 module _ (inner : ℕ → ℕ → Items → Items) (s : List ℕ) (t a e : ℕ) (rest : Items) where
   pub item-message : t ≡ messageTag → itemIn inner s t a e rest ≡ inner a e rest
   unfolding itemIn
@@ -142,7 +100,46 @@ module _ (inner : ℕ → ℕ → Items → Items) (s : List ℕ) (t a e : ℕ) 
   unfolding itemIn
   item-other x y z w = simp (itemIn, ne-eqb t messageTag x, ne-eqb t extensionTag y, ne-eqb t enumTag z, ne-eqb t fieldTag w)
 
--- ---- a field of a sheet
+-- an enum
+module _ (s : List ℕ) (a e : ℕ) (rest : Items) (r : Leaf) (q : r ≡ leafAt nameTag anyBytes s a e) where
+  pub enum-unnamed : r ≡ Not → enumIn s a e rest ≡ rest
+  enum-unnamed g = rw (← q, g)
+
+  pub enum-named : (n m : ℕ) → r ≡ At n m → enumIn s a e rest ≡ enumeration (span n m) (valuesIn s (walk s m e)) rest
+  enum-named n m g = rw (← q, g)
+
+-- a message: with no level left it is left out
+pub message-beyond : (d : ℕ) (s : List ℕ) (a e : ℕ) (rest : Items) → d ≡ 0 → messageIn d s a e rest ≡ rest
+message-beyond d s a e rest h = rw h
+
+pub message-unnamed : (d : ℕ) (s : List ℕ) (a e : ℕ) (rest : Items) (r : Leaf) → r ≡ leafAt nameTag anyBytes s a e → r ≡ Not
+    → messageIn d s a e rest ≡ rest
+message-unnamed zero s a e rest r q g = refl
+message-unnamed (suc d) s a e rest r q g = rw (← q, g)
+
+pub message-named : (d : ℕ) (s : List ℕ) (a e : ℕ) (rest : Items) → (d ≡ 0 → ⊥)
+    → (r : Leaf) → r ≡ leafAt nameTag anyBytes s a e → (n m : ℕ) → r ≡ At n m
+    → messageIn d s a e rest ≡ message (span n m) (itemsIn (d - 1) s (walk s m e)) rest
+unfolding itemsIn
+message-named zero s a e rest z r q n m g = absurd (z refl)
+message-named (suc d) s a e rest z r q n m g = let p : suc d - 1 ≡ d = omega arith in rw (p, ← q, g)
+
+-- ---- the files of a sheet
+pub tree-files : (s : List ℕ) → treeOf s ≡ filesIn s (walk s 0 (length s))
+unfolding treeOf
+tree-files s = refl
+
+module _ (s : List ℕ) (i to : ℕ) where
+  pub files-end : to ≤ i → filesIn s (walk s i to) ≡ []
+  files-end h = ap (filesIn s) (walk-done s i to h)
+
+  module _ (h : i < to) (r : Field) (q : r ≡ next s i to) where
+    pub files-cut : r ≡ Cut → filesIn s (walk s i to) ≡ []
+    files-cut g = ap (filesIn s) (walk-cut s i to h r q g)
+
+    pub files-step : (t a e : ℕ) → r ≡ Whole t a e → filesIn s (walk s i to) ≡ fileIn s t a e (filesIn s (walk s e to))
+    files-step t a e g = ap (filesIn s) (walk-step s i to h r q t a e g)
+
 module _ (s : List ℕ) (t a e : ℕ) (rest : List File) where
   pub file-other : (t ≡ fileTag → ⊥) → fileIn s t a e rest ≡ rest
   unfolding fileIn

@@ -1,4 +1,6 @@
 pub mod DeclarationLaws
 pub mod MessageLaws
 pub mod SheetLaws
+pub mod FineItems
+pub mod FineLaws
 pub mod Controls

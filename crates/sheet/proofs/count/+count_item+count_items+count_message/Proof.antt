@@ -1,12 +1,12 @@
-use Prim.Native.Nat.{_+_, _*_, _-_}
+-- `count::count_item`, `count::count_message` and `count::count_items` meet their contracts. Each call is nearer to the last level.
+-- Assumes nothing.
+use Prim.Native.Nat.{_+_, _*_, _-_, ℕ, _<_}
 use Rattle.field.specs.Walk.{walk}
 use Rattle.sheet.specs.Tree.{itemsIn}
 use Rattle.sheet.specs.Count.{inItems}
 use Rattle.sheet.proofs.Tally.{Tally}
-use Rattle.sheet.proofs.CountLaws.{itemCount}
-use Rattle.sheet.proofs.CountLaws.{item-laws, items-laws, message-laws}
+use Rattle.sheet.proofs.CountLaws.{itemCount, item-count-laws, items-count-laws, message-count-laws}
 use borrow.Author.Needs.{needs}
-use Prim.Native.Nat.{ℕ, _<_}
 use borrow.Fn.Kinds.{In}
 use borrow.Fn.PlainCycle.{Measures, is, falls, and}
 use Rattle.sheet.proofs.count.count_item.Reads as count-item
@@ -74,37 +74,58 @@ count-items-μ-loop s from to left want n₀ at₀ n at = to - at
 
 pub +count-item+count-items+count-message-spec : {M : Type 1} → statement M
 +count-item+count-items+count-message-spec = close μ-count-item μ-count-items μ-count-message
-    (λ t. count-item-lts.spec (count-message-below t, count-message.Post, extension-at-reads.Asked, extension-at-reads.Learnt, count-declared-reads.Asked, count-declared-reads.Learnt, count-enum-reads.Asked, count-enum-reads.Learnt, declaration-field-at-reads.Asked, declaration-field-at-reads.Learnt) (count-item-at t) count-item.Post
-    (λ c κs. search (needs, item-laws))
-    (λ c. search (needs, item-laws))
-    (λ c κs. search (needs, item-laws))
-    (λ c κs. search (needs, item-laws))
-    (λ c. search (needs, item-laws))
-    (λ c κs. search (needs, item-laws))
-    (λ c. search (needs, item-laws))
-    (λ c κs. search (needs, item-laws))
-    (λ c κs. search (needs, item-laws))
-    (λ c. search (needs, item-laws))
-    (λ c. search (needs, item-laws)))
-    (λ t. count-items-lts.spec (field-at-reads.Asked, field-at-reads.Learnt, count-item-below t, count-item.Post) (count-items-at t) count-items.Post count-items-Inv-loop count-items-μ-loop
-    (λ c. search (needs, items-laws))
-    (λ c κs. search (needs, items-laws))
-    (λ c. search (needs, items-laws))
-    (λ c. search (needs, items-laws))
-    (λ c. search (needs, items-laws))
-    (λ c κs. search (needs, items-laws))
-    (λ c. search (needs, items-laws))
-    (λ c. search (needs, items-laws))
-    (λ c. search (needs, items-laws))
-    (λ c. search (needs, items-laws)))
-    λ t. count-message-lts.spec (leaf-at-reads.Asked, leaf-at-reads.Learnt, one-reads.Asked, one-reads.Learnt, count-items-below t, count-items.Post) (count-message-at t) count-message.Post
-    (λ c. search (needs, message-laws))
-    (λ c κs. search (needs, message-laws))
-    (λ c. search (needs, message-laws))
-    (λ c. search (needs, message-laws))
-    (λ c. search (needs, message-laws))
-    (λ c κs. search (needs, message-laws))
-    (λ c. search (needs, message-laws))
-    (λ c κs. search (needs, message-laws))
-    (λ c. search (needs, message-laws))
-    (λ c. search (needs, message-laws))
+    (λ t. count-item-lts.spec (
+      count-message-below t,
+      count-message.Post,
+      extension-at-reads.Asked,
+      extension-at-reads.Learnt,
+      count-declared-reads.Asked,
+      count-declared-reads.Learnt,
+      count-enum-reads.Asked,
+      count-enum-reads.Learnt,
+      declaration-field-at-reads.Asked,
+      declaration-field-at-reads.Learnt,
+    )
+    (count-item-at t)
+    count-item.Post
+    (λ c κs. search (needs, item-count-laws))
+    (λ c. search (needs, item-count-laws))
+    (λ c κs. search (needs, item-count-laws))
+    (λ c κs. search (needs, item-count-laws))
+    (λ c. search (needs, item-count-laws))
+    (λ c κs. search (needs, item-count-laws))
+    (λ c. search (needs, item-count-laws))
+    (λ c κs. search (needs, item-count-laws))
+    (λ c κs. search (needs, item-count-laws))
+    (λ c. search (needs, item-count-laws))
+    (λ c. search (needs, item-count-laws)))
+    (λ t. count-items-lts.spec
+    (field-at-reads.Asked, field-at-reads.Learnt, count-item-below t, count-item.Post)
+    (count-items-at t)
+    count-items.Post
+    count-items-Inv-loop
+    count-items-μ-loop
+    (λ c. search (needs, items-count-laws))
+    (λ c κs. search (needs, items-count-laws))
+    (λ c. search (needs, items-count-laws))
+    (λ c. search (needs, items-count-laws))
+    (λ c. search (needs, items-count-laws))
+    (λ c κs. search (needs, items-count-laws))
+    (λ c. search (needs, items-count-laws))
+    (λ c. search (needs, items-count-laws))
+    (λ c. search (needs, items-count-laws))
+    (λ c. search (needs, items-count-laws)))
+    λ t. count-message-lts.spec
+    (leaf-at-reads.Asked, leaf-at-reads.Learnt, one-reads.Asked, one-reads.Learnt, count-items-below t, count-items.Post)
+    (count-message-at t)
+    count-message.Post
+    (λ c. search (needs, message-count-laws))
+    (λ c κs. search (needs, message-count-laws))
+    (λ c. search (needs, message-count-laws))
+    (λ c. search (needs, message-count-laws))
+    (λ c. search (needs, message-count-laws))
+    (λ c κs. search (needs, message-count-laws))
+    (λ c. search (needs, message-count-laws))
+    (λ c κs. search (needs, message-count-laws))
+    (λ c. search (needs, message-count-laws))
+    (λ c. search (needs, message-count-laws))

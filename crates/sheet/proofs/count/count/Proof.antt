@@ -1,9 +1,10 @@
+-- `count::count` meets its contract.
+-- Assumes nothing.
 use Prim.Native.Nat.{_-_}
 use Rattle.sheet.specs.Tree.{treeOf}
 use Rattle.sheet.specs.Count.{inSheet}
 use Rattle.sheet.proofs.Tally.{Tally}
-use Rattle.sheet.proofs.CountLaws.{fileCount}
-use Rattle.sheet.proofs.CountLaws.{files-laws}
+use Rattle.sheet.proofs.CountLaws.{fileCount, files-count-laws}
 use borrow.Author.Needs.{needs}
 use Rattle.sheet.proofs.count.count.Statement.{statement}
 use Rattle.sheet.proofs.count.count.Tie as tie
@@ -16,13 +17,13 @@ abbrev μ-loop : tie.MeasureT-loop
 
 pub count-spec : {M : Type 1} → statement M
 count-spec = tie.close (tie.spec Inv-loop μ-loop
-    (λ c. search (needs, files-laws))
-    (λ c κs. search (needs, files-laws))
-    (λ c. search (needs, files-laws))
-    (λ c. search (needs, files-laws))
-    (λ c. search (needs, files-laws))
-    (λ c κs. search (needs, files-laws))
-    (λ c. search (needs, files-laws))
-    (λ c. search (needs, files-laws))
-    (λ c. search (needs, files-laws))
-    (λ c. search (needs, files-laws)))
+    (λ c. search (needs, files-count-laws))
+    (λ c κs. search (needs, files-count-laws))
+    (λ c. search (needs, files-count-laws))
+    (λ c. search (needs, files-count-laws))
+    (λ c. search (needs, files-count-laws))
+    (λ c κs. search (needs, files-count-laws))
+    (λ c. search (needs, files-count-laws))
+    (λ c. search (needs, files-count-laws))
+    (λ c. search (needs, files-count-laws))
+    (λ c. search (needs, files-count-laws)))

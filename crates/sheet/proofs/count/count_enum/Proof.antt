@@ -1,17 +1,19 @@
-use Rattle.sheet.proofs.CountLaws.{enum-laws}
+-- `count::count_enum` meets its contract.
+-- Assumes nothing.
+use Rattle.sheet.proofs.CountLaws.{enum-count-laws}
 use borrow.Author.Needs.{needs}
 use Rattle.sheet.proofs.count.count_enum.Statement.{statement}
 use Rattle.sheet.proofs.count.count_enum.Tie as tie
 
 pub count-enum-spec : {M : Type 1} → statement M
 count-enum-spec = tie.close (tie.spec
-    (λ c κs. search (needs, enum-laws))
-    (λ c. search (needs, enum-laws))
-    (λ c. search (needs, enum-laws))
-    (λ c. search (needs, enum-laws))
-    (λ c κs. search (needs, enum-laws))
-    (λ c κs. search (needs, enum-laws))
-    (λ c κs. search (needs, enum-laws))
-    (λ c. search (needs, enum-laws))
-    (λ c. search (needs, enum-laws))
-    (λ c. search (needs, enum-laws)))
+    (λ c κs. search (needs, enum-count-laws))
+    (λ c. search (needs, enum-count-laws))
+    (λ c. search (needs, enum-count-laws))
+    (λ c. search (needs, enum-count-laws))
+    (λ c κs. search (needs, enum-count-laws))
+    (λ c κs. search (needs, enum-count-laws))
+    (λ c κs. search (needs, enum-count-laws))
+    (λ c. search (needs, enum-count-laws))
+    (λ c. search (needs, enum-count-laws))
+    (λ c. search (needs, enum-count-laws)))

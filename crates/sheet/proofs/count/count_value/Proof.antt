@@ -1,13 +1,15 @@
-use Rattle.sheet.proofs.CountLaws.{value-laws}
+-- `count::count_value` meets its contract.
+-- Assumes nothing.
+use Rattle.sheet.proofs.CountLaws.{value-count-laws}
 use borrow.Author.Needs.{needs}
 use Rattle.sheet.proofs.count.count_value.Statement.{statement}
 use Rattle.sheet.proofs.count.count_value.Tie as tie
 
 pub count-value-spec : {M : Type 1} → statement M
 count-value-spec = tie.close (tie.spec
-    (λ c. search (needs, value-laws))
-    (λ c κs. search (needs, value-laws))
-    (λ c. search (needs, value-laws))
-    (λ c. search (needs, value-laws))
-    (λ c. search (needs, value-laws))
-    (λ c. search (needs, value-laws)))
+    (λ c. search (needs, value-count-laws))
+    (λ c κs. search (needs, value-count-laws))
+    (λ c. search (needs, value-count-laws))
+    (λ c. search (needs, value-count-laws))
+    (λ c. search (needs, value-count-laws))
+    (λ c. search (needs, value-count-laws)))

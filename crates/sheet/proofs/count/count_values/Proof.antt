@@ -1,10 +1,11 @@
+-- `count::count_values` meets its contract.
+-- Assumes nothing.
 use Prim.Native.Nat.{_-_}
 use lib.ListN.{length}
 use Rattle.field.specs.Walk.{walk}
 use Rattle.sheet.specs.Tree.{valuesIn}
 use Rattle.sheet.proofs.Tally.{Tally}
-use Rattle.sheet.proofs.CountLaws.{valueCount}
-use Rattle.sheet.proofs.CountLaws.{values-laws}
+use Rattle.sheet.proofs.CountLaws.{valueCount, values-count-laws}
 use borrow.Author.Needs.{needs}
 use Rattle.sheet.proofs.count.count_values.Statement.{statement}
 use Rattle.sheet.proofs.count.count_values.Tie as tie
@@ -17,13 +18,13 @@ abbrev μ-loop : tie.MeasureT-loop
 
 pub count-values-spec : {M : Type 1} → statement M
 count-values-spec = tie.close (tie.spec Inv-loop μ-loop
-    (λ c. search (needs, values-laws))
-    (λ c κs. search (needs, values-laws))
-    (λ c. search (needs, values-laws))
-    (λ c. search (needs, values-laws))
-    (λ c. search (needs, values-laws))
-    (λ c κs. search (needs, values-laws))
-    (λ c. search (needs, values-laws))
-    (λ c. search (needs, values-laws))
-    (λ c. search (needs, values-laws))
-    (λ c. search (needs, values-laws)))
+    (λ c. search (needs, values-count-laws))
+    (λ c κs. search (needs, values-count-laws))
+    (λ c. search (needs, values-count-laws))
+    (λ c. search (needs, values-count-laws))
+    (λ c. search (needs, values-count-laws))
+    (λ c κs. search (needs, values-count-laws))
+    (λ c. search (needs, values-count-laws))
+    (λ c. search (needs, values-count-laws))
+    (λ c. search (needs, values-count-laws))
+    (λ c. search (needs, values-count-laws)))

@@ -1,3 +1,5 @@
+-- `count::one` meets its contract.
+-- Assumes nothing.
 use Rattle.sheet.proofs.CountLaws.{one-laws}
 use borrow.Author.Needs.{needs}
 use Rattle.sheet.proofs.count.one.Statement.{statement}

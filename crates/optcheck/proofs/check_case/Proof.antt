@@ -1,0 +1,29 @@
+use Rattle.optcheck.proofs.CaseLaws.{case-laws}
+use borrow.Author.Needs.{needs}
+use Rattle.optcheck.proofs.check_case.Statement.{statement}
+use Rattle.optcheck.proofs.check_case.Tie as tie
+
+pub check-case-spec : {M : Type 1} → statement M
+check-case-spec = tie.close (tie.spec
+    (λ c κs. search (needs, case-laws))
+    (λ c. search (needs, case-laws))
+    (λ c. search (needs, case-laws))
+    (λ c. search (needs, case-laws))
+    (λ c κs. search (needs, case-laws))
+    (λ c. search (needs, case-laws))
+    (λ c. search (needs, case-laws))
+    (λ c. search (needs, case-laws))
+    (λ c κs. search (needs, case-laws))
+    (λ c. search (needs, case-laws))
+    (λ c κs. search (needs, case-laws))
+    (λ c. search (needs, case-laws))
+    (λ c. search (needs, case-laws))
+    (λ c. search (needs, case-laws))
+    (λ c. search (needs, case-laws))
+    (λ c. search (needs, case-laws))
+    (λ c. search (needs, case-laws))
+    (λ c. search (needs, case-laws))
+    (λ c. search (needs, case-laws))
+    (λ c. search (needs, case-laws))
+    (λ c κs. search (needs, case-laws))
+    (λ c. search (needs, case-laws)))

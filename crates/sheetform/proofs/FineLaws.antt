@@ -1,0 +1,129 @@
+-- What a fine sheet's tree is like: every leaf is what 01 allows, and nothing is left out. The final statements stand at the end.
+-- Assumes nothing.
+use mathlib.Core.Path.{_≡_, refl, sym, ap, _∙_}
+use mathlib.Core.Bool.{Bool, true, false}
+use mathlib.Core.List.{List}
+use Prim.Native.Nat.{ℕ, suc, _+_, _<_}
+use native.Mathlib.Decide.{ℕ-discrete}
+use lib.Dec.{ltb}
+use lib.ListN.{length}
+use Rattle.limits.specs.Figures.{mostSheet, mostFiles, mostMessages}
+use Rattle.path.specs.Ident.{isIdent}
+use Rattle.path.specs.Path.{isRelOrEmpty}
+use Rattle.reply.specs.declared.Refusal.the-variants.{BadSheet, BeyondLimit}
+use Rattle.reply.specs.declared.Verdict.the-variants.{Fine}
+use Rattle.reply.proofs.VerdictLaws.{refused-fine, first-fine-front, first-fine-rest}
+use Rattle.field.specs.declared.Field.{Field}
+use Rattle.field.specs.declared.Field.the-variants.{Whole}
+use Rattle.field.specs.declared.Leaf.{Leaf}
+use Rattle.field.specs.Field.{fieldAt}
+use Rattle.field.specs.Leaf.{anyBytes, onLeaf, leafAt}
+use Rattle.field.specs.Walk.{Walk, done, cut, step, walk}
+use Rattle.field.specs.Each.{each, eachFrom}
+use Rattle.field.proofs.WalkLaws.{walk-step}
+use Rattle.sheet.specs.Table.{fileTag, messageTag, packageTag, nameTag}
+use Rattle.sheet.specs.Tree.{File, valuesIn, itemsIn, fileIn, filesIn, treeOf}
+use Rattle.sheetform.specs.Form.{malformed, beyond, judgeValue, judgeItem, judgeMessage, judgeItems, judgeFile, judgeSheet}
+use Rattle.sheetform.specs.Fine.{goodItems, goodFiles, tagsOf, tagsIn}
+use Rattle.sheetform.proofs.SheetLaws.{file-other}
+use Rattle.sheetform.proofs.FineItems.{Inside, leaf-fine, values-fine, FineItems, message-inside, items-fine}
+
+level-fine : (d : ℕ) (fields : Bool) (s : List ℕ) (a e : ℕ) → judgeItems d fields s a e ≡ Fine
+    → FineItems s (walk s a e) (itemsIn d s (walk s a e))
+unfolding judgeItems itemsIn
+level-fine d fields s a e p = items-fine d fields s (walk s a e) p
+
+-- ---- files: each is one, its package is a path or empty, and what it holds is fine
+record FineFiles (s : List ℕ) (w : Walk) (fs : List File) : Type 0 where
+  good : goodFiles s fs ≡ true
+  whole : length fs ≡ length (tagsIn w)
+
+file-inside : (s : List ℕ) (i a e : ℕ) → judgeFile s i fileTag a e ≡ Fine
+    → Inside (leafAt packageTag anyBytes s a e) isRelOrEmpty s (λ m. judgeItems mostMessages false s m e)
+unfolding judgeFile
+file-inside s i a e = go (ltb i mostFiles)
+  where
+    go : (b : Bool)
+        → elim b [
+          | true ↦ onLeaf malformed (leafAt packageTag isRelOrEmpty s a e) λ n m. judgeItems mostMessages false s m e
+          | false ↦ beyond
+        ] ≡ Fine
+        → Inside (leafAt packageTag anyBytes s a e) isRelOrEmpty s (λ m. judgeItems mostMessages false s m e)
+    go true p = leaf-fine packageTag isRelOrEmpty s a e (λ m. judgeItems mostMessages false s m e) p
+    go false p = absurd (refused-fine BeyondLimit p)
+
+file-more : (s : List ℕ) (i t a e : ℕ) (w : Walk) (fs : List File) → judgeFile s i t a e ≡ Fine → FineFiles s w fs
+    → FineFiles s (step t a e w) (fileIn s t a e fs)
+unfolding fileIn
+file-more s i t a e w fs p h = elim (ℕ-discrete t fileTag) [
+  | yes y ↦ rw y (at-file (rw y at p))
+  | no n ↦ absurd (refused-fine BadSheet (file-other s i t a e n ∙ p))
+]
+  where
+    at-file : judgeFile s i fileTag a e ≡ Fine → FineFiles s (step fileTag a e w) (fileIn s fileTag a e fs)
+    at-file q =
+        let x = file-inside s i a e q in
+        let l = level-fine mostMessages false s (x .to) e (x .fine) in
+        rw (x .named) record { good = rw (x .tested, l .good, h .good); whole = ap suc (h .whole) }
+
+files-fine : (s : List ℕ) (n : ℕ) (w : Walk) → eachFrom BadSheet (judgeFile s) n w ≡ Fine → FineFiles s w (filesIn s w)
+files-fine s n done p = record { good = refl; whole = refl }
+files-fine s n cut p = absurd (refused-fine BadSheet p)
+files-fine s n (step t a e w) p =
+    let judge = judgeFile s in
+    let front = first-fine-front (judge n t a e) (eachFrom BadSheet judge (n + 1) w) p in
+    let rest = first-fine-rest (judge n t a e) (eachFrom BadSheet judge (n + 1) w) p in
+    file-more s n t a e w (filesIn s w) front (files-fine s (n + 1) w rest)
+
+sheet-fine : (s : List ℕ) → judgeSheet s ≡ Fine → FineFiles s (walk s 0 (length s)) (treeOf s)
+unfolding judgeSheet treeOf
+sheet-fine s = go (ltb mostSheet (length s))
+  where
+    go : (b : Bool) → elim b [ true ↦ beyond | false ↦ eachFrom BadSheet (judgeFile s) 0 (walk s 0 (length s)) ] ≡ Fine
+        → FineFiles s (walk s 0 (length s)) (treeOf s)
+    go true p = absurd (refused-fine BeyondLimit p)
+    go false p = files-fine s 0 (walk s 0 (length s)) p
+
+-- ==== the statements
+-- Every name, path, number, type and label in the tree of a fine sheet is what 01 allows.
+pub fine-good : (s : List ℕ) → judgeSheet s ≡ Fine → goodFiles s (treeOf s) ≡ true
+fine-good s p = sheet-fine s p .good
+
+-- So it is in what a fine file or message holds, at every depth.
+pub fine-good-items : (d : ℕ) (fields : Bool) (s : List ℕ) (a e : ℕ) → judgeItems d fields s a e ≡ Fine
+    → goodItems s (itemsIn d s (walk s a e)) ≡ true
+fine-good-items d fields s a e p = level-fine d fields s a e p .good
+
+-- Every field of a fine sheet is a file of its tree.
+pub fine-files : (s : List ℕ) → judgeSheet s ≡ Fine → length (treeOf s) ≡ length (tagsIn (walk s 0 (length s)))
+fine-files s p = sheet-fine s p .whole
+
+-- Every field of a fine file or message is an item of its own kind in the tree, in order.
+pub fine-whole : (d : ℕ) (fields : Bool) (s : List ℕ) (a e : ℕ) → judgeItems d fields s a e ≡ Fine
+    → tagsOf (itemsIn d s (walk s a e)) ≡ tagsIn (walk s a e)
+fine-whole d fields s a e p = level-fine d fields s a e p .whole
+
+-- Every field of a fine enum, after its name, is a value in the tree.
+pub fine-values : (s : List ℕ) (w : Walk) → each BadSheet (judgeValue s) w ≡ Fine → length (valuesIn s w) ≡ length (tagsIn w)
+fine-values s w p = values-fine s w p .whole
+
+-- A message that is fine has a name, and what it holds is fine, with one level less: so the above holds of it too.
+pub fine-inside : (d : ℕ) (s : List ℕ) (a e : ℕ) → judgeMessage (suc d) s a e ≡ Fine → (r : Leaf) → r ≡ leafAt nameTag anyBytes s a e
+    → Inside r isIdent s (λ m. judgeItems d true s m e)
+fine-inside d s a e p r q = rw q (message-inside d s a e p)
+
+-- Where a fine level has a field, the rest of the level is fine, and so is the field where it is a message: so on to every depth.
+module _ (d : ℕ) (fields : Bool) (s : List ℕ) (i to : ℕ) (p : judgeItems d fields s i to ≡ Fine) (h : i < to)
+    (r : Field) (q : r ≡ fieldAt s i to) (t a e : ℕ) (g : r ≡ Whole t a e) where
+  opened : each BadSheet (judgeItem (judgeMessage d s) fields s) (step t a e (walk s e to)) ≡ Fine
+  unfolding judgeItems
+  opened = ap (each BadSheet (judgeItem (judgeMessage d s) fields s)) (sym (walk-step s i to h r q t a e g)) ∙ p
+
+  pub fine-next : judgeItems d fields s e to ≡ Fine
+  unfolding judgeItems
+  fine-next = first-fine-rest (judgeItem (judgeMessage d s) fields s t a e) (judgeItems d fields s e to) opened
+
+  pub fine-message : t ≡ messageTag → judgeMessage d s a e ≡ Fine
+  unfolding judgeItem judgeItems
+  fine-message y =
+      rw y at (first-fine-front (judgeItem (judgeMessage d s) fields s t a e) (judgeItems d fields s e to) opened)
