@@ -2,10 +2,11 @@
 --
 --            Walk ==  each field with its tag and the places of its payload; `cut` where what is left is no whole field
 --   walk s at end ==  the fields of s from the place `at` up to the place `end`
+--        tagsIn w ==  the tags of the fields, in order
 --
 -- Assumes nothing.
 use mathlib.Core.Bool.{true, false}
-use mathlib.Core.List.{List}
+use mathlib.Core.List.{List, [], _∷_}
 use Prim.Native.Nat.{ℕ, zero, suc, _-_}
 use lib.Dec.{ltb}
 use Rattle.field.specs.declared.Field.{Field}
@@ -32,3 +33,8 @@ walkFor (suc n) s at end = elim (ltb at end) [
 
 unfoldable pub walk : List ℕ → ℕ → ℕ → Walk
 walk s at end = walkFor (end - at) s at end
+
+abbrev pub tagsIn : Walk → List ℕ
+tagsIn done = []
+tagsIn cut = []
+tagsIn (step t a e w) = t ∷ tagsIn w

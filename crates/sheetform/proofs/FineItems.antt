@@ -17,7 +17,7 @@ use Rattle.reply.proofs.VerdictLaws.{refused-fine, first-fine-front, first-fine
 use Rattle.field.specs.declared.Leaf.{Leaf}
 use Rattle.field.specs.declared.Leaf.the-variants.{At}
 use Rattle.field.specs.Leaf.{text, anyBytes, onLeaf, leafAt}
-use Rattle.field.specs.Walk.{Walk, done, cut, step, walk}
+use Rattle.field.specs.Walk.{Walk, done, cut, step, walk, tagsIn}
 use Rattle.field.specs.Each.{each}
 use Rattle.field.proofs.LeafLaws.{leaf-tested, leaf-untested, on-leaf-some}
 use Rattle.sheet.specs.declared.declaration.Declared.{Declared}
@@ -30,7 +30,7 @@ use Rattle.sheet.specs.Declaration.{extensionAt, fieldAt, valueAt}
 use Rattle.sheet.specs.Tree.{Items, valued, valueIn, valuesIn, enumIn, extensionIn, fieldIn, itemIn, itemsWith, messageIn}
 use Rattle.sheetform.specs.Declarations.{goodField, isExtension, isField, isValue}
 use Rattle.sheetform.specs.Form.{malformed, judgeValue, judgeEnum, judgeItem, judgeMessage, judgeItems}
-use Rattle.sheetform.specs.Fine.{goodValues, goodItems, tagsOf, tagsIn}
+use Rattle.sheetform.specs.Fine.{goodValues, goodItems, tagsOf}
 use Rattle.sheetform.proofs.MessageLaws.{value-other, item-other}
 
 -- ---- a leaf r that is there and passed its test, and what stands after it, judged by f from where the leaf ends

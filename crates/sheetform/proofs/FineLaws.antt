@@ -18,13 +18,13 @@ use Rattle.field.specs.declared.Field.the-variants.{Whole}
 use Rattle.field.specs.declared.Leaf.{Leaf}
 use Rattle.field.specs.Field.{fieldAt}
 use Rattle.field.specs.Leaf.{anyBytes, onLeaf, leafAt}
-use Rattle.field.specs.Walk.{Walk, done, cut, step, walk}
+use Rattle.field.specs.Walk.{Walk, done, cut, step, walk, tagsIn}
 use Rattle.field.specs.Each.{each, eachFrom}
 use Rattle.field.proofs.WalkLaws.{walk-step}
 use Rattle.sheet.specs.Table.{fileTag, messageTag, packageTag, nameTag}
 use Rattle.sheet.specs.Tree.{File, valuesIn, itemsIn, fileIn, filesIn, treeOf}
 use Rattle.sheetform.specs.Form.{malformed, beyond, judgeValue, judgeItem, judgeMessage, judgeItems, judgeFile, judgeSheet}
-use Rattle.sheetform.specs.Fine.{goodItems, goodFiles, tagsOf, tagsIn}
+use Rattle.sheetform.specs.Fine.{goodItems, goodFiles, tagsOf}
 use Rattle.sheetform.proofs.SheetLaws.{file-other}
 use Rattle.sheetform.proofs.FineItems.{Inside, leaf-fine, values-fine, FineItems, message-inside, items-fine}
 

@@ -4,7 +4,6 @@
 --     goodItems s i <=> every name, path, number, type and label among the items, at every depth, is what 01 allows
 --    goodFiles s fs <=> so it is in all files, their packages too
 --          tagsOf i ==  the tags of the items, in order
---          tagsIn w ==  the tags of the fields, in order
 --
 -- Assumes nothing.
 use mathlib.Core.Bool.{Bool, true, _&&_}
@@ -13,7 +12,6 @@ use Prim.Native.Nat.{ℕ}
 use Rattle.path.specs.Ident.{isIdent}
 use Rattle.path.specs.Path.{isRelPath, isRelOrEmpty}
 use Rattle.field.specs.Leaf.{text}
-use Rattle.field.specs.Walk.{Walk, done, cut, step}
 use Rattle.sheet.specs.declared.declaration.Value.{Value}
 use Rattle.sheet.specs.Table.{messageTag, extensionTag, enumTag, fieldTag}
 use Rattle.sheet.specs.Tree.{Items, none, message, extension, enumeration, field, File}
@@ -40,8 +38,3 @@ tagsOf (message n i r) = messageTag ∷ tagsOf r
 tagsOf (extension d r) = extensionTag ∷ tagsOf r
 tagsOf (enumeration n vs r) = enumTag ∷ tagsOf r
 tagsOf (field d r) = fieldTag ∷ tagsOf r
-
-abbrev pub tagsIn : Walk → List ℕ
-tagsIn done = []
-tagsIn cut = []
-tagsIn (step t a e w) = t ∷ tagsIn w

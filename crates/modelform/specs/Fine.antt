@@ -1,0 +1,73 @@
+-- What the tree of a fine request is like.
+--
+--       goodLabel s l <=> a pair's name is what 01 allows
+--       goodValue s c <=> an identifier among the constants is one
+--   goodConstants s c <=> so it is of the constants, at every depth
+--           countOf c ==  how many constants follow one another, at the first level
+--      goodParts s ps <=> every part is what 01 allows
+--      goodOption s o <=> an option has 1 to 16 good parts and one good constant
+--    goodOptions s os <=> every option is good
+--     goodRequest s q <=> scope, options type and options are what 01 allows
+--
+-- Assumes nothing.
+use mathlib.Core.Bool.{Bool, true, _&&_}
+use mathlib.Core.List.{List, [], _∷_}
+use Prim.Native.Nat.{ℕ, _+_}
+use lib.Dec.{eqb, leb}
+use lib.ListN.{length}
+use Rattle.limits.specs.Figures.{mostParts}
+use Rattle.path.specs.Ident.{isIdent}
+use Rattle.path.specs.Path.{isRelPath, isRelOrEmpty}
+use Rattle.field.specs.Leaf.{text}
+use Rattle.model.specs.declared.name.Part.{Part}
+use Rattle.model.specs.declared.constant.Constant.{Constant}
+use Rattle.model.specs.declared.constant.Constant.the-variants.{Bool as BoolOf, Integer, Float, NotANumber}
+use Rattle.model.specs.declared.constant.Constant.the-variants.{Text, Ident, Message, List as ListOf}
+use Rattle.model.specs.Tree.{Label, unnamed, byField, byExtension, byUrl, Constants, none, scalar, message, list}
+use Rattle.model.specs.Request.{Option, Request}
+use Rattle.modelform.specs.Leaves.{isUrl, goodPart}
+
+abbrev pub goodLabel : List ℕ → Label → Bool
+goodLabel s unnamed = true
+goodLabel s (byField p) = isIdent (text s p)
+goodLabel s (byExtension p) = isRelPath (text s p)
+goodLabel s (byUrl p) = isUrl (text s p)
+
+abbrev pub goodValue : List ℕ → Constant → Bool
+goodValue s (BoolOf b) = true
+goodValue s (Integer m n) = true
+goodValue s (Float x) = true
+goodValue s (NotANumber b) = true
+goodValue s (Text p) = true
+goodValue s (Ident p) = isIdent (text s p)
+goodValue s (Message p) = true
+goodValue s (ListOf p) = true
+
+abbrev pub goodConstants : List ℕ → Constants → Bool
+goodConstants s none = true
+goodConstants s (scalar l c r) = goodLabel s l && goodValue s c && goodConstants s r
+goodConstants s (message l i r) = goodLabel s l && goodConstants s i && goodConstants s r
+goodConstants s (list l i r) = goodLabel s l && goodConstants s i && goodConstants s r
+
+abbrev pub countOf : Constants → ℕ
+countOf none = 0
+countOf (scalar l c r) = 1 + countOf r
+countOf (message l i r) = 1 + countOf r
+countOf (list l i r) = 1 + countOf r
+
+abbrev pub goodParts : List ℕ → List Part → Bool
+goodParts s [] = true
+goodParts s (p ∷ ps) = goodPart (p .extension) (text s (p .name)) && goodParts s ps
+
+-- "one or more of 1A direct part, 1B extension part; one constant"; "16 parts a name"
+abbrev pub goodOption : List ℕ → Option → Bool
+goodOption s o =
+    leb 1 (length (o .parts)) && leb (length (o .parts)) mostParts && goodParts s (o .parts) && eqb (countOf (o .constant)) 1
+    && goodConstants s (o .constant)
+
+abbrev pub goodOptions : List ℕ → List Option → Bool
+goodOptions s [] = true
+goodOptions s (o ∷ os) = goodOption s o && goodOptions s os
+
+abbrev pub goodRequest : List ℕ → Request → Bool
+goodRequest s q = isRelOrEmpty (text s (q .scope)) && isRelPath (text s (q .message)) && goodOptions s (q .options)
