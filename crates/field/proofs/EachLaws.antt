@@ -50,7 +50,7 @@ module _ (bad : Refusal) (f : ℕ → ℕ → ℕ → ℕ → Verdict) (v : Verd
       pub each-from-next : u ≡ Fine → Rest v (eachFrom bad f (n + 1)) s to e
       each-from-next x =
           rest-next v (eachFrom bad f n) s to i k h r q t a e g (eachFrom bad f (n + 1))
-              (sym (first-fine (f n t a e) (eachFrom bad f (n + 1) (walk s e to)) (sym p ∙ x)))
+          (sym (first-fine (f n t a e) (eachFrom bad f (n + 1) (walk s e to)) (sym p ∙ x)))
 
 -- ---- where the next field starts
 module _ (s : List ℕ) (at end : ℕ) (r : Field) (q : r ≡ fieldAt s at end) (t a e : ℕ) (g : r ≡ Whole t a e) where

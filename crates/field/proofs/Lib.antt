@@ -3,4 +3,5 @@ pub mod WalkLaws
 pub mod LeafLaws
 pub mod Rest
 pub mod EachLaws
+pub mod Tally
 pub mod Controls

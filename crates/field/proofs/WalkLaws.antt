@@ -54,4 +54,4 @@ module _ (s : List ℕ) (at end : ℕ) where
     walk-step t a e g =
         let b : Bounds at end a e = field-bounds s at end r q t a e g in
         rw (walk-open s end at h, ← q, g)
-            (ap (step t a e) (walk-fuel s end (end - at) (end - e) e (omega (arith, b .starts, b .ordered)) (omega arith)))
+        (ap (step t a e) (walk-fuel s end (end - at) (end - e) e (omega (arith, b .starts, b .ordered)) (omega arith)))

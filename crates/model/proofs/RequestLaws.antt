@@ -32,6 +32,7 @@ use Rattle.model.specs.declared.request.Headed.the-variants.{Heads, NoHe
 use Rattle.model.specs.Table.{scopeTag, optionsTypeTag, optionTag}
 use Rattle.model.specs.Name.{partAt, partOf, partsIn, further, afterParts}
 use Rattle.model.specs.Request.{headingOf, requestOf, optionOf, optionIn, optionsIn, partsOf}
+use Rattle.field.proofs.Tally.{Tally, counted, tally-start, tally-few, tally-end, tally-cut, tally-fits, tally-more}
 use Rattle.model.proofs.PartLaws.{part-bounds, part-less, rest-no-part, rest-part-next}
 
 -- ---- the heading
@@ -162,53 +163,16 @@ module _ (s : List ℕ) (from to r : ℕ) (q : r ≡ afterParts from (walk s fro
 
 pub ruleset after-places = (after-from, after-inside)
 
--- ---- loops that count: n was counted up to the place `at`, no more than there are bytes, and f counts what is left
-abbrev pub counted : (Walk → ℕ) → ℕ → Walk → ℕ
-counted f n w = n + f w
-
-pub record Counting (v : ℕ) (f : Walk → ℕ) (s : List ℕ) (from to n at : ℕ) : Type 0 where
-  pub left : Rest v (counted f n) s to at
-  pub few : n + from ≤ at
-
-pub counting-start : (f : Walk → ℕ) (s : List ℕ) (from to : ℕ) → from ≤ to → to ≤ length s
-    → Counting (f (walk s from to)) f s from to 0 from
-counting-start f s from to h k =
-    record { left = record { within = h; inside = k; rest = sym (zero-add (f (walk s from to))) }; few = omega arith }
-
-module _ (v : ℕ) (f : Walk → ℕ) (s : List ℕ) (from to n at : ℕ) (k : Counting v f s from to n at) where
-  pub counting-end : to ≤ at → f done ≡ 0 → n ≡ v
-  counting-end h z = sym (rest-end v (counted f n) s to at (k .left) h ∙ rw z (add-zero n))
-
-  pub counting-few : n ≤ to - from
-  counting-few = omega (arith, k .few, k .left .within)
-
-  module _ (h : at < to) (r : Field) (q : r ≡ fieldAt s at to) where
-    pub counting-cut : r ≡ Cut → f cut ≡ 0 → n ≡ v
-    counting-cut g z = sym (rest-cut v (counted f n) s to at (k .left) h r q g ∙ rw z (add-zero n))
-
-    module _ (t a e : ℕ) (g : r ≡ Whole t a e) where
-      pub counting-more : (m : ℕ) → f (step t a e (walk s e to)) ≡ m + f (walk s e to) → m ≤ e - at → Counting v f s from to (n + m) e
-      counting-more m p l =
-          let b = field-bounds s at to r q t a e g in
-          let same = sym (add-assoc n m (f (walk s e to))) in
-          record {
-            left = rest-next v (counted f n) s to at (k .left) h r q t a e g (counted f (n + m)) (rw p same);
-            few = omega (arith, k .few, b .starts, b .ordered);
-          }
-
-      pub counting-other : f (step t a e (walk s e to)) ≡ f (walk s e to) → Counting v f s from to n e
-      counting-other p = rw (add-zero n) at (counting-more 0 (p ∙ sym (zero-add (f (walk s e to)))) (omega arith))
-
 -- ---- the loop of `count_parts_at`
 abbrev pub partCount : Walk → ℕ
 partCount w = length (partsIn w)
 
-module _ (v : ℕ) (s : List ℕ) (from to n at : ℕ) (k : Counting v partCount s from to n at) (h : at < to)
+module _ (v : ℕ) (s : List ℕ) (from to n at : ℕ) (k : Tally v partCount s from to n at) (h : at < to)
     (r : Parted) (q : r ≡ partAt s at to) where
   pub parts-stop : r ≡ NoPart → n ≡ v
   parts-stop g = sym (rest-no-part v (counted partCount n) s to at (k .left) r q n (add-zero n) (add-zero n) (λ t a e w x. rw x (add-zero n)) g)
 
-  pub parts-next : (p : Part) → r ≡ Is p → Counting v partCount s from to (n + 1) (p .name .to)
+  pub parts-next : (p : Part) → r ≡ Is p → Tally v partCount s from to (n + 1) (p .name .to)
   parts-next p g =
       let b = part-bounds s at to r q p g in
       record {
@@ -216,7 +180,7 @@ module _ (v : ℕ) (s : List ℕ) (from to n at : ℕ) (k : Counting v partCount
         few = omega (arith, k .few, b .starts, b .ordered);
       }
 
-pub ruleset parts-laws = (counting-start, counting-end, counting-few, parts-stop, parts-next, part-less)
+pub ruleset parts-laws = (tally-start, tally-end, tally-few, parts-stop, parts-next, part-less)
 
 -- ---- the loops over options, from the heading on
 abbrev pub optionCount : List ℕ → Walk → ℕ
@@ -241,13 +205,13 @@ module _ (s : List ℕ) (r : Headed) (q : r ≡ headingOf s) where
     unfolding requestOf
     request-options = rw (← q, g)
 
-    start : (f : Walk → ℕ) → Counting (f (walk s (h .options) (length s))) f s (h .options) (length s) 0 (h .options)
-    start f = counting-start f s (h .options) (length s) (options-inside s r q h g) (omega arith)
+    start : (f : Walk → ℕ) → Tally (f (walk s (h .options) (length s))) f s (h .options) (length s) 0 (h .options)
+    start f = tally-start (f (walk s (h .options) (length s))) f s (h .options) (length s) refl (options-inside s r q h g) (omega arith)
 
-    pub options-start : Counting (length (requestOf s .options)) (optionCount s) s (h .options) (length s) 0 (h .options)
+    pub options-start : Tally (length (requestOf s .options)) (optionCount s) s (h .options) (length s) 0 (h .options)
     options-start = rw request-options (start (optionCount s))
 
-    pub names-start : Counting (partsOf (requestOf s .options)) (nameCount s) s (h .options) (length s) 0 (h .options)
+    pub names-start : Tally (partsOf (requestOf s .options)) (nameCount s) s (h .options) (length s) 0 (h .options)
     names-start = rw request-options (start (nameCount s))
 
 module _ (s : List ℕ) (t a e : ℕ) (w : Walk) where
@@ -259,36 +223,37 @@ module _ (s : List ℕ) (t a e : ℕ) (w : Walk) where
   unfolding optionIn
   option-first n = simp (optionIn, eq-eqb t optionTag n)
 
+-- a field that counts for nothing
+none-more : (v : ℕ) (F : Walk → ℕ) (s : List ℕ) (from to n at : ℕ) → at < to → (r : Field) → r ≡ fieldAt s at to
+    → (t a e : ℕ) → r ≡ Whole t a e → Tally v F s from to n at → F (step t a e (walk s e to)) ≡ F (walk s e to) → Tally v F s from to n e
+none-more v F s from to n at h r q t a e g k p =
+    rw (add-zero n) at (tally-more v F s from to n at k h r q t a e g 0 (p ∙ sym (zero-add (F (walk s e to)))) (omega arith))
+
 module _ (v : ℕ) (s : List ℕ) (from to n at : ℕ) (h : at < to) (r : Field) (q : r ≡ fieldAt s at to) (t a e : ℕ) (g : r ≡ Whole t a e) where
-  module _ (k : Counting v (optionCount s) s from to n at) where
-    pub options-other : (t ≡ optionTag → ⊥) → Counting v (optionCount s) s from to n e
-    options-other x = counting-other v (optionCount s) s from to n at k h r q t a e g (ap length (option-other s t a e (walk s e to) x))
+  module _ (k : Tally v (optionCount s) s from to n at) where
+    pub options-other : (t ≡ optionTag → ⊥) → Tally v (optionCount s) s from to n e
+    options-other x = none-more v (optionCount s) s from to n at h r q t a e g k (ap length (option-other s t a e (walk s e to) x))
 
-    pub options-next : t ≡ optionTag → Counting v (optionCount s) s from to (n + 1) e
+    pub options-next : t ≡ optionTag → Tally v (optionCount s) s from to (n + 1) e
     options-next x =
-        let b = field-bounds s at to r q t a e g in
-        counting-more v (optionCount s) s from to n at k h r q t a e g 1
-        (ap length (option-first s t a e (walk s e to) x) ∙ omega arith) (omega (arith, b .starts, b .ordered))
+        tally-more v (optionCount s) s from to n at k h r q t a e g 1
+        (ap length (option-first s t a e (walk s e to) x) ∙ omega arith) (omega arith)
 
-  module _ (k : Counting v (nameCount s) s from to n at) where
-    pub names-other : (t ≡ optionTag → ⊥) → Counting v (nameCount s) s from to n e
-    names-other x = counting-other v (nameCount s) s from to n at k h r q t a e g (ap partsOf (option-other s t a e (walk s e to) x))
+  module _ (k : Tally v (nameCount s) s from to n at) where
+    pub names-other : (t ≡ optionTag → ⊥) → Tally v (nameCount s) s from to n e
+    names-other x = none-more v (nameCount s) s from to n at h r q t a e g k (ap partsOf (option-other s t a e (walk s e to) x))
 
     module _ (m : ℕ) (l : m ≤ e - a) where
-      pub names-next : t ≡ optionTag → m ≡ partCount (walk s a e) → Counting v (nameCount s) s from to (n + m) e
+      pub names-next : t ≡ optionTag → m ≡ partCount (walk s a e) → Tally v (nameCount s) s from to (n + m) e
       unfolding optionOf
       names-next x p =
-          let b = field-bounds s at to r q t a e g in
-          counting-more v (nameCount s) s from to n at k h r q t a e g m
-          (ap partsOf (option-first s t a e (walk s e to) x) ∙ ap (λ (y : ℕ). y + nameCount s (walk s e to)) (sym p))
-          (omega (arith, b .starts, b .ordered))
+          tally-more v (nameCount s) s from to n at k h r q t a e g m
+          (ap partsOf (option-first s t a e (walk s e to) x) ∙ ap (λ (y : ℕ). y + nameCount s (walk s e to)) (sym p)) (omega arith)
 
       pub names-fit : Fits w64 to → Fits w64 (n + m)
-      names-fit f =
-          let b = field-bounds s at to r q t a e g in
-          record { fits = omega (arith, f .fits, k .few, b .starts, b .ordered, b .inside) }
+      names-fit = tally-fits v (nameCount s) s from to n at k h r q t a e g m (omega arith)
 
-pub ruleset options-laws = (no-options, options-start, counting-end, counting-cut, options-other, options-next, field-less)
+pub ruleset options-laws = (no-options, options-start, tally-end, tally-cut, options-other, options-next, field-less)
 
 pub ruleset names-laws =
-    (no-names, names-start, counting-end, counting-cut, names-other, names-next, names-fit, field-ordered, field-within, field-less)
+    (no-names, names-start, tally-end, tally-cut, names-other, names-next, names-fit, field-ordered, field-within, field-less)

@@ -5,16 +5,16 @@ use mathlib.Core.Path.{_≡_, refl}
 use mathlib.Core.List.{List, [], _∷_, _++_, map}
 use Prim.Native.Nat.{ℕ, zero, suc, _+_, _*_}
 use Rattle.octets.specs.Octets.{bigAt}
-use Rattle.field.specs.Field.{fieldAt as next}
+use Rattle.field.specs.Field.{fieldAt}
 use Rattle.field.specs.Leaf.{span, leafAt}
 use Rattle.field.specs.Walk.{walk}
 use Rattle.sheet.specs.Table.{fileTag, messageTag, extensionTag, enumTag, fieldTag, valueTag}
-use Rattle.sheet.specs.Declaration.{hasTypePath, typePathAt, shape, shapeAt, extensionAt, fieldAt, valueAt}
+use Rattle.sheet.specs.Declaration.{hasTypePath, typePathAt, shape, shapeAt, extensionAt, messageFieldAt, valueAt}
 use Rattle.sheet.specs.Tree.{Items, none, message, extension, enumeration, field, File, valueIn, itemIn, itemsIn, fileIn, treeOf}
 use Rattle.sheet.specs.Count.{inSheet}
 
 tree : List ℕ → List File
-unfolding treeOf fileIn itemsIn itemIn valueIn extensionAt fieldAt valueAt shapeAt typePathAt hasTypePath walk leafAt next bigAt
+unfolding treeOf fileIn itemsIn itemIn valueIn extensionAt messageFieldAt valueAt shapeAt typePathAt hasTypePath walk leafAt fieldAt bigAt
 tree s = treeOf s
 
 -- files, messages, extensions, enums, fields, values

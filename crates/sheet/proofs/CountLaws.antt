@@ -26,11 +26,11 @@ use Rattle.sheet.specs.declared.declaration.Value.{Value}
 use Rattle.sheet.specs.declared.declaration.Valued.{Valued}
 use Rattle.sheet.specs.declared.declaration.Valued.the-variants.{Values, NoValue}
 use Rattle.sheet.specs.Table.{fileTag, messageTag, extensionTag, enumTag, fieldTag, valueTag, packageTag, nameTag}
-use Rattle.sheet.specs.Declaration.{extensionAt, fieldAt, valueAt}
+use Rattle.sheet.specs.Declaration.{extensionAt, messageFieldAt, valueAt}
 use Rattle.sheet.specs.Tree.{Items, none, message, enumeration, File, valued, valueIn, valuesIn, enumIn, extensionIn, fieldIn}
 use Rattle.sheet.specs.Tree.{itemIn, messageIn, itemsWith, itemsIn, fileIn, filesIn, treeOf}
 use Rattle.sheet.specs.Count.{one, declaredCount, inItems, inSheet}
-use Rattle.sheet.proofs.Tally.{Tally, total, tally-start, tally-laws}
+use Rattle.field.proofs.Tally.{Tally, total, tally-start, tally-laws}
 use Rattle.sheet.proofs.TreeLaws.{value-other, value-none, value-some, enum-unnamed, enum-named}
 use Rattle.sheet.proofs.TreeLaws.{message-beyond, message-unnamed, message-named}
 use Rattle.sheet.proofs.TreeLaws.{item-message, item-extension, item-no-extension, item-enum, item-field, item-no-field, item-other}
@@ -90,7 +90,7 @@ pub item-adds : (k : ℕ) (inner : ℕ → ℕ → Items → Items) → Adds k i
     → inItems k (itemIn inner s t a e rest) ≡ inItems k (itemIn inner s t a e none) + inItems k rest
 unfolding itemIn
 item-adds k inner i s t a e rest =
-    go (eqb t messageTag) (eqb t extensionTag) (eqb t enumTag) (eqb t fieldTag) (extensionAt s a e) (fieldAt s a e)
+    go (eqb t messageTag) (eqb t extensionTag) (eqb t enumTag) (eqb t fieldTag) (extensionAt s a e) (messageFieldAt s a e)
   where
     item : Bool → Bool → Bool → Bool → Declared → Declared → Items → Items
     item b b′ b″ b‴ x y r = elim b [
@@ -139,15 +139,15 @@ files-total k s (step t a e w) = file-adds s t a e k (filesIn s w) ∙ ap (λ n.
 
 -- ---- how the loops start
 module _ (s : List ℕ) (from to : ℕ) (h : from ≤ to) (g : to ≤ length s) where
-  pub values-start : Tally (length (valuesIn s (walk s from to))) (valueCount s) s from to 0 from
-  values-start = tally-start _ (valueCount s) s from to (values-total s (walk s from to)) h g
+  pub values-start : Tally (length (valuesIn s (walk s from to))) (total (valueCount s)) s from to 0 from
+  values-start = tally-start _ (total (valueCount s)) s from to (values-total s (walk s from to)) h g
 
-  pub items-start : (k d : ℕ) → Tally (inItems k (itemsIn d s (walk s from to))) (itemCount k d s) s from to 0 from
-  items-start k d = tally-start _ (itemCount k d s) s from to (items-total k d s (walk s from to)) h g
+  pub items-start : (k d : ℕ) → Tally (inItems k (itemsIn d s (walk s from to))) (total (itemCount k d s)) s from to 0 from
+  items-start k d = tally-start _ (total (itemCount k d s)) s from to (items-total k d s (walk s from to)) h g
 
-pub files-start : (k : ℕ) (s : List ℕ) (to : ℕ) → to ≡ length s → Tally (inSheet k (treeOf s)) (fileCount k s) s 0 to 0 0
+pub files-start : (k : ℕ) (s : List ℕ) (to : ℕ) → to ≡ length s → Tally (inSheet k (treeOf s)) (total (fileCount k s)) s 0 to 0 0
 files-start k s to q =
-    rw (q, tree-files s) (tally-start _ (fileCount k s) s 0 (length s) (files-total k s (walk s 0 (length s))) (omega arith) (omega arith))
+    rw (q, tree-files s) (tally-start _ (total (fileCount k s)) s 0 (length s) (files-total k s (walk s 0 (length s))) (omega arith) (omega arith))
 
 -- ---- one tag, one declaration, one value
 module _ (k t : ℕ) where
@@ -240,7 +240,7 @@ module _ (k d : ℕ) (s : List ℕ) (t a e n : ℕ) where
   pub item-count-enum : t ≡ enumTag → n ≡ inItems k (enumIn s a e none) → n ≡ itemCount k d s t a e
   item-count-enum h p = rw (item-enum (messageIn d s) s t a e none h) p
 
-  pub item-count-field : t ≡ fieldTag → (r : Declared) → r ≡ fieldAt s a e → n ≡ declaredCount r k t → n ≡ itemCount k d s t a e
+  pub item-count-field : t ≡ fieldTag → (r : Declared) → r ≡ messageFieldAt s a e → n ≡ declaredCount r k t → n ≡ itemCount k d s t a e
   item-count-field h NoDeclaration q p = rw (item-no-field (messageIn d s) s t a e none h NoDeclaration q refl) p
   item-count-field h (Declares x) q p =
       rw (item-field (messageIn d s) s t a e none h (Declares x) q x refl) (p ∙ rw h (omega arith))

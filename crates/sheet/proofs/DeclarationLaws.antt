@@ -1,4 +1,4 @@
--- The laws of declarations: the ways through `extension_at`, `field_at` and `value_at`.
+-- The laws of declarations: the ways through `extension_at`, `message_field_at` and `value_at`.
 -- Assumes nothing.
 use mathlib.Core.Path.{_≡_}
 use mathlib.Core.List.{List}
@@ -15,7 +15,7 @@ use Rattle.sheet.specs.declared.declaration.Shaped.the-variants.{Shapes,
 use Rattle.sheet.specs.declared.declaration.Declared.the-variants.{Declares, NoDeclaration}
 use Rattle.sheet.specs.declared.declaration.Valued.the-variants.{Values, NoValue}
 use Rattle.sheet.specs.Table.{nameTag, extendeeTag, signedNumberTag}
-use Rattle.sheet.specs.Declaration.{lastAt, shapeAt, extensionAt, fieldAt, valueAt}
+use Rattle.sheet.specs.Declaration.{lastAt, shapeAt, extensionAt, messageFieldAt, valueAt}
 
 -- ---- extension_at
 module _ (s : List ℕ) (a e : ℕ) (r : Leaf) (q : r ≡ leafAt nameTag anyBytes s a e) where
@@ -40,20 +40,20 @@ module _ (s : List ℕ) (a e : ℕ) (r : Leaf) (q : r ≡ leafAt nameTag anyByte
 
 pub ruleset extension-laws = (extension-unnamed, extension-of-none, extension-no-shape, extension-whole, leaf-inside)
 
--- ---- field_at
+-- ---- message_field_at
 module _ (s : List ℕ) (a e : ℕ) (r : Leaf) (q : r ≡ leafAt nameTag anyBytes s a e) where
-  pub field-unnamed : r ≡ Not → NoDeclaration ≡ fieldAt s a e
-  unfolding fieldAt
+  pub field-unnamed : r ≡ Not → NoDeclaration ≡ messageFieldAt s a e
+  unfolding messageFieldAt
   field-unnamed g = rw (← q, g)
 
   module _ (n shapes : ℕ) (g : r ≡ At n shapes) (p : Shaped) (z : p ≡ shapeAt s shapes e) where
-    pub field-no-shape : p ≡ NoShape → NoDeclaration ≡ fieldAt s a e
-    unfolding fieldAt
+    pub field-no-shape : p ≡ NoShape → NoDeclaration ≡ messageFieldAt s a e
+    unfolding messageFieldAt
     field-no-shape y = rw (← q, g, ← z, y)
 
     pub field-whole : (h : Shape) → p ≡ Shapes h
-        → Declares (record { name = span n shapes; extendee = span 0 0; shape = h }) ≡ fieldAt s a e
-    unfolding fieldAt
+        → Declares (record { name = span n shapes; extendee = span 0 0; shape = h }) ≡ messageFieldAt s a e
+    unfolding messageFieldAt
     field-whole h y = rw (← q, g, ← z, y)
 
 pub ruleset field-laws = (field-unnamed, field-no-shape, field-whole, leaf-inside)

@@ -3,5 +3,4 @@ pub mod DeclarationLaws
 pub mod PlaceLaws
 pub mod TreeLaws
 pub mod CountLaws
-pub mod Tally
 pub mod Controls

@@ -19,7 +19,7 @@ use Rattle.sheet.specs.declared.declaration.Value.{Value}
 use Rattle.sheet.specs.declared.declaration.Valued.{Valued}
 use Rattle.sheet.specs.declared.declaration.Valued.the-variants.{Values, NoValue}
 use Rattle.sheet.specs.Table.{nameTag, extendeeTag, signedNumberTag}
-use Rattle.sheet.specs.Declaration.{lastAt, shapeAt, declared, extensionAt, fieldAt, valueAt}
+use Rattle.sheet.specs.Declaration.{lastAt, shapeAt, declared, extensionAt, messageFieldAt, valueAt}
 use Rattle.sheet.proofs.ShapeLaws.{Lies, shape-lies}
 
 name-lies : (k : ℕ) (s : List ℕ) (a e n m : ℕ) → leafAt k anyBytes s a e ≡ At n m → Lies e n m
@@ -52,8 +52,8 @@ extension-places s a e d =
     declared-places s shapes e (span n extendees) (span x shapes) d (name-lies nameTag s a e n extendees y)
     (name-lies extendeeTag s extendees e x shapes z) (shapeAt s shapes e) refl
 
-field-places : (s : List ℕ) (a e : ℕ) (d : Declaration) → Declares d ≡ fieldAt s a e → Places e d
-unfolding fieldAt
+field-places : (s : List ℕ) (a e : ℕ) (d : Declaration) → Declares d ≡ messageFieldAt s a e → Places e d
+unfolding messageFieldAt
 field-places s a e d =
     on-leaf-some NoDeclaration (Declares d) (leafAt nameTag anyBytes s a e) _ (Places e d) (none-declared d) λ n shapes y.
     declared-places s shapes e (span n shapes) (span 0 0) d (name-lies nameTag s a e n shapes y)
@@ -101,7 +101,7 @@ pub ruleset extension-places-laws = (
   extension-path-within,
 )
 
-module _ (s : List ℕ) (a e : ℕ) (r : Declared) (q : r ≡ fieldAt s a e) (d : Declaration) (g : r ≡ Declares d) where
+module _ (s : List ℕ) (a e : ℕ) (r : Declared) (q : r ≡ messageFieldAt s a e) (d : Declaration) (g : r ≡ Declares d) where
   pub field-name-ordered : d .name .from ≤ d .name .to
   field-name-ordered = field-places s a e d (sym g ∙ q) .name .ordered
 

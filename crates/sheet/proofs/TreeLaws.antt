@@ -12,7 +12,7 @@ use Rattle.field.specs.declared.Field.{Field}
 use Rattle.field.specs.declared.Field.the-variants.{Whole, Cut}
 use Rattle.field.specs.declared.Leaf.{Leaf}
 use Rattle.field.specs.declared.Leaf.the-variants.{At, Not}
-use Rattle.field.specs.Field.{fieldAt as next}
+use Rattle.field.specs.Field.{fieldAt}
 use Rattle.field.specs.Leaf.{span, anyBytes, leafAt}
 use Rattle.field.specs.Walk.{walk}
 use Rattle.field.proofs.WalkLaws.{walk-done, walk-cut, walk-step}
@@ -23,7 +23,7 @@ use Rattle.sheet.specs.declared.declaration.Value.{Value}
 use Rattle.sheet.specs.declared.declaration.Valued.{Valued}
 use Rattle.sheet.specs.declared.declaration.Valued.the-variants.{Values, NoValue}
 use Rattle.sheet.specs.Table.{fileTag, messageTag, extensionTag, enumTag, fieldTag, valueTag, packageTag, nameTag}
-use Rattle.sheet.specs.Declaration.{extensionAt, fieldAt, valueAt}
+use Rattle.sheet.specs.Declaration.{extensionAt, messageFieldAt, valueAt}
 use Rattle.sheet.specs.Tree.{Items, none, message, extension, enumeration, field, File}
 use Rattle.sheet.specs.Tree.{valueIn, valuesIn, enumIn, itemIn, messageIn, itemsIn, fileIn, filesIn, treeOf}
 
@@ -32,7 +32,7 @@ module _ (s : List ℕ) (i to : ℕ) where
   pub values-end : to ≤ i → valuesIn s (walk s i to) ≡ []
   values-end h = ap (valuesIn s) (walk-done s i to h)
 
-  module _ (h : i < to) (r : Field) (q : r ≡ next s i to) where
+  module _ (h : i < to) (r : Field) (q : r ≡ fieldAt s i to) where
     pub values-cut : r ≡ Cut → valuesIn s (walk s i to) ≡ []
     values-cut g = ap (valuesIn s) (walk-cut s i to h r q g)
 
@@ -59,7 +59,7 @@ module _ (d : ℕ) (s : List ℕ) (i to : ℕ) where
   unfolding itemsIn
   items-end h = ap (itemsIn d s) (walk-done s i to h)
 
-  module _ (h : i < to) (r : Field) (q : r ≡ next s i to) where
+  module _ (h : i < to) (r : Field) (q : r ≡ fieldAt s i to) where
     pub items-cut : r ≡ Cut → itemsIn d s (walk s i to) ≡ none
     unfolding itemsIn
     items-cut g = ap (itemsIn d s) (walk-cut s i to h r q g)
@@ -87,7 +87,7 @@ module _ (inner : ℕ → ℕ → Items → Items) (s : List ℕ) (t a e : ℕ) 
   unfolding itemIn
   item-enum h = rw h
 
-  module _ (h : t ≡ fieldTag) (r : Declared) (q : r ≡ fieldAt s a e) where
+  module _ (h : t ≡ fieldTag) (r : Declared) (q : r ≡ messageFieldAt s a e) where
     pub item-no-field : r ≡ NoDeclaration → itemIn inner s t a e rest ≡ rest
     unfolding itemIn
     item-no-field g = rw (h, ← q, g)
@@ -133,7 +133,7 @@ module _ (s : List ℕ) (i to : ℕ) where
   pub files-end : to ≤ i → filesIn s (walk s i to) ≡ []
   files-end h = ap (filesIn s) (walk-done s i to h)
 
-  module _ (h : i < to) (r : Field) (q : r ≡ next s i to) where
+  module _ (h : i < to) (r : Field) (q : r ≡ fieldAt s i to) where
     pub files-cut : r ≡ Cut → filesIn s (walk s i to) ≡ []
     files-cut g = ap (filesIn s) (walk-cut s i to h r q g)
 

@@ -2,11 +2,11 @@
 -- form of the sheet, and no reader needs that it was.
 --
 --          hasTypePath t <=> the type t is a group, a message or an enum
---            lastAt e l  ==  the leaf l where it ends at e
---   typePathAt t s at e  ==  the type path where the type t has one, and in any case the end
---        shapeAt s at e  ==  number, type, label and type path, from the place `at` up to the end e
+--             lastAt e l ==  the leaf l where it ends at e
+--    typePathAt t s at e ==  the type path where the type t has one, and in any case the end
+--         shapeAt s at e ==  number, type, label and type path, from the place `at` up to the end e
 --      extensionAt s a e ==  the extension whose payload is from a to e
---          fieldAt s a e ==  the field whose payload is from a to e
+--   messageFieldAt s a e ==  the field of a message whose payload is from a to e
 --          valueAt s a e ==  the enum value whose payload is from a to e
 --
 -- Assumes nothing.
@@ -70,8 +70,8 @@ extensionAt s a e =
     declared (span n extendees) (span x shapes) (shapeAt s shapes e)
 
 -- 05: "as 03 without 12"
-unfoldable pub fieldAt : List ℕ → ℕ → ℕ → Declared
-fieldAt s a e =
+unfoldable pub messageFieldAt : List ℕ → ℕ → ℕ → Declared
+messageFieldAt s a e =
     onLeaf NoDeclaration (leafAt nameTag anyBytes s a e) λ n shapes.
     declared (span n shapes) (span 0 0) (shapeAt s shapes e)
 

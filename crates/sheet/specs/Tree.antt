@@ -29,7 +29,7 @@ use Rattle.sheet.specs.declared.declaration.Value.{Value}
 use Rattle.sheet.specs.declared.declaration.Valued.{Valued}
 use Rattle.sheet.specs.declared.declaration.Valued.the-variants.{Values, NoValue}
 use Rattle.sheet.specs.Table.{fileTag, messageTag, extensionTag, enumTag, fieldTag, valueTag, packageTag, nameTag}
-use Rattle.sheet.specs.Declaration.{extensionAt, fieldAt, valueAt}
+use Rattle.sheet.specs.Declaration.{extensionAt, messageFieldAt, valueAt}
 
 -- names and declarations hold places of the sheet
 pub data Items : Type 0 where
@@ -76,7 +76,7 @@ itemIn inner s t a e rest = elim (eqb t messageTag) [
     | true ↦ extensionIn (extensionAt s a e) rest
     | false ↦ elim (eqb t enumTag) [
       | true ↦ enumIn s a e rest
-      | false ↦ elim (eqb t fieldTag) [ true ↦ fieldIn (fieldAt s a e) rest | false ↦ rest ]
+      | false ↦ elim (eqb t fieldTag) [ true ↦ fieldIn (messageFieldAt s a e) rest | false ↦ rest ]
     ]
   ]
 ]

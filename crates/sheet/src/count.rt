@@ -95,7 +95,7 @@ fn count_item(s: &[u8], tag: u8, from: usize, to: usize, left: usize, want: u8) 
         return count_enum(s, from, to, want);
     }
     if tag == table::FIELD {
-        return count_declared(crate::declaration::field_at(s, from, to), tag, want);
+        return count_declared(crate::declaration::message_field_at(s, from, to), tag, want);
     }
     0
 }

@@ -2,7 +2,7 @@
 ghost use mathlib.Core.Path.{_≡_};
 ghost use Prim.Native.Nat.{_≤_};
 ghost use lib.ListN.{length};
-ghost use Rattle.sheet.specs.Declaration.{hasTypePath, typePathAt, shapeAt, extensionAt, fieldAt, valueAt};
+ghost use Rattle.sheet.specs.Declaration.{hasTypePath, typePathAt, shapeAt, extensionAt, messageFieldAt, valueAt};
 use crate::table;
 use field::Leaf;
 use field::Span;
@@ -142,10 +142,10 @@ pub fn extension_at(s: &[u8], from: usize, to: usize) -> Declared
     })
 }
 
-// The field whose payload is from..to.
-pub fn field_at(s: &[u8], from: usize, to: usize) -> Declared
+// The field of a message whose payload is from..to.
+pub fn message_field_at(s: &[u8], from: usize, to: usize) -> Declared
     requires { ⌜ (from ≤ to) × (to ≤ length (now s)) ⌝ }
-    ensures { λ r. ⌜ r ≡ fieldAt (now (s .entry)) from to ⌝ }
+    ensures { λ r. ⌜ r ≡ messageFieldAt (now (s .entry)) from to ⌝ }
 {
     let Leaf::At {
         from: n,

@@ -9,20 +9,20 @@ use Rattle.path.specs.Ident.{isLetter, isDigit, allWord, isIdent}
 use Rattle.path.specs.Path.{onFirst, split, components, allIdent, isRelPath, isRelOrEmpty}
 use Rattle.reply.specs.declared.Verdict.{Verdict}
 use Rattle.reply.specs.declared.Verdict.the-variants.{Fine}
-use Rattle.field.specs.Field.{fieldAt as wholeAt}
+use Rattle.field.specs.Field.{fieldAt}
 use Rattle.field.specs.Walk.{walk}
 use Rattle.field.specs.Leaf.{leafAt}
 use Rattle.wire.specs.Types.{TYPE_MESSAGE, TYPE_UINT32}
 use Rattle.sheet.specs.Table.{fileTag, messageTag, extensionTag, enumTag, fieldTag, valueTag, packageTag, nameTag}
 use Rattle.sheet.specs.Table.{extendeeTag, numberTag, typeTag, labelTag, typePathTag, signedNumberTag}
-use Rattle.sheet.specs.Declaration.{hasTypePath, typePathAt, shapeAt, extensionAt, fieldAt, valueAt}
+use Rattle.sheet.specs.Declaration.{hasTypePath, typePathAt, shapeAt, extensionAt, messageFieldAt, valueAt}
 use Rattle.sheetform.specs.Declarations.{goodShape, goodField, isField, isExtension, isValue}
 use Rattle.sheetform.specs.Form.{malformed, beyond, judgeValue, judgeEnum, judgeItem, judgeItems, judgeFile, judgeSheet}
 
 -- a sheet's verdict, with all that it is computed by
 verdict : List ℕ → Verdict
-unfolding judgeSheet judgeFile judgeItems judgeItem judgeEnum judgeValue isExtension isField isValue goodField goodShape extensionAt fieldAt
-    valueAt shapeAt typePathAt hasTypePath leafAt walk wholeAt bigAt isRelOrEmpty isRelPath allIdent components split onFirst isIdent
+unfolding judgeSheet judgeFile judgeItems judgeItem judgeEnum judgeValue isExtension isField isValue goodField goodShape extensionAt messageFieldAt
+    valueAt shapeAt typePathAt hasTypePath leafAt walk fieldAt bigAt isRelOrEmpty isRelPath allIdent components split onFirst isIdent
     isLetter isDigit allWord
 verdict = judgeSheet
 

@@ -18,7 +18,7 @@ use Rattle.sheet.specs.declared.declaration.Declared.the-variants.{Declares, No
 use Rattle.sheet.specs.declared.declaration.Value.{Value}
 use Rattle.sheet.specs.declared.declaration.Valued.{Valued}
 use Rattle.sheet.specs.declared.declaration.Valued.the-variants.{Values, NoValue}
-use Rattle.sheet.specs.Declaration.{hasTypePath, extensionAt, fieldAt, valueAt}
+use Rattle.sheet.specs.Declaration.{hasTypePath, extensionAt, messageFieldAt, valueAt}
 use Rattle.sheet.proofs.PlaceLaws.{extension-places-laws, field-places-laws, value-places-laws}
 use Rattle.sheetform.specs.Declarations.{inRange, goodTypePath, goodShape, goodField, isField, isExtension, isValue}
 
@@ -82,7 +82,7 @@ module _ (s : List ℕ) (d : Declaration) (b : Bool) (x : b ≡ isIdent (part s 
 pub ruleset good-field-laws = (field-bad-name, field-good-name, not-true, not-false)
 
 -- ---- is_field
-module _ (s : List ℕ) (a e : ℕ) (r : Declared) (q : r ≡ fieldAt s a e) where
+module _ (s : List ℕ) (a e : ℕ) (r : Declared) (q : r ≡ messageFieldAt s a e) where
   pub field-none : r ≡ NoDeclaration → false ≡ isField s a e
   unfolding isField
   field-none g = simp (isField, ← q, g)

@@ -26,7 +26,7 @@ use Rattle.sheet.specs.declared.declaration.Value.{Value}
 use Rattle.sheet.specs.declared.declaration.Valued.{Valued}
 use Rattle.sheet.specs.declared.declaration.Valued.the-variants.{Values, NoValue}
 use Rattle.sheet.specs.Table.{messageTag, extensionTag, enumTag, fieldTag, valueTag, nameTag}
-use Rattle.sheet.specs.Declaration.{extensionAt, fieldAt, valueAt}
+use Rattle.sheet.specs.Declaration.{extensionAt, messageFieldAt, valueAt}
 use Rattle.sheet.specs.Tree.{Items, valued, valueIn, valuesIn, enumIn, extensionIn, fieldIn, itemIn, itemsWith, messageIn}
 use Rattle.sheetform.specs.Declarations.{goodField, isExtension, isField, isValue}
 use Rattle.sheetform.specs.Form.{malformed, judgeValue, judgeEnum, judgeItem, judgeMessage, judgeItems}
@@ -100,9 +100,9 @@ module _ (s : List ℕ) (rest : Items) where
       go (Declares d) p = record { good = λ h. rw (p, h); whole = refl }
       go NoDeclaration p = absurd (false≢true p)
 
-  field-fine : (a e : ℕ) → isField s a e ≡ true → FineItem s fieldTag rest (fieldIn (fieldAt s a e) rest)
+  field-fine : (a e : ℕ) → isField s a e ≡ true → FineItem s fieldTag rest (fieldIn (messageFieldAt s a e) rest)
   unfolding isField
-  field-fine a e = go (fieldAt s a e)
+  field-fine a e = go (messageFieldAt s a e)
     where
       go : (r : Declared) → elim r [ Declares d ↦ goodField s d | NoDeclaration ↦ false ] ≡ true → FineItem s fieldTag rest (fieldIn r rest)
       go (Declares d) p = record { good = λ h. rw (p, h); whole = refl }
@@ -151,7 +151,7 @@ module _ (d : ℕ) (fields : Bool) (s : List ℕ) (messages : Messages d s) wher
       (λ m x n f p. absurd (refused-fine BadSheet (item-other d fields s t a e m x n f ∙ p)))
     where
       in-message : (b : Bool) → elim b [ true ↦ judged BadSheet (isField s a e) | false ↦ malformed ] ≡ Fine
-          → FineItem s fieldTag rest (fieldIn (fieldAt s a e) rest)
+          → FineItem s fieldTag rest (fieldIn (messageFieldAt s a e) rest)
       in-message true p = field-fine s rest a e (judged-fine BadSheet (isField s a e) p)
       in-message false p = absurd (refused-fine BadSheet p)
 

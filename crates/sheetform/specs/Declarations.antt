@@ -24,7 +24,7 @@ use Rattle.sheet.specs.declared.declaration.Declared.{Declared}
 use Rattle.sheet.specs.declared.declaration.Declared.the-variants.{Declares, NoDeclaration}
 use Rattle.sheet.specs.declared.declaration.Valued.{Valued}
 use Rattle.sheet.specs.declared.declaration.Valued.the-variants.{Values, NoValue}
-use Rattle.sheet.specs.Declaration.{hasTypePath, extensionAt, fieldAt, valueAt}
+use Rattle.sheet.specs.Declaration.{hasTypePath, extensionAt, messageFieldAt, valueAt}
 
 abbrev pub inRange : ℕ → ℕ → Bool
 inRange n most = leb 1 n && leb n most
@@ -41,7 +41,7 @@ unfoldable pub goodField : List ℕ → Declaration → Bool
 goodField s d = isIdent (text s (d .name)) && goodShape s (d .shape)
 
 unfoldable pub isField : List ℕ → ℕ → ℕ → Bool
-isField s a e = elim (fieldAt s a e) [ Declares d ↦ goodField s d | NoDeclaration ↦ false ]
+isField s a e = elim (messageFieldAt s a e) [ Declares d ↦ goodField s d | NoDeclaration ↦ false ]
 
 unfoldable pub isExtension : List ℕ → ℕ → ℕ → Bool
 isExtension s a e =

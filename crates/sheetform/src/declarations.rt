@@ -54,7 +54,7 @@ pub fn is_field(s: &[u8], from: usize, to: usize) -> bool
     requires { ⌜ (from ≤ to) × (to ≤ length (now s)) ⌝ }
     ensures { λ r. ⌜ r ≡ isField (now (s .entry)) from to ⌝ }
 {
-    let Declared::Declares(d) = sheet::declaration::field_at(s, from, to) else {
+    let Declared::Declares(d) = sheet::declaration::message_field_at(s, from, to) else {
         return false;
     };
     good_field(s, d)

@@ -3,13 +3,14 @@
 use Prim.Native.Nat.{_-_}
 use lib.ListN.{length}
 use Rattle.model.specs.Request.{requestOf}
-use Rattle.model.proofs.RequestLaws.{Counting, optionCount, options-laws}
+use Rattle.field.proofs.Tally.{Tally}
+use Rattle.model.proofs.RequestLaws.{optionCount, options-laws}
 use borrow.Author.Needs.{needs}
 use Rattle.model.proofs.request.count_options.Statement.{statement}
 use Rattle.model.proofs.request.count_options.Tie as tie
 
 abbrev Inv-loop : tie.InvT-loop
-Inv-loop s end n₀ at₀ n at = Counting (length (requestOf s .options)) (optionCount s) s at₀ end n at
+Inv-loop s end n₀ at₀ n at = Tally (length (requestOf s .options)) (optionCount s) s at₀ end n at
 
 abbrev μ-loop : tie.MeasureT-loop
 μ-loop s end n₀ at₀ n at = end - at

@@ -2,13 +2,14 @@
 -- Assumes nothing.
 use Prim.Native.Nat.{_-_}
 use Rattle.model.specs.Request.{requestOf, partsOf}
-use Rattle.model.proofs.RequestLaws.{Counting, nameCount, names-laws}
+use Rattle.field.proofs.Tally.{Tally}
+use Rattle.model.proofs.RequestLaws.{nameCount, names-laws}
 use borrow.Author.Needs.{needs}
 use Rattle.model.proofs.request.count_parts.Statement.{statement}
 use Rattle.model.proofs.request.count_parts.Tie as tie
 
 abbrev Inv-loop : tie.InvT-loop
-Inv-loop s end n₀ at₀ n at = Counting (partsOf (requestOf s .options)) (nameCount s) s at₀ end n at
+Inv-loop s end n₀ at₀ n at = Tally (partsOf (requestOf s .options)) (nameCount s) s at₀ end n at
 
 abbrev μ-loop : tie.MeasureT-loop
 μ-loop s end n₀ at₀ n at = end - at

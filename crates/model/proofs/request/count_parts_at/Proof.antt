@@ -2,13 +2,14 @@
 -- Assumes nothing.
 use Prim.Native.Nat.{_-_}
 use Rattle.field.specs.Walk.{walk}
-use Rattle.model.proofs.RequestLaws.{Counting, partCount, parts-laws}
+use Rattle.field.proofs.Tally.{Tally}
+use Rattle.model.proofs.RequestLaws.{partCount, parts-laws}
 use borrow.Author.Needs.{needs}
 use Rattle.model.proofs.request.count_parts_at.Statement.{statement}
 use Rattle.model.proofs.request.count_parts_at.Tie as tie
 
 abbrev Inv-loop : tie.InvT-loop
-Inv-loop s from to n₀ at₀ n at = Counting (partCount (walk s from to)) partCount s from to n at
+Inv-loop s from to n₀ at₀ n at = Tally (partCount (walk s from to)) partCount s from to n at
 
 abbrev μ-loop : tie.MeasureT-loop
 μ-loop s from to n₀ at₀ n at = to - at

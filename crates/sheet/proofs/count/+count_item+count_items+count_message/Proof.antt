@@ -4,7 +4,7 @@ use Prim.Native.Nat.{_+_, _*_, _-_, ℕ, _<_}
 use Rattle.field.specs.Walk.{walk}
 use Rattle.sheet.specs.Tree.{itemsIn}
 use Rattle.sheet.specs.Count.{inItems}
-use Rattle.sheet.proofs.Tally.{Tally}
+use Rattle.field.proofs.Tally.{Tally, total}
 use Rattle.sheet.proofs.CountLaws.{itemCount, item-count-laws, items-count-laws, message-count-laws}
 use borrow.Author.Needs.{needs}
 use borrow.Fn.Kinds.{In}
@@ -24,7 +24,7 @@ use Rattle.sheet.proofs.count.count_declared.Reads as count-declared-re
 use Rattle.sheet.proofs.count.count_enum.Reads as count-enum-reads
 use Rattle.sheet.proofs.count.one.Reads as one-reads
 use Rattle.sheet.proofs.declaration.extension_at.Reads as extension-at-reads
-use Rattle.sheet.proofs.declaration.field_at.Reads as declaration-field-at-reads
+use Rattle.sheet.proofs.declaration.message_field_at.Reads as message-field-at-reads
 use Rattle.sheet.proofs.count.+count_item+count_items+count_message.{statement}
 use Rattle.sheet.proofs.count.+count_item+count_items+count_message.Tie.{close}
 
@@ -67,7 +67,7 @@ count-message-below t =
 
 abbrev count-items-Inv-loop : count-items-lts.InvT-loop
 count-items-Inv-loop s from to left want n₀ at₀ n at =
-    Tally (inItems want (itemsIn left s (walk s from to))) (itemCount want left s) s from to n at
+    Tally (inItems want (itemsIn left s (walk s from to))) (total (itemCount want left s)) s from to n at
 
 abbrev count-items-μ-loop : count-items-lts.MeasureT-loop
 count-items-μ-loop s from to left want n₀ at₀ n at = to - at
@@ -83,8 +83,8 @@ pub +count-item+count-items+count-message-spec : {M : Type 1} → statement M
       count-declared-reads.Learnt,
       count-enum-reads.Asked,
       count-enum-reads.Learnt,
-      declaration-field-at-reads.Asked,
-      declaration-field-at-reads.Learnt,
+      message-field-at-reads.Asked,
+      message-field-at-reads.Learnt,
     )
     (count-item-at t)
     count-item.Post

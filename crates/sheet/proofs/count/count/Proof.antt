@@ -3,14 +3,14 @@
 use Prim.Native.Nat.{_-_}
 use Rattle.sheet.specs.Tree.{treeOf}
 use Rattle.sheet.specs.Count.{inSheet}
-use Rattle.sheet.proofs.Tally.{Tally}
+use Rattle.field.proofs.Tally.{Tally, total}
 use Rattle.sheet.proofs.CountLaws.{fileCount, files-count-laws}
 use borrow.Author.Needs.{needs}
 use Rattle.sheet.proofs.count.count.Statement.{statement}
 use Rattle.sheet.proofs.count.count.Tie as tie
 
 abbrev Inv-loop : tie.InvT-loop
-Inv-loop s want end n₀ at₀ n at = Tally (inSheet want (treeOf s)) (fileCount want s) s 0 end n at
+Inv-loop s want end n₀ at₀ n at = Tally (inSheet want (treeOf s)) (total (fileCount want s)) s 0 end n at
 
 abbrev μ-loop : tie.MeasureT-loop
 μ-loop s want end n₀ at₀ n at = end - at

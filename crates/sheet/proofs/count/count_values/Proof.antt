@@ -4,14 +4,14 @@ use Prim.Native.Nat.{_-_}
 use lib.ListN.{length}
 use Rattle.field.specs.Walk.{walk}
 use Rattle.sheet.specs.Tree.{valuesIn}
-use Rattle.sheet.proofs.Tally.{Tally}
+use Rattle.field.proofs.Tally.{Tally, total}
 use Rattle.sheet.proofs.CountLaws.{valueCount, values-count-laws}
 use borrow.Author.Needs.{needs}
 use Rattle.sheet.proofs.count.count_values.Statement.{statement}
 use Rattle.sheet.proofs.count.count_values.Tie as tie
 
 abbrev Inv-loop : tie.InvT-loop
-Inv-loop s from to n₀ at₀ n at = Tally (length (valuesIn s (walk s from to))) (valueCount s) s from to n at
+Inv-loop s from to n₀ at₀ n at = Tally (length (valuesIn s (walk s from to))) (total (valueCount s)) s from to n at
 
 abbrev μ-loop : tie.MeasureT-loop
 μ-loop s from to n₀ at₀ n at = to - at

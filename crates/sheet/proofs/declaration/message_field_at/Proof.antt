@@ -1,12 +1,12 @@
--- `declaration::field_at` meets its contract.
+-- `declaration::message_field_at` meets its contract.
 -- Assumes nothing.
 use Rattle.sheet.proofs.DeclarationLaws.{field-laws}
 use borrow.Author.Needs.{needs}
-use Rattle.sheet.proofs.declaration.field_at.Statement.{statement}
-use Rattle.sheet.proofs.declaration.field_at.Tie as tie
+use Rattle.sheet.proofs.declaration.message_field_at.Statement.{statement}
+use Rattle.sheet.proofs.declaration.message_field_at.Tie as tie
 
-pub field-at-spec : {M : Type 1} → statement M
-field-at-spec = tie.close (tie.spec
+pub message-field-at-spec : {M : Type 1} → statement M
+message-field-at-spec = tie.close (tie.spec
     (λ c κs. search (needs, field-laws))
     (λ c. search (needs, field-laws))
     (λ c. search (needs, field-laws))
