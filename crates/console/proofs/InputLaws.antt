@@ -38,7 +38,9 @@ pub ruleset payload-laws = (leaf-ended, leaf-cut, leaf-other, leaf-any)
 pub payload-holds : (k : ℕ) (s : List ℕ) (at end : ℕ) (r : Leaf) → r ≡ leafAt k anyBytes s at end → (from to : ℕ) → r ≡ At from to
     → (size : ℕ) (b : Bool) → b ≡ eqb (to - from) size → b ≡ true → from + size ≤ end
 payload-holds k s at end r q from to g size b p t =
-    omega (arith, leaf-ordered k anyBytes s at end r q from to g, leaf-inside k anyBytes s at end r q from to g, eqb-true (to - from) size (sym p ∙ t))
+    let ordered = leaf-ordered k anyBytes s at end r q from to g in
+    let inside = leaf-inside k anyBytes s at end r q from to g in
+    omega (arith, eqb-true (to - from) size (sym p ∙ t))
 
 pub input-within : (r : Input) (room : ℕ) → Fills r room → (n : ℕ) → r ≡ input.Bytes n → n ≤ room
 input-within r room f n e = rw e at f

@@ -15,7 +15,7 @@ use Rattle.field.specs.declared.Leaf.{Leaf}
 use Rattle.field.specs.declared.Leaf.the-variants.{At, Not}
 use Rattle.field.specs.Field.{fieldAt}
 use Rattle.field.specs.Leaf.{anyBytes, ofSize, leafAt}
-use Rattle.field.specs.Walk.{Walk, done, cut, step, walk}
+use Rattle.field.specs.Walk.{done, cut, step, walk}
 use Rattle.field.specs.Each.{each, eachFrom}
 
 -- 10 00 00, an empty package

@@ -1,6 +1,6 @@
 -- The loops that judge a container's fields, whatever the judge: at the end, at a cut, at a fault, and from one field to the next.
 -- Assumes nothing.
-use mathlib.Core.Path.{_≡_, sym, _∙_, ap}
+use mathlib.Core.Path.{_≡_, sym, _∙_}
 use mathlib.Core.List.{List}
 use Prim.Native.Nat.{ℕ, _+_, _-_, _≤_, _<_}
 use native.Mathlib.Omega.{arith}
@@ -12,7 +12,7 @@ use Rattle.reply.proofs.VerdictLaws.{first-refused, first-fine}
 use Rattle.field.specs.declared.Field.{Field}
 use Rattle.field.specs.declared.Field.the-variants.{Whole, Cut}
 use Rattle.field.specs.Field.{fieldAt}
-use Rattle.field.specs.Walk.{Walk, walk}
+use Rattle.field.specs.Walk.{walk}
 use Rattle.field.specs.Each.{each, eachFrom}
 use Rattle.field.proofs.FieldLaws.{field-bounds}
 use Rattle.field.proofs.Rest.{Rest, rest-end, rest-cut, rest-step, rest-next}
@@ -45,7 +45,8 @@ module _ (bad : Refusal) (f : ℕ → ℕ → ℕ → ℕ → Verdict) (v : Verd
     module _ (t a e : ℕ) (g : r ≡ Whole t a e) (u : Verdict) (p : u ≡ f n t a e) where
       pub each-from-refused : (w : Refusal) → u ≡ Refused w → Refused w ≡ v
       each-from-refused w x =
-          first-refused (f n t a e) (eachFrom bad f (n + 1) (walk s e to)) w (sym p ∙ x) ∙ sym (rest-step v (eachFrom bad f n) s to i k h r q t a e g)
+          first-refused (f n t a e) (eachFrom bad f (n + 1) (walk s e to)) w (sym p ∙ x)
+          ∙ sym (rest-step v (eachFrom bad f n) s to i k h r q t a e g)
 
       pub each-from-next : u ≡ Fine → Rest v (eachFrom bad f (n + 1)) s to e
       each-from-next x =

@@ -46,7 +46,8 @@ leaf-inv k good s at end a e (Whole t n m) q p = go (eqb t k) (good (part s n m)
         let y : e ≡ m = cc in
         rw (x, y) (field-bounds s at end (Whole t n m) q t n m refl)
 
-module _ (k : ℕ) (good : List ℕ → Bool) (s : List ℕ) (at end : ℕ) (r : Leaf) (q : r ≡ leafAt k good s at end) (a e : ℕ) (g : r ≡ At a e) where
+module _ (k : ℕ) (good : List ℕ → Bool) (s : List ℕ) (at end : ℕ) (r : Leaf) (q : r ≡ leafAt k good s at end) (a e : ℕ)
+    (g : r ≡ At a e) where
   pub leaf-bounds : Bounds at end a e
   unfolding leafAt
   leaf-bounds = leaf-inv k good s at end a e (fieldAt s at end) refl (sym g ∙ q)

@@ -1,15 +1,15 @@
 -- The laws of `walk`: the list of fields opens at its first, and no law after these speaks of fuel.
 -- Assumes nothing.
-use mathlib.Core.Path.{_≡_, refl, sym, ap, _∙_}
+use mathlib.Core.Path.{_≡_, refl, ap, _∙_}
 use mathlib.Core.Bool.{Bool, true, false}
 use mathlib.Core.List.{List}
-use Prim.Native.Nat.{ℕ, zero, suc, _+_, _-_, _≤_, _<_}
+use Prim.Native.Nat.{ℕ, zero, suc, _-_, _≤_, _<_}
 use native.Mathlib.Omega.{arith}
 use borrow.Author.Tests.{lt-ltb, le-ltb, ltb-true}
 use lib.Dec.{ltb}
 use Rattle.field.specs.declared.Field.{Field}
 use Rattle.field.specs.declared.Field.the-variants.{Whole, Cut}
-use Rattle.field.specs.Field.{header, fieldAt}
+use Rattle.field.specs.Field.{fieldAt}
 use Rattle.field.specs.Walk.{Walk, done, cut, step, follow, walkFor, walk}
 use Rattle.field.proofs.FieldLaws.{Bounds, field-bounds}
 
@@ -25,7 +25,8 @@ module _ (s : List ℕ) (end : ℕ) where
   fuel-more : (n m at : ℕ) → end - at ≤ suc n → end - at ≤ suc m
       → ((e : ℕ) → end - e ≤ n → end - e ≤ m → walkFor n s e end ≡ walkFor m s e end)
       → (b : Bool) → ltb at end ≡ b
-      → _≡_ {A = Walk} (elim b [ true ↦ follow (fieldAt s at end) (λ e. walkFor n s e end) | false ↦ done ]) (elim b [ true ↦ follow (fieldAt s at end) (λ e. walkFor m s e end) | false ↦ done ])
+      → _≡_ {A = Walk} (elim b [ true ↦ follow (fieldAt s at end) (λ e. walkFor n s e end) | false ↦ done ])
+      (elim b [ true ↦ follow (fieldAt s at end) (λ e. walkFor m s e end) | false ↦ done ])
   fuel-more n m at k l ih true p = fuel-follow n m at (ltb-true at end p) k l ih (fieldAt s at end) refl
   fuel-more n m at k l ih false p = refl
 

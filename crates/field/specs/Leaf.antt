@@ -2,6 +2,7 @@
 --
 --                 span a e ==  the span from the place a up to the place e
 --                 text s p ==  the bytes of a span
+--                 Lies p s <-> the span is one of s: it starts before it ends, and ends before s does
 --              anyBytes bs <=> nothing is asked of the bytes
 --              ofSize n bs <=> there are n bytes
 --               onlyIf b l ==  the leaf l where b holds
@@ -11,7 +12,7 @@
 -- Assumes nothing.
 use mathlib.Core.Bool.{Bool, true, false, _&&_}
 use mathlib.Core.List.{List}
-use Prim.Native.Nat.{ℕ}
+use Prim.Native.Nat.{ℕ, _≤_}
 use lib.Dec.{eqb}
 use lib.ListN.{length}
 use Rattle.octets.specs.Octets.{part}
@@ -27,6 +28,9 @@ span a e = record { from = a; to = e }
 
 abbrev pub text : List ℕ → Span → List ℕ
 text s p = part s (p .from) (p .to)
+
+abbrev pub Lies : Span → List ℕ → Type 0
+Lies p s = (p .from ≤ p .to) × (p .to ≤ length s)
 
 abbrev pub anyBytes : List ℕ → Bool
 anyBytes bs = true

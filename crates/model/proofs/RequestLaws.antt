@@ -5,7 +5,7 @@ use mathlib.Core.Bool.{Bool, true, false}
 use mathlib.Core.List.{List, [], _∷_}
 use Prim.Native.Nat.{ℕ, zero, suc, _+_, _-_, _≤_, _<_}
 use native.Mathlib.Omega.{arith}
-use native.Mathlib.Nat.{zero-add, add-zero, add-assoc}
+use native.Mathlib.Nat.{zero-add, add-zero}
 use borrow.Author.Tests.{eq-eqb, ne-eqb, ltb-true, ltb-false}
 use lib.Dec.{ltb}
 use lib.ListN.{length}
@@ -17,12 +17,12 @@ use Rattle.field.specs.declared.Leaf.{Leaf}
 use Rattle.field.specs.declared.Leaf.the-variants.{At, Not}
 use Rattle.field.specs.Field.{fieldAt}
 use Rattle.field.specs.Leaf.{span, anyBytes, onLeaf, leafAt}
-use Rattle.field.specs.Walk.{Walk, done, cut, step, walk}
+use Rattle.field.specs.Walk.{Walk, step, walk}
 use Rattle.field.proofs.FieldLaws.{Bounds, field-bounds, field-ordered}
 use Rattle.field.proofs.EachLaws.{field-within, field-less}
 use Rattle.field.proofs.LeafLaws.{leaf-bounds, leaf-inside}
 use Rattle.field.proofs.WalkLaws.{walk-done, walk-cut, walk-step}
-use Rattle.field.proofs.Rest.{Rest, rest-start, rest-end, rest-cut, rest-next}
+use Rattle.field.proofs.Rest.{Rest, rest-start, rest-end}
 use Rattle.model.specs.declared.name.Part.{Part}
 use Rattle.model.specs.declared.name.Parted.{Parted}
 use Rattle.model.specs.declared.name.Parted.the-variants.{Is, NoPart}
@@ -170,7 +170,9 @@ partCount w = length (partsIn w)
 module _ (v : ℕ) (s : List ℕ) (from to n at : ℕ) (k : Tally v partCount s from to n at) (h : at < to)
     (r : Parted) (q : r ≡ partAt s at to) where
   pub parts-stop : r ≡ NoPart → n ≡ v
-  parts-stop g = sym (rest-no-part v (counted partCount n) s to at (k .left) r q n (add-zero n) (add-zero n) (λ t a e w x. rw x (add-zero n)) g)
+  parts-stop g =
+      let none = add-zero n in
+      sym (rest-no-part v (counted partCount n) s to at (k .left) r q n none none (λ t a e w x. rw x (add-zero n)) g)
 
   pub parts-next : (p : Part) → r ≡ Is p → Tally v partCount s from to (n + 1) (p .name .to)
   parts-next p g =

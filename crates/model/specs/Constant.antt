@@ -9,7 +9,7 @@
 --        pairAt s at e ==  the pair at a place
 --
 -- Assumes nothing.
-use mathlib.Core.Bool.{Bool, true, false, _&&_, cond}
+use mathlib.Core.Bool.{Bool, true, false, _&&_}
 use mathlib.Core.List.{List}
 use Prim.Native.Nat.{ℕ, _-_, _^_}
 use lib.Dec.{eqb, ltb, leb}
@@ -21,13 +21,14 @@ use Rattle.field.specs.declared.Field.the-variants.{Whole, Cut}
 use Rattle.field.specs.Field.{fieldAt}
 use Rattle.field.specs.Leaf.{span}
 use Rattle.model.specs.declared.constant.Constant.{Constant}
-use Rattle.model.specs.declared.constant.Constant.the-variants.{Bool as BoolOf, Integer, Float, NotANumber, Text, Ident, Message, List as ListOf}
+use Rattle.model.specs.declared.constant.Constant.the-variants.{Bool as BoolOf, Integer, Float, NotANumber}
+use Rattle.model.specs.declared.constant.Constant.the-variants.{Text, Ident, Message, List as ListOf}
 use Rattle.model.specs.declared.constant.Held.{Held}
 use Rattle.model.specs.declared.constant.Held.the-variants.{Holds, NoConstant}
-use Rattle.model.specs.declared.constant.Pair.{Pair}
 use Rattle.model.specs.declared.constant.Paired.{Paired}
 use Rattle.model.specs.declared.constant.Paired.the-variants.{Pairs, NoPair}
-use Rattle.model.specs.Table.{boolTag, unsignedTag, signedTag, floatTag, stringTag, identTag, messageTag, pairFieldTag, pairUrlTag, listTag}
+use Rattle.model.specs.Table.{boolTag, unsignedTag, signedTag, floatTag, stringTag, identTag}
+use Rattle.model.specs.Table.{messageTag, pairFieldTag, pairUrlTag, listTag}
 
 -- an integer is its sign and its size
 unfoldable pub signedOf : ℕ → Constant

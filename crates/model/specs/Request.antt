@@ -23,7 +23,6 @@ use Rattle.field.specs.Field.{fieldAt}
 use Rattle.field.specs.Leaf.{span, anyBytes, onLeaf, leafAt}
 use Rattle.field.specs.Walk.{Walk, done, cut, step, walk}
 use Rattle.model.specs.declared.name.Part.{Part}
-use Rattle.model.specs.declared.request.Heading.{Heading}
 use Rattle.model.specs.declared.request.Headed.{Headed}
 use Rattle.model.specs.declared.request.Headed.the-variants.{Heads, NoHeading}
 use Rattle.model.specs.Table.{scopeTag, optionsTypeTag, optionTag}

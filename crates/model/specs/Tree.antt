@@ -17,7 +17,8 @@ use Rattle.field.specs.declared.Span.{Span}
 use Rattle.field.specs.Leaf.{span}
 use Rattle.field.specs.Walk.{Walk, done, cut, step, walk}
 use Rattle.model.specs.declared.constant.Constant.{Constant}
-use Rattle.model.specs.declared.constant.Constant.the-variants.{Bool as BoolOf, Integer, Float, NotANumber, Text, Ident, Message, List as ListOf}
+use Rattle.model.specs.declared.constant.Constant.the-variants.{Bool as BoolOf, Integer, Float, NotANumber}
+use Rattle.model.specs.declared.constant.Constant.the-variants.{Text, Ident, Message, List as ListOf}
 use Rattle.model.specs.declared.constant.Held.{Held}
 use Rattle.model.specs.declared.constant.Held.the-variants.{Holds, NoConstant}
 use Rattle.model.specs.Table.{pairFieldTag, pairExtensionTag}
@@ -41,7 +42,10 @@ abbrev pub Reader : Type 0
 Reader = Label → ℕ → ℕ → ℕ → Constants → Constants
 
 abbrev pub labelOf : ℕ → Span → Label
-labelOf t p = elim (eqb t pairFieldTag) [ true ↦ byField p | false ↦ elim (eqb t pairExtensionTag) [ true ↦ byExtension p | false ↦ byUrl p ] ]
+labelOf t p = elim (eqb t pairFieldTag) [
+  | true ↦ byField p
+  | false ↦ elim (eqb t pairExtensionTag) [ true ↦ byExtension p | false ↦ byUrl p ]
+]
 
 abbrev pub elementsIn : Reader → Walk → Constants
 elementsIn inner done = none

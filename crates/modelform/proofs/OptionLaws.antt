@@ -19,7 +19,7 @@ use Rattle.reply.specs.Verdicts.{judged}
 use Rattle.field.specs.declared.Field.{Field}
 use Rattle.field.specs.declared.Field.the-variants.{Whole, Cut}
 use Rattle.field.specs.Field.{fieldAt}
-use Rattle.field.specs.Walk.{Walk, done, cut, step, walk}
+use Rattle.field.specs.Walk.{walk}
 use Rattle.field.specs.Each.{eachFrom}
 use Rattle.field.proofs.FieldLaws.{field-bounds, field-ordered}
 use Rattle.field.proofs.Rest.{Rest, rest-start, rest-end}

@@ -1,20 +1,22 @@
--- The verdict of a request, and of a path or a name that a call is given alone: 01, Replies, "by over-length, then .. the first fault from the
--- front (a container holds its children's faults; a limit is a fault where it is passed)".
+-- The verdict of a request, and of a path or a name that a call is given alone: 01, Replies, "by over-length, then .. the first fault from
+-- the front (a container holds its children's faults; a limit is a fault where it is passed)".
 --
 --         pairsOf inner s w == the pairs among the fields w, `inner` judging a constant
---     judgeConstant d s t a e == a constant, with d levels of constants left
---       judgeElements d s a e == the elements of a list
---          judgePairs d s a e == the pairs of a message constant
---            partsFrom s n at w == the parts that the fields w begin with, n before them: where they end, or the first fault
---            judgeLast s at e == the constant that an option ends with
---       judgeOption s i t a e == one field of a request after its heading, the i-th, counted from 0
---          judgeOptions s a e == the options of a request
---              judgeRequest s == a request
---                 judgeName s == the parts of a name, alone
---    judgeScope judgeOptionsType judgePath == a scope, the path of an options type, a path as an extension part has it, alone
+--   judgeConstant d s t a e == a constant, with d levels of constants left
+--     judgeElements d s a e == the elements of a list
+--        judgePairs d s a e == the pairs of a message constant
+--        partsFrom s n at w == the parts that the fields w begin with, n before them: where they end, or the first fault
+--          judgeLast s at e == the constant that an option ends with
+--     judgeOption s i t a e == one field of a request after its heading, the i-th, counted from 0
+--        judgeOptions s a e == the options of a request
+--            judgeRequest s == a request
+--               judgeName s == the parts of a name, alone
+--              judgeScope t == a scope, alone
+--        judgeOptionsType t == the path of an options type, alone
+--               judgePath t == a path as an extension part has it, alone
 --
 -- Assumes nothing.
-use mathlib.Core.Bool.{Bool, true, false, _&&_, not}
+use mathlib.Core.Bool.{true, false, _&&_, not}
 use mathlib.Core.List.{List}
 use Prim.Native.Nat.{ℕ, zero, suc, _+_}
 use lib.Dec.{eqb, ltb}
@@ -22,7 +24,6 @@ use lib.ListN.{length}
 use Rattle.limits.specs.Figures.{mostRequest, mostOptions, mostParts, mostConstants}
 use Rattle.octets.specs.Octets.{part}
 use Rattle.path.specs.Path.{isRelPath, isRelOrEmpty, isPath}
-use Rattle.reply.specs.declared.Refusal.{Refusal}
 use Rattle.reply.specs.declared.Refusal.the-variants.{BadRequest, BeyondLimit}
 use Rattle.reply.specs.declared.Verdict.{Verdict}
 use Rattle.reply.specs.declared.Verdict.the-variants.{Fine, Refused}

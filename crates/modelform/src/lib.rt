@@ -1,4 +1,5 @@
-// The form of a request, and of a path or a name that a call is given alone: every byte string is fine, or has a first fault from the front.
+// The form of a request, and of a path or a name that a call is given alone: every byte string is fine, or has a first fault from the
+// front.
 pub mod constants;
 pub mod leaves;
 pub mod options;

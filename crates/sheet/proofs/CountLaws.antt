@@ -29,7 +29,7 @@ use Rattle.sheet.specs.Table.{fileTag, messageTag, extensionTag, enumTag
 use Rattle.sheet.specs.Declaration.{extensionAt, messageFieldAt, valueAt}
 use Rattle.sheet.specs.Tree.{Items, none, message, enumeration, File, valued, valueIn, valuesIn, enumIn, extensionIn, fieldIn}
 use Rattle.sheet.specs.Tree.{itemIn, messageIn, itemsWith, itemsIn, fileIn, filesIn, treeOf}
-use Rattle.sheet.specs.Count.{one, declaredCount, inItems, inSheet}
+use Rattle.sheet.specs.Count.{one, declaredCount, inItems, inSheet, valueCount, itemCount, fileCount}
 use Rattle.field.proofs.Tally.{Tally, total, tally-start, tally-laws}
 use Rattle.sheet.proofs.TreeLaws.{value-other, value-none, value-some, enum-unnamed, enum-named}
 use Rattle.sheet.proofs.TreeLaws.{message-beyond, message-unnamed, message-named}
@@ -111,15 +111,6 @@ item-adds k inner i s t a e rest =
     go false false false false x y = omega arith
 
 -- ---- so the fields between two places are added up
-abbrev pub valueCount : List ℕ → ℕ → ℕ → ℕ → ℕ
-valueCount s t a e = length (valueIn s t a e [])
-
-abbrev pub itemCount : ℕ → ℕ → List ℕ → ℕ → ℕ → ℕ → ℕ
-itemCount k d s t a e = inItems k (itemIn (messageIn d s) s t a e none)
-
-abbrev pub fileCount : ℕ → List ℕ → ℕ → ℕ → ℕ → ℕ
-fileCount k s t a e = inSheet k (fileIn s t a e [])
-
 values-total : (s : List ℕ) (w : Walk) → length (valuesIn s w) ≡ total (valueCount s) w
 values-total s done = refl
 values-total s cut = refl
@@ -147,7 +138,8 @@ module _ (s : List ℕ) (from to : ℕ) (h : from ≤ to) (g : to ≤ length s) 
 
 pub files-start : (k : ℕ) (s : List ℕ) (to : ℕ) → to ≡ length s → Tally (inSheet k (treeOf s)) (total (fileCount k s)) s 0 to 0 0
 files-start k s to q =
-    rw (q, tree-files s) (tally-start _ (total (fileCount k s)) s 0 (length s) (files-total k s (walk s 0 (length s))) (omega arith) (omega arith))
+    rw (q, tree-files s)
+    (tally-start _ (total (fileCount k s)) s 0 (length s) (files-total k s (walk s 0 (length s))) (omega arith) (omega arith))
 
 -- ---- one tag, one declaration, one value
 module _ (k t : ℕ) where

@@ -1,5 +1,5 @@
--- Extensions, fields and enum values as they are written, from 01's table: "content, in this order". What the leaves hold is judged with the
--- form of the sheet, and no reader needs that it was.
+-- Extensions, fields and enum values as they are written, from 01's table: "content, in this order". What the leaves hold is judged with
+-- the form of the sheet, and no reader needs that it was.
 --
 --          hasTypePath t <=> the type t is a group, a message or an enum
 --             lastAt e l ==  the leaf l where it ends at e
@@ -24,10 +24,8 @@ use Rattle.wire.specs.Types.{TYPE_GROUP, TYPE_MESSAGE, TYPE_ENUM}
 use Rattle.sheet.specs.declared.declaration.Shape.{Shape}
 use Rattle.sheet.specs.declared.declaration.Shaped.{Shaped}
 use Rattle.sheet.specs.declared.declaration.Shaped.the-variants.{Shapes, NoShape}
-use Rattle.sheet.specs.declared.declaration.Declaration.{Declaration}
 use Rattle.sheet.specs.declared.declaration.Declared.{Declared}
 use Rattle.sheet.specs.declared.declaration.Declared.the-variants.{Declares, NoDeclaration}
-use Rattle.sheet.specs.declared.declaration.Value.{Value}
 use Rattle.sheet.specs.declared.declaration.Valued.{Valued}
 use Rattle.sheet.specs.declared.declaration.Valued.the-variants.{Values, NoValue}
 use Rattle.sheet.specs.Table.{nameTag, extendeeTag, numberTag, typeTag, labelTag, typePathTag, signedNumberTag}

@@ -1,5 +1,6 @@
 -- The tree that a sheet's bytes stand for, whatever they are: what is no declaration as 01's table writes it, and a message deeper than
--- 01 allows, is left out. Of a sheet that is fine nothing is left out.
+-- 01 allows, is left out (a field that stands in a file by itself is kept: no fine sheet has one). Of a sheet that is fine nothing is
+-- left out.
 --
 --                        Items == what a file or a message holds, in order: the first one, and what follows it
 --                         File == a package, and what the file holds
@@ -13,7 +14,7 @@
 --                     treeOf s == the files of a sheet, in order
 --
 -- Assumes nothing.
-use mathlib.Core.Bool.{Bool, true, false}
+use mathlib.Core.Bool.{true, false}
 use mathlib.Core.List.{List, [], _∷_}
 use Prim.Native.Nat.{ℕ, zero, suc}
 use lib.Dec.{eqb}
@@ -96,9 +97,12 @@ unfoldable pub itemsIn : ℕ → List ℕ → Walk → Items
 itemsIn d s w = itemsWith (messageIn d s) s w
 
 -- "01 file: 10 package, then any of 02, 03, 04"
+abbrev pub fileWith : Span → Items → File
+fileWith p i = record { packageName = p; items = i }
+
 unfoldable pub fileIn : List ℕ → ℕ → ℕ → ℕ → List File → List File
 fileIn s t a e rest = elim (eqb t fileTag) [
-  | true ↦ onLeaf rest (leafAt packageTag anyBytes s a e) λ n m. record { packageName = span n m; items = itemsIn mostMessages s (walk s m e) } ∷ rest
+  | true ↦ onLeaf rest (leafAt packageTag anyBytes s a e) λ n m. fileWith (span n m) (itemsIn mostMessages s (walk s m e)) ∷ rest
   | false ↦ rest
 ]
 

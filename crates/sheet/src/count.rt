@@ -1,11 +1,10 @@
 // How many declarations of one tag a sheet has: a walk over the whole tree. Only nested messages recurse: siblings are a loop.
 ghost use mathlib.Core.Path.{_≡_};
-ghost use mathlib.Core.List.{[]};
 ghost use Prim.Native.Nat.{_+_, _-_, _≤_};
 ghost use lib.ListN.{length};
 ghost use Rattle.field.specs.Walk.{walk};
-ghost use Rattle.sheet.specs.Tree.{none, valueIn, valuesIn, enumIn, itemIn, messageIn, itemsIn, fileIn, treeOf};
-ghost use Rattle.sheet.specs.Count.{one as oneOf, declaredCount, inItems, inSheet};
+ghost use Rattle.sheet.specs.Tree.{none, valuesIn, enumIn, messageIn, itemsIn, treeOf};
+ghost use Rattle.sheet.specs.Count.{one as oneOf, declaredCount, inItems, inSheet, valueCount, itemCount, fileCount};
 use crate::declaration::Declared;
 use crate::declaration::Valued;
 use crate::declaration::extension_at;
@@ -26,7 +25,7 @@ fn one(want: u8, tag: u8) -> usize
 // 1 where a field of an enum is a value.
 fn count_value(s: &[u8], tag: u8, from: usize, to: usize) -> usize
     requires { ⌜ (from ≤ to) × (to ≤ length (now s)) ⌝ }
-    ensures { λ r. ⌜ (r ≡ length (valueIn (now (s .entry)) tag from to [])) × (r ≤ 1) ⌝ }
+    ensures { λ r. ⌜ (r ≡ valueCount (now (s .entry)) tag from to) × (r ≤ 1) ⌝ }
 {
     if tag != table::VALUE {
         return 0;
@@ -83,7 +82,7 @@ fn count_declared(d: Declared, tag: u8, want: u8) -> usize
 // What one field of a file or a message holds, itself counted, with `left` levels of messages left.
 fn count_item(s: &[u8], tag: u8, from: usize, to: usize, left: usize, want: u8) -> usize
     requires { ⌜ (from ≤ to) × (to ≤ length (now s)) ⌝ }
-    ensures { λ r. ⌜ (r ≡ inItems want (itemIn (messageIn left (now (s .entry))) (now (s .entry)) tag from to none)) × (r ≤ to - from + 1) ⌝ }
+    ensures { λ r. ⌜ (r ≡ itemCount want left (now (s .entry)) tag from to) × (r ≤ to - from + 1) ⌝ }
 {
     if tag == table::MESSAGE {
         return count_message(s, from, to, left, want);
@@ -139,7 +138,7 @@ fn count_items(s: &[u8], from: usize, to: usize, left: usize, want: u8) -> usize
 // A file and what it holds.
 fn count_file(s: &[u8], tag: u8, from: usize, to: usize, want: u8) -> usize
     requires { ⌜ (from ≤ to) × (to ≤ length (now s)) ⌝ }
-    ensures { λ r. ⌜ (r ≡ inSheet want (fileIn (now (s .entry)) tag from to [])) × (r ≤ to - from + 1) ⌝ }
+    ensures { λ r. ⌜ (r ≡ fileCount want (now (s .entry)) tag from to) × (r ≤ to - from + 1) ⌝ }
 {
     if tag != table::FILE {
         return 0;

@@ -20,9 +20,7 @@ use Rattle.path.specs.Path.{isRelPath}
 use Rattle.field.specs.Leaf.{text}
 use Rattle.sheet.specs.declared.declaration.Shape.{Shape}
 use Rattle.sheet.specs.declared.declaration.Declaration.{Declaration}
-use Rattle.sheet.specs.declared.declaration.Declared.{Declared}
 use Rattle.sheet.specs.declared.declaration.Declared.the-variants.{Declares, NoDeclaration}
-use Rattle.sheet.specs.declared.declaration.Valued.{Valued}
 use Rattle.sheet.specs.declared.declaration.Valued.the-variants.{Values, NoValue}
 use Rattle.sheet.specs.Declaration.{hasTypePath, extensionAt, messageFieldAt, valueAt}
 

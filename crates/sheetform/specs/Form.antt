@@ -18,10 +18,9 @@ use lib.ListN.{length}
 use Rattle.limits.specs.Figures.{mostSheet, mostFiles, mostMessages}
 use Rattle.path.specs.Ident.{isIdent}
 use Rattle.path.specs.Path.{isRelOrEmpty}
-use Rattle.reply.specs.declared.Refusal.{Refusal}
 use Rattle.reply.specs.declared.Refusal.the-variants.{BadSheet, BeyondLimit}
 use Rattle.reply.specs.declared.Verdict.{Verdict}
-use Rattle.reply.specs.declared.Verdict.the-variants.{Fine, Refused}
+use Rattle.reply.specs.declared.Verdict.the-variants.{Refused}
 use Rattle.reply.specs.Verdicts.{judged}
 use Rattle.field.specs.Walk.{walk}
 use Rattle.field.specs.Leaf.{onLeaf, leafAt}

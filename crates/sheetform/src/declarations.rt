@@ -2,6 +2,7 @@
 ghost use mathlib.Core.Path.{_≡_};
 ghost use Prim.Native.Nat.{_≤_};
 ghost use lib.ListN.{length};
+ghost use Rattle.field.specs.Leaf.{Lies};
 ghost use Rattle.sheetform.specs.Declarations.{goodShape, goodField, isExtension, isField, isValue};
 use limits::MOST_LABEL;
 use limits::MOST_NUMBER;
@@ -16,7 +17,7 @@ use sheet::declaration::has_type_path;
 
 // Whether number, type and label are in their ranges, and the type path is a path.
 fn good_shape(s: &[u8], h: Shape) -> bool
-    requires { ⌜ (h .path .from ≤ h .path .to) × (h .path .to ≤ length (now s)) ⌝ }
+    requires { ⌜ Lies (h .path) (now s) ⌝ }
     ensures { λ r. ⌜ r ≡ goodShape (now (s .entry)) h ⌝ }
 {
     if (h.number < 1) | (MOST_NUMBER < h.number as u64) {
@@ -38,7 +39,7 @@ fn good_shape(s: &[u8], h: Shape) -> bool
 
 // Whether the name is an identifier, and the shape is good.
 fn good_field(s: &[u8], d: Declaration) -> bool
-    requires { ⌜ (d .name .from ≤ d .name .to) × (d .name .to ≤ length (now s)) × (d .shape .path .from ≤ d .shape .path .to) × (d .shape .path .to ≤ length (now s)) ⌝ }
+    requires { ⌜ Lies (d .name) (now s) × Lies (d .shape .path) (now s) ⌝ }
     ensures { λ r. ⌜ r ≡ goodField (now (s .entry)) d ⌝ }
 {
     let from = d.name.from;

@@ -3,9 +3,9 @@
 use Prim.Native.Nat.{_+_, _*_, _-_, ℕ, _<_}
 use Rattle.field.specs.Walk.{walk}
 use Rattle.sheet.specs.Tree.{itemsIn}
-use Rattle.sheet.specs.Count.{inItems}
+use Rattle.sheet.specs.Count.{inItems, itemCount}
 use Rattle.field.proofs.Tally.{Tally, total}
-use Rattle.sheet.proofs.CountLaws.{itemCount, item-count-laws, items-count-laws, message-count-laws}
+use Rattle.sheet.proofs.CountLaws.{item-count-laws, items-count-laws, message-count-laws}
 use borrow.Author.Needs.{needs}
 use borrow.Fn.Kinds.{In}
 use borrow.Fn.PlainCycle.{Measures, is, falls, and}

@@ -2,9 +2,9 @@
 -- Assumes nothing.
 use Prim.Native.Nat.{_-_}
 use Rattle.sheet.specs.Tree.{treeOf}
-use Rattle.sheet.specs.Count.{inSheet}
+use Rattle.sheet.specs.Count.{inSheet, fileCount}
 use Rattle.field.proofs.Tally.{Tally, total}
-use Rattle.sheet.proofs.CountLaws.{fileCount, files-count-laws}
+use Rattle.sheet.proofs.CountLaws.{files-count-laws}
 use borrow.Author.Needs.{needs}
 use Rattle.sheet.proofs.count.count.Statement.{statement}
 use Rattle.sheet.proofs.count.count.Tie as tie

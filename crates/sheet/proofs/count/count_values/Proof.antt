@@ -5,7 +5,8 @@ use lib.ListN.{length}
 use Rattle.field.specs.Walk.{walk}
 use Rattle.sheet.specs.Tree.{valuesIn}
 use Rattle.field.proofs.Tally.{Tally, total}
-use Rattle.sheet.proofs.CountLaws.{valueCount, values-count-laws}
+use Rattle.sheet.specs.Count.{valueCount}
+use Rattle.sheet.proofs.CountLaws.{values-count-laws}
 use borrow.Author.Needs.{needs}
 use Rattle.sheet.proofs.count.count_values.Statement.{statement}
 use Rattle.sheet.proofs.count.count_values.Tie as tie
