@@ -4,7 +4,8 @@
 usage: form.py [CASES] [SEED]
 
 A case is a sheet, or a sheet and a request: drawn from the rules and then, three times in four, broken in one to three places (a byte
-changed, lost or added, a field lost or doubled, a length grown). optcheck is the program that `rt check` builds under target/bin; it takes many cases in one run.
+changed or lost, the end cut off, a field lost or doubled, a length changed). optcheck is the program that `rt check` builds under
+target/bin; it takes many cases in one run.
 """
 import random
 import re
@@ -228,7 +229,8 @@ def some_path(dot=False):
 def some_shape():
     kind = rnd.choice((0, 19)) if rnd.random() < 0.005 else rnd.randint(1, 18)
     number = rnd.choice((0, 536870912, 4294967295)) if rnd.random() < 0.01 else rnd.choice((1, 2, 50001, 536870911))
-    out = field(0x13, number.to_bytes(4, "big")) + field(0x14, bytes([kind])) + field(0x15, bytes([rnd.choice((0, 4)) if rnd.random() < 0.005 else rnd.randint(1, 3)]))
+    label = rnd.choice((0, 4)) if rnd.random() < 0.005 else rnd.randint(1, 3)
+    out = field(0x13, number.to_bytes(4, "big")) + field(0x14, bytes([kind])) + field(0x15, bytes([label]))
     return out + (field(0x16, some_path()) if (kind in (10, 11, 14)) != (rnd.random() < 0.005) else b"")
 
 
@@ -326,7 +328,8 @@ def broken(data):
             return data + rnd.randbytes(rnd.randint(1, 4))
         if how == 0:
             at = rnd.randrange(len(data))
-            data = data[:at] + bytes([rnd.choice((0, 1, 2, 3, 4, 5, 6, 8, 0x11, 0x20, 0x2A, 0x2E, 0x30, rnd.randrange(256)))]) + data[at + 1 :]
+            byte = rnd.choice((0, 1, 2, 3, 4, 5, 6, 8, 0x11, 0x20, 0x2A, 0x2E, 0x30, rnd.randrange(256)))
+            data = data[:at] + bytes([byte]) + data[at + 1 :]
         elif how == 1:
             at = rnd.randrange(len(data))
             data = data[:at] + data[at + 1 :]

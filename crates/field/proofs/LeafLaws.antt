@@ -7,8 +7,9 @@ use Prim.Native.Nat.{ℕ, _+_, _-_, _≤_, _<_}
 use native.Mathlib.Omega.{arith}
 use borrow.Author.Tests.{eq-eqb, ne-eqb, eqb-true}
 use lib.Dec.{eqb}
-use lib.ListN.{length, drop, length-take, length-drop}
+use lib.ListN.{length}
 use Rattle.octets.specs.Octets.{part}
+use Rattle.octets.proofs.Parts.{part-length}
 use Rattle.field.specs.declared.Field.{Field}
 use Rattle.field.specs.declared.Field.the-variants.{Whole, Cut}
 use Rattle.field.specs.declared.Leaf.{Leaf}
@@ -104,24 +105,17 @@ module _ (k : ℕ) (good : List ℕ → Bool) (s : List ℕ) (at end : ℕ) wher
 pub ruleset leaf-test-laws = (leaf-none, leaf-bad, leaf-good, leaf-places)
 
 -- ---- the length of a payload
-module _ (k : ℕ) (good : List ℕ → Bool) (s : List ℕ) (at end : ℕ) (r : Leaf) (q : r ≡ leafAt k good s at end) (a e : ℕ) (g : r ≡ At a e)
-    (h : end ≤ length s) where
-  part-length : length (part s a e) ≡ e - a
-  part-length =
-      let o : a ≤ e = leaf-ordered k good s at end r q a e g in
-      let i : e ≤ length s = leaf-within k good s at end r q a e g h in
-      let d : length (drop a s) ≡ length s - a = length-drop a s in
-      length-take (e - a) (drop a s) ∙ omega arith
-
 module _ (k : ℕ) (s : List ℕ) (at end : ℕ) (r : Leaf) (q : r ≡ leafAt k anyBytes s at end) (a e n : ℕ) (g : r ≡ At a e)
     (h : end ≤ length s) where
   pub size-other : (e - a ≡ n → ⊥) → Not ≡ leafAt k (ofSize n) s at end
   size-other x =
-      leaf-bad k (ofSize n) s at end r q a e g false (rw (part-length k anyBytes s at end r q a e g h) (sym (ne-eqb (e - a) n x))) refl
+      let l = part-length s a e (leaf-within k anyBytes s at end r q a e g h) in
+      leaf-bad k (ofSize n) s at end r q a e g false (rw l (sym (ne-eqb (e - a) n x))) refl
 
   pub size-same : e - a ≡ n → At a e ≡ leafAt k (ofSize n) s at end
   size-same x =
-      leaf-good k (ofSize n) s at end r q a e g true (rw (part-length k anyBytes s at end r q a e g h) (sym (eq-eqb (e - a) n x))) refl
+      let l = part-length s a e (leaf-within k anyBytes s at end r q a e g h) in
+      leaf-good k (ofSize n) s at end r q a e g true (rw l (sym (eq-eqb (e - a) n x))) refl
 
 pub ruleset leaf-any-laws = (leaf-cut, leaf-other, leaf-any)
 
@@ -165,7 +159,7 @@ module _ (s : List ℕ) (a e : ℕ) (r : Leaf) (g : r ≡ At a e) (k at end : �
   size-holds n q h =
       let o : a ≤ e = leaf-ordered k (ofSize n) s at end r q a e g in
       let i : e ≤ length s = leaf-within k (ofSize n) s at end r q a e g h in
-      let l : length (part s a e) ≡ e - a = part-length k (ofSize n) s at end r q a e g h in
+      let l : length (part s a e) ≡ e - a = part-length s a e i in
       let p : length (part s a e) ≡ n = eqb-true (length (part s a e)) n (leaf-passed k (ofSize n) s a e (fieldAt s at end) (sym g ∙ q)) in
       omega arith
 

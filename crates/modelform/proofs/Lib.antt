@@ -2,4 +2,6 @@ pub mod LeafRules
 pub mod ConstantLaws
 pub mod OptionLaws
 pub mod RequestLaws
+pub mod FineConstants
+pub mod FineLaws
 pub mod Controls

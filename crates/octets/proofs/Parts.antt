@@ -1,11 +1,11 @@
--- A part of a list, byte by byte: the laws of `part` that the readers cite.
+-- A part of a list, byte by byte, and its length: the laws of `part` that the readers cite.
 -- Assumes nothing.
-use mathlib.Core.Path.{_≡_}
+use mathlib.Core.Path.{_≡_, _∙_}
 use mathlib.Core.List.{List, [], _∷_}
 use Prim.Native.Nat.{ℕ, suc, _-_, _≤_, _<_}
 use native.Mathlib.Nat.{sub-eq-zero-of-le}
 use native.Mathlib.Omega.{arith}
-use lib.ListN.{length, getD}
+use lib.ListN.{length, getD, drop, length-take, length-drop}
 use lib.Seq.{drop-cons}
 use Rattle.octets.specs.Octets.{part}
 
@@ -18,3 +18,8 @@ module _ (s : List ℕ) (a e : ℕ) where
       let l : a < length s = omega arith in
       let q : e - a ≡ suc (e - suc a) = omega arith in
       rw (drop-cons s a 0 l, q)
+
+  pub part-length : e ≤ length s → length (part s a e) ≡ e - a
+  part-length h =
+      let d : length (drop a s) ≡ length s - a = length-drop a s in
+      length-take (e - a) (drop a s) ∙ omega arith

@@ -22,8 +22,8 @@ use Rattle.sheetform.specs.Form.{malformed, beyond, judgeValue, judgeEnu
 -- a sheet's verdict, with all that it is computed by
 verdict : List ℕ → Verdict
 unfolding judgeSheet judgeFile judgeItems judgeItem judgeEnum judgeValue isExtension isField isValue goodField goodShape extensionAt
-    messageFieldAt valueAt shapeAt typePathAt hasTypePath leafAt walk fieldAt bigAt isRelOrEmpty isRelPath allIdent components split onFirst isIdent
-    isLetter isDigit allWord
+    messageFieldAt valueAt shapeAt typePathAt hasTypePath leafAt walk fieldAt bigAt isRelOrEmpty isRelPath allIdent components split
+    onFirst isIdent isLetter isDigit allWord
 verdict = judgeSheet
 
 -- a field of less than 256 bytes

@@ -33,15 +33,16 @@ level-fine : (d : ℕ) (fields : Bool) (s : List ℕ) (a e : ℕ) → judgeItems
 unfolding judgeItems itemsIn
 level-fine d fields s a e p = items-fine d fields s (walk s a e) p
 
--- ---- files: each is one, its package is a path or empty, and what it holds is fine
+-- ---- files
 record FineFiles (s : List ℕ) (w : Walk) (fs : List File) : Type 0 where
   good : goodFiles s fs ≡ true
   whole : length fs ≡ length (tagsIn w)
 
-file-inside : (s : List ℕ) (i a e : ℕ) → judgeFile s i fileTag a e ≡ Fine
+-- A file that is fine has a package, and what it holds is fine.
+pub fine-file : (s : List ℕ) (i a e : ℕ) → judgeFile s i fileTag a e ≡ Fine
     → Inside (leafAt packageTag anyBytes s a e) isRelOrEmpty s (λ m. judgeItems mostMessages false s m e)
 unfolding judgeFile
-file-inside s i a e = go (ltb i mostFiles)
+fine-file s i a e = go (ltb i mostFiles)
   where
     go : (b : Bool)
         → elim b [
@@ -62,7 +63,7 @@ file-more s i t a e w fs p h = elim (ℕ-discrete t fileTag) [
   where
     at-file : judgeFile s i fileTag a e ≡ Fine → FineFiles s (step fileTag a e w) (fileIn s fileTag a e fs)
     at-file q =
-        let x = file-inside s i a e q in
+        let x = fine-file s i a e q in
         let l = level-fine mostMessages false s (x .to) e (x .fine) in
         rw (x .named) record { good = rw (x .tested, l .good, h .good); whole = ap suc (h .whole) }
 

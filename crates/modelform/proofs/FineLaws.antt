@@ -1,0 +1,306 @@
+-- What a fine request's tree is like: every leaf is what 01 allows, and nothing is left out. The final statements stand at the end.
+-- Assumes nothing.
+use mathlib.Core.Path.{_≡_, refl, sym, ap, subst, _∙_}
+use mathlib.Core.Bool.{Bool, true, false}
+use mathlib.Core.List.{List, [], _∷_}
+use Prim.Native.Nat.{ℕ, suc, _+_, _*_, _≤_, _<_}
+use native.Mathlib.Decide.{ℕ-discrete}
+use native.Mathlib.Omega.{arith}
+use borrow.Author.Tests.{ltb-true, eqb-false, le-leb}
+use lib.Dec.{eqb, ltb}
+use lib.ListN.{length}
+use Rattle.limits.specs.Figures.{mostRequest, mostOptions, mostParts, mostConstants}
+use Rattle.octets.specs.Octets.{part}
+use Rattle.path.specs.Path.{isRelPath, isRelOrEmpty}
+use Rattle.reply.specs.declared.Refusal.the-variants.{BadRequest, BeyondLimit}
+use Rattle.reply.specs.declared.Verdict.{Verdict}
+use Rattle.reply.specs.declared.Verdict.the-variants.{Fine}
+use Rattle.reply.specs.Verdicts.{first, judged}
+use Rattle.reply.proofs.VerdictLaws.{refused-fine, first-fine-front, first-fine-rest}
+use Rattle.field.specs.declared.Field.{Field}
+use Rattle.field.specs.declared.Field.the-variants.{Whole, Cut}
+use Rattle.field.specs.declared.Leaf.the-variants.{At}
+use Rattle.field.specs.Field.{fieldAt}
+use Rattle.field.specs.Leaf.{span, text, anyBytes, onLeaf, leafAt}
+use Rattle.field.specs.Walk.{Walk, done, cut, step, walk, tagsIn}
+use Rattle.field.specs.Each.{each, eachFrom}
+use Rattle.field.proofs.FieldLaws.{field-inside}
+use Rattle.field.proofs.LeafLaws.{leaf-tested, leaf-untested, on-leaf-some}
+use Rattle.field.proofs.WalkLaws.{walk-step}
+use Rattle.model.specs.declared.constant.Pair.{Pair}
+use Rattle.model.specs.declared.constant.Paired.{Paired}
+use Rattle.model.specs.declared.constant.Paired.the-variants.{Pairs}
+use Rattle.model.specs.declared.name.Part.{Part}
+use Rattle.model.specs.declared.name.Parted.{Parted}
+use Rattle.model.specs.declared.name.Parted.the-variants.{Is, NoPart}
+use Rattle.model.specs.declared.request.Heading.{Heading}
+use Rattle.model.specs.declared.request.Headed.{Headed}
+use Rattle.model.specs.declared.request.Headed.the-variants.{Heads}
+use Rattle.model.specs.Table.{scopeTag, optionsTypeTag, optionTag, messageTag, listTag}
+use Rattle.model.specs.Constant.{pairAt}
+use Rattle.model.specs.Name.{partOf, leading, further, partsIn, afterParts}
+use Rattle.model.specs.Tree.{Label, unnamed, Constants, none, elementsIn, pairsIn, constantIn}
+use Rattle.model.specs.Request.{Option, headingOf, constantOfField, optionOf, optionIn, optionsIn, requestOf}
+use Rattle.model.proofs.PairLaws.{pair-steps}
+use Rattle.model.proofs.RequestLaws.{heading-is}
+use Rattle.modelform.specs.declared.options.Parts.{Parts}
+use Rattle.modelform.specs.declared.options.Parts.the-variants.{After, Refuses}
+use Rattle.modelform.specs.Leaves.{isConstant, goodPairName, goodPart}
+use Rattle.modelform.specs.Form.{malformed, beyond, pairsOf, judgeConstant, judgeElements, judgePairs}
+use Rattle.modelform.specs.Form.{nextPart, partsFrom, lastField, judgeLast, afterName, judgeOption, judgeOptions, judgeRequest}
+use Rattle.modelform.specs.Fine.{goodLabel, goodConstants, countOf, goodParts, goodOption, goodOptions, goodRequest}
+use Rattle.modelform.proofs.OptionLaws.{option-other}
+use Rattle.modelform.proofs.FineConstants.{Within, walk-within, FineConstant, constant-opened}
+use Rattle.modelform.proofs.FineConstants.{constant-fine, elements-fine, pairs-fine}
+
+-- ---- the parts ps of a name, n before them: they end at y, which is where the verdict says, x
+record FineParts (s : List ℕ) (n x : ℕ) (ps : List Part) (y : ℕ) : Type 0 where
+  good : goodParts s ps ≡ true
+  few : n + length ps ≤ mostParts
+  ends : x ≡ y
+
+module _ (s : List ℕ) (x : ℕ) where
+  no-parts : (n y : ℕ) → n ≤ mostParts → After y ≡ After x → FineParts s n x [] y
+  no-parts n y h p = record { good = refl; few = omega arith; ends = cc }
+
+  part-more : (n : ℕ) (p : Part) (ps : List Part) (y : ℕ) (v : Parts) → (n + 1 ≤ mostParts → v ≡ After x → FineParts s (n + 1) x ps y)
+      → (b : Bool) → ltb n mostParts ≡ b → (c : Bool) → goodPart (p .extension) (text s (p .name)) ≡ c
+      → elim b [ true ↦ elim c [ true ↦ v | false ↦ Refuses BadRequest ] | false ↦ Refuses BeyondLimit ] ≡ After x
+      → FineParts s n x (p ∷ ps) y
+  part-more n p ps y v more true l true g q =
+      let i = more (omega (arith, ltb-true n mostParts l)) q in
+      record { good = rw (g, i .good); few = omega (arith, i .few); ends = i .ends }
+  part-more n p ps y v more true l false g q = absurd (let z : _≡_ {A = ℕ} 0 1 = cc in omega arith)
+  part-more n p ps y v more false l c g q = absurd (let z : _≡_ {A = ℕ} 0 1 = cc in omega arith)
+
+  part-fine : (n at : ℕ) → n ≤ mostParts → (ps : List Part) (y : ℕ) (v : Parts)
+      → (n + 1 ≤ mostParts → v ≡ After x → FineParts s (n + 1) x ps y)
+      → (r : Parted) → nextPart s n at r v ≡ After x → FineParts s n x (leading r ps) (further r at y)
+  part-fine n at h ps y v more NoPart q = no-parts n at h q
+  part-fine n at h ps y v more (Is p) q =
+      part-more n p ps y v more (ltb n mostParts) refl (goodPart (p .extension) (text s (p .name))) refl q
+
+  parts-fine : (w : Walk) (n at : ℕ) → n ≤ mostParts → partsFrom s n at w ≡ After x → FineParts s n x (partsIn w) (afterParts at w)
+  parts-fine done n at h p = no-parts n at h p
+  parts-fine cut n at h p = no-parts n at h p
+  parts-fine (step t a e w) n at h p =
+      part-fine n at h (partsIn w) (afterParts e w) (partsFrom s (n + 1) e w) (parts-fine w (n + 1) e) (partOf t a e) p
+
+-- parts that end further on are there
+parts-some : (w : Walk) (at : ℕ) → (afterParts at w ≡ at → ⊥) → 1 ≤ length (partsIn w)
+parts-some done at n = absurd (n refl)
+parts-some cut at n = absurd (n refl)
+parts-some (step t a e w) at n = go (partOf t a e) n
+  where
+    go : (r : Parted) → (further r at (afterParts e w) ≡ at → ⊥) → 1 ≤ length (leading r (partsIn w))
+    go NoPart n = absurd (n refl)
+    go (Is p) n = omega arith
+
+-- ---- one option
+module _ (s : List ℕ) (a e : ℕ) (h : e ≤ length s) where
+  last-good : (x : ℕ) → judgeLast s x e ≡ Fine → FineConstant s none (constantOfField s (fieldAt s x e))
+  unfolding judgeLast
+  last-good x = go (fieldAt s x e) refl
+    where
+      go : (f : Field) → f ≡ fieldAt s x e → lastField s e f ≡ Fine → FineConstant s none (constantOfField s f)
+      go Cut q p = absurd (refused-fine BadRequest p)
+      go (Whole t b m) q p =
+          constant-fine mostConstants s unnamed refl t b m none (omega (arith, field-inside s x e (Whole t b m) q t b m refl))
+          (first-fine-front (judgeConstant mostConstants s t b m) (judged BadRequest (eqb m e)) p)
+
+  named-good : (v : Parts) → v ≡ partsFrom s 0 a (walk s a e) → afterName s a e v ≡ Fine → goodOption s (optionOf s a e) ≡ true
+  unfolding optionOf
+  named-good (Refuses w) q p = absurd (refused-fine w p)
+  named-good (After x) q p = go (eqb x a) refl p
+    where
+      go : (b : Bool) → eqb x a ≡ b → elim b [ true ↦ malformed | false ↦ judgeLast s x e ] ≡ Fine → goodOption s (optionOf s a e) ≡ true
+      go true y p = absurd (refused-fine BadRequest p)
+      go false y p =
+          let i = parts-fine s x (walk s a e) 0 a (omega arith) (sym q) in
+          let c = subst (λ (z : ℕ). FineConstant s none (constantOfField s (fieldAt s z e))) (i .ends) (last-good x p) in
+          let n = length (partsIn (walk s a e)) in
+          rw (
+            le-leb 1 n (parts-some (walk s a e) a (λ z. eqb-false x a y (i .ends ∙ z))),
+            le-leb n mostParts (omega (arith, i .few)),
+            i .good,
+            c .whole,
+            c .good refl,
+          )
+
+  option-good : (i : ℕ) → judgeOption s i optionTag a e ≡ Fine → goodOption s (optionOf s a e) ≡ true
+  unfolding judgeOption
+  option-good i = go (ltb i mostOptions)
+    where
+      go : (b : Bool) → elim b [ true ↦ afterName s a e (partsFrom s 0 a (walk s a e)) | false ↦ beyond ] ≡ Fine
+          → goodOption s (optionOf s a e) ≡ true
+      go true p = named-good (partsFrom s 0 a (walk s a e)) refl p
+      go false p = absurd (refused-fine BeyondLimit p)
+
+-- ---- options: each field is one
+record FineOptions (s : List ℕ) (w : Walk) (os : List Option) : Type 0 where
+  good : goodOptions s os ≡ true
+  whole : length os ≡ length (tagsIn w)
+
+option-more : (s : List ℕ) (i t a e : ℕ) (w : Walk) (os : List Option) → e ≤ length s → judgeOption s i t a e ≡ Fine → FineOptions s w os
+    → FineOptions s (step t a e w) (optionIn s t a e os)
+unfolding optionIn
+option-more s i t a e w os l p h = elim (ℕ-discrete t optionTag) [
+  | yes y ↦ rw y (at-option (rw y at p))
+  | no n ↦ absurd (refused-fine BadRequest (option-other s i t a e n ∙ p))
+]
+  where
+    at-option : judgeOption s i optionTag a e ≡ Fine → FineOptions s (step optionTag a e w) (optionOf s a e ∷ os)
+    at-option q = record { good = rw (option-good s a e l i q, h .good); whole = ap suc (h .whole) }
+
+options-fine : (s : List ℕ) (n : ℕ) (w : Walk) → Within s w → eachFrom BadRequest (judgeOption s) n w ≡ Fine
+    → FineOptions s w (optionsIn s w)
+options-fine s n done i p = record { good = refl; whole = refl }
+options-fine s n cut i p = absurd (refused-fine BadRequest p)
+options-fine s n (step t a e w) i p =
+    let judge = judgeOption s in
+    let front = first-fine-front (judge n t a e) (eachFrom BadRequest judge (n + 1) w) p in
+    let rest = first-fine-rest (judge n t a e) (eachFrom BadRequest judge (n + 1) w) p in
+    option-more s n t a e w (optionsIn s w) (i .0) front (options-fine s (n + 1) w (i .1) rest)
+
+-- ---- a request: it has a heading, and what stands after it are options
+record FineRequest (s : List ℕ) : Type 0 where
+  heading : Heading
+  heads : headingOf s ≡ Heads heading
+  scope : isRelOrEmpty (text s (heading .scope)) ≡ true
+  message : isRelPath (text s (heading .message)) ≡ true
+  options : FineOptions s (walk s (heading .options) (length s)) (optionsIn s (walk s (heading .options) (length s)))
+
+module _ (s : List ℕ) where
+  typed-fine : (a types : ℕ) → leafAt scopeTag isRelOrEmpty s 0 (length s) ≡ At a types
+      → onLeaf malformed (leafAt optionsTypeTag isRelPath s types (length s)) (λ m options. judgeOptions s options (length s)) ≡ Fine
+      → FineRequest s
+  unfolding judgeOptions
+  typed-fine a types l p =
+      on-leaf-some malformed Fine (leafAt optionsTypeTag isRelPath s types (length s)) (λ m options. judgeOptions s options (length s))
+      (FineRequest s)
+      (λ q. refused-fine BadRequest (sym q))
+      (λ m options k q. record {
+        heading = record { scope = span a types; message = span m options; options = options };
+        heads =
+            sym (heading-is s (leafAt scopeTag anyBytes s 0 (length s)) refl a types
+            (leaf-untested scopeTag isRelOrEmpty s 0 (length s) a types l)
+            (leafAt optionsTypeTag anyBytes s types (length s)) refl m options
+            (leaf-untested optionsTypeTag isRelPath s types (length s) m options k));
+        scope = leaf-tested scopeTag isRelOrEmpty s 0 (length s) a types l;
+        message = leaf-tested optionsTypeTag isRelPath s types (length s) m options k;
+        options = options-fine s 0 (walk s options (length s)) (walk-within s (length s) (omega arith) options) (sym q);
+      })
+      (sym p)
+
+  request-fine : judgeRequest s ≡ Fine → FineRequest s
+  unfolding judgeRequest
+  request-fine = go (ltb mostRequest (length s))
+    where
+      typed : ℕ → ℕ → Verdict
+      typed a types = onLeaf malformed (leafAt optionsTypeTag isRelPath s types (length s)) (λ m options. judgeOptions s options (length s))
+
+      go : (b : Bool) → elim b [ true ↦ beyond | false ↦ onLeaf malformed (leafAt scopeTag isRelOrEmpty s 0 (length s)) typed ] ≡ Fine
+          → FineRequest s
+      go true p = absurd (refused-fine BeyondLimit p)
+      go false p =
+          on-leaf-some malformed Fine (leafAt scopeTag isRelOrEmpty s 0 (length s)) typed (FineRequest s)
+          (λ q. refused-fine BadRequest (sym q))
+          (λ a types l q. typed-fine a types l (sym q))
+          (sym p)
+
+-- a heading r, and an option of the tree for every field after it
+pub record Wholly (s : List ℕ) (r : Headed) : Type 0 where
+  pub heading : Heading
+  pub heads : r ≡ Heads heading
+  pub whole : length (requestOf s .options) ≡ length (tagsIn (walk s (heading .options) (length s)))
+
+-- ==== the statements
+-- Scope, options type, every part and every name and identifier among the constants of a fine request's tree are what 01 allows, and
+-- every option has 1 to 16 parts and one constant.
+pub fine-good : (s : List ℕ) → judgeRequest s ≡ Fine → goodRequest s (requestOf s) ≡ true
+unfolding requestOf
+fine-good s p =
+    let f = request-fine s p in
+    rw (f .heads, f .scope, f .message, f .options .good)
+
+-- A fine request has a heading, and every field after it is an option of the tree.
+pub fine-options : (s : List ℕ) → judgeRequest s ≡ Fine → (r : Headed) → r ≡ headingOf s → Wholly s r
+unfolding requestOf
+fine-options s p r q =
+    let f = request-fine s p in
+    record { heading = f .heading; heads = q ∙ f .heads; whole = rw (f .heads) (f .options .whole) }
+
+module _ (d : ℕ) (s : List ℕ) (l : Label) (n : goodLabel s l ≡ true) (t a e : ℕ) (rest : Constants) (h : e ≤ length s)
+    (p : judgeConstant d s t a e ≡ Fine) where
+  -- A fine constant is one constant of the tree, in front of what follows it.
+  pub fine-constant : countOf (constantIn d s l t a e rest) ≡ 1 + countOf rest
+  fine-constant = constant-fine d s l n t a e rest h p .whole
+
+  -- Every name and identifier in a fine constant is what 01 allows, at every depth.
+  pub fine-good-constant : goodConstants s rest ≡ true → goodConstants s (constantIn d s l t a e rest) ≡ true
+  fine-good-constant = constant-fine d s l n t a e rest h p .good
+
+module _ (d : ℕ) (s : List ℕ) (a e : ℕ) (h : e ≤ length s) where
+  -- Every field of a fine list is an element of it in the tree.
+  pub fine-elements : judgeElements d s a e ≡ Fine → countOf (elementsIn (constantIn d s) (walk s a e)) ≡ length (tagsIn (walk s a e))
+  unfolding judgeElements
+  fine-elements p = elements-fine d s (walk s a e) (walk-within s e h a) p .whole
+
+  -- Every name and identifier in a fine list is what 01 allows, at every depth.
+  pub fine-good-elements : judgeElements d s a e ≡ Fine → goodConstants s (elementsIn (constantIn d s) (walk s a e)) ≡ true
+  unfolding judgeElements
+  fine-good-elements p = elements-fine d s (walk s a e) (walk-within s e h a) p .good
+
+  -- Every two fields of a fine message are a pair of it in the tree.
+  pub fine-pairs : judgePairs d s a e ≡ Fine → 2 * countOf (pairsIn (constantIn d s) (walk s a e)) ≡ length (tagsIn (walk s a e))
+  unfolding judgePairs
+  fine-pairs p = pairs-fine d s (walk s a e) (walk-within s e h a) p .whole
+
+  -- Every name and identifier in a fine message is what 01 allows, at every depth.
+  pub fine-good-pairs : judgePairs d s a e ≡ Fine → goodConstants s (pairsIn (constantIn d s) (walk s a e)) ≡ true
+  unfolding judgePairs
+  fine-good-pairs p = pairs-fine d s (walk s a e) (walk-within s e h a) p .good
+
+module _ (d : ℕ) (s : List ℕ) (a e : ℕ) where
+  -- What a fine message holds is fine, with one level less: so the above holds of it too.
+  pub fine-in-message : judgeConstant (suc d) s messageTag a e ≡ Fine → judgePairs d s a e ≡ Fine
+  unfolding judgePairs
+  fine-in-message p = constant-opened (isConstant messageTag) (judgePairs d s a e) p
+
+  -- So it is of what a fine list holds.
+  pub fine-in-list : judgeConstant (suc d) s listTag a e ≡ Fine → judgeElements d s a e ≡ Fine
+  unfolding judgeElements
+  fine-in-list p = constant-opened (isConstant listTag) (judgeElements d s a e) p
+
+module _ (d : ℕ) (s : List ℕ) (i to : ℕ) (p : judgeElements d s i to ≡ Fine) (h : i < to)
+    (r : Field) (q : r ≡ fieldAt s i to) (t a e : ℕ) (g : r ≡ Whole t a e) where
+  element-opened : first (judgeConstant d s t a e) (judgeElements d s e to) ≡ Fine
+  unfolding judgeElements
+  element-opened = ap (each BadRequest (judgeConstant d s)) (sym (walk-step s i to h r q t a e g)) ∙ p
+
+  -- Where a fine list has a field, that is a fine constant: so on to every depth.
+  pub fine-element : judgeConstant d s t a e ≡ Fine
+  fine-element = first-fine-front (judgeConstant d s t a e) (judgeElements d s e to) element-opened
+
+  -- What follows an element of a fine list is fine.
+  pub fine-element-next : judgeElements d s e to ≡ Fine
+  fine-element-next = first-fine-rest (judgeConstant d s t a e) (judgeElements d s e to) element-opened
+
+module _ (d : ℕ) (s : List ℕ) (i to : ℕ) (p : judgePairs d s i to ≡ Fine)
+    (r : Paired) (q : r ≡ pairAt s i to) (x : Pair) (g : r ≡ Pairs x) where
+  pair-opened : first (judgeConstant d s (x .tag) (x .constant .from) (x .constant .to)) (judgePairs d s (x .constant .to) to) ≡ Fine
+  unfolding judgePairs
+  pair-opened =
+      first-fine-rest (judged BadRequest (goodPairName (x .by) (part s (x .name .from) (x .name .to))))
+      (first (judgeConstant d s (x .tag) (x .constant .from) (x .constant .to)) (judgePairs d s (x .constant .to) to))
+      (ap (pairsOf (judgeConstant d s) s) (sym (pair-steps s i to r q x g)) ∙ p)
+
+  -- Where a fine message has a pair, its constant is fine.
+  pub fine-pair : judgeConstant d s (x .tag) (x .constant .from) (x .constant .to) ≡ Fine
+  fine-pair =
+      first-fine-front (judgeConstant d s (x .tag) (x .constant .from) (x .constant .to)) (judgePairs d s (x .constant .to) to) pair-opened
+
+  -- What follows a pair of a fine message is fine.
+  pub fine-pair-next : judgePairs d s (x .constant .to) to ≡ Fine
+  fine-pair-next =
+      first-fine-rest (judgeConstant d s (x .tag) (x .constant .from) (x .constant .to)) (judgePairs d s (x .constant .to) to) pair-opened
