@@ -1,5 +1,5 @@
 // The fields that a program is given. Where the input is not what the program names, one line that begins `input: ` says what is
-// wrong and where, and nothing else is printed.
+// wrong and where, and nothing after that place is answered.
 ghost use mathlib.Core.Path.{_≡_};
 ghost use Prim.Native.Nat.{_-_, _%_, _≤_};
 ghost use lib.Dec.{eqb};

@@ -60,6 +60,3 @@ module _ (s : List ℕ) (at end : ℕ) (r : Field) (q : r ≡ fieldAt s at end) 
 
   pub field-inside : e ≤ end
   field-inside = field-bounds .inside
-
-  pub field-after : at ≤ a
-  field-after = omega (arith, field-bounds .starts)

@@ -62,8 +62,6 @@ module _ (k : ℕ) (good : List ℕ → Bool) (s : List ℕ) (at end : ℕ) (r :
   pub leaf-within : end ≤ length s → e ≤ length s
   leaf-within h = omega (arith, leaf-bounds .inside)
 
-pub ruleset leaf-places = (leaf-ordered, leaf-inside, leaf-within)
-
 -- ---- from a leaf with any payload to one that passes a test
 module _ (k : ℕ) (good : List ℕ → Bool) (s : List ℕ) (at end : ℕ) where
   any-other : (f : Field) → Not ≡ leafOf k anyBytes s f → Not ≡ leafOf k good s f
@@ -101,8 +99,6 @@ module _ (k : ℕ) (good : List ℕ → Bool) (s : List ℕ) (at end : ℕ) wher
 
       pub leaf-good : b ≡ true → At a e ≡ leafAt k good s at end
       leaf-good y = rw (leaf-open, y)
-
-pub ruleset leaf-test-laws = (leaf-none, leaf-bad, leaf-good, leaf-places)
 
 -- ---- the length of a payload
 module _ (k : ℕ) (s : List ℕ) (at end : ℕ) (r : Leaf) (q : r ≡ leafAt k anyBytes s at end) (a e n : ℕ) (g : r ≡ At a e)

@@ -2,12 +2,13 @@
 --
 --                 span a e ==  the span from the place a up to the place e
 --                 text s p ==  the bytes of a span
---                 Lies p s <-> the span is one of s: it starts before it ends, and ends before s does
+--                 Lies p s <-> the span is one of s: it ends no earlier than it starts, and no later than s does
 --              anyBytes bs <=> nothing is asked of the bytes
 --              ofSize n bs <=> there are n bytes
 --               onlyIf b l ==  the leaf l where b holds
---       onLeaf none l some ==  `some` of a leaf's two places, `none` where there is no leaf
+--        leafOf k good s f ==  the payload of the field f, where that is whole, has the tag k and passes the test
 --   leafAt k good s at end ==  the payload of the field at a place, where that is whole, has the tag k and passes the test
+--       onLeaf none l some ==  `some` of a leaf's two places, `none` where there is no leaf
 --
 -- Assumes nothing.
 use mathlib.Core.Bool.{Bool, true, false, _&&_}

@@ -1,8 +1,10 @@
 -- The fields between two places, in order: the only fuel of the readers of sheets and requests.
 --
---            Walk ==  each field with its tag and the places of its payload; `cut` where what is left is no whole field
---   walk s at end ==  the fields of s from the place `at` up to the place `end`
---        tagsIn w ==  the tags of the fields, in order
+--                 Walk == each field with its tag and the places of its payload; `cut` where what is left is no whole field
+--        follow f next == the field f, and what stands after it
+--   walkFor n s at end == the fields, n at most
+--        walk s at end == the fields of s from the place `at` up to the place `end`
+--             tagsIn w == the tags of the fields, in order
 --
 -- Assumes nothing.
 use mathlib.Core.Bool.{true, false}

@@ -28,7 +28,7 @@ p1 :
     requestOf (heading ++ option)
     ≡ record {
       scope = span 3 4;
-      message = span 7 10;
+      optionsType = span 7 10;
       options = record { parts = partWith true 16 17 ∷ []; constant = scalar unnamed (Integer false 7) none } ∷ [];
     }
 unfolding requestOf headingOf leafAt fieldAt bigAt walk optionIn optionOf partOf constantOf numberOf
@@ -39,7 +39,7 @@ unfolding fieldAt bigAt walk partOf
 p1-after = refl
 
 -- no options
-bare : requestOf heading ≡ record { scope = span 3 4; message = span 7 10; options = [] }
+bare : requestOf heading ≡ record { scope = span 3 4; optionsType = span 7 10; options = [] }
 unfolding requestOf headingOf leafAt fieldAt bigAt walk
 bare = refl
 
@@ -49,7 +49,7 @@ unfolding headingOf leafAt fieldAt bigAt
 headless = refl
 
 -- nothing is read of a request with no heading
-unread : requestOf (0x18 ∷ 0 ∷ 1 ∷ 0x70 ∷ option) ≡ record { scope = span 0 0; message = span 0 0; options = [] }
+unread : requestOf (0x18 ∷ 0 ∷ 1 ∷ 0x70 ∷ option) ≡ record { scope = span 0 0; optionsType = span 0 0; options = [] }
 unfolding requestOf headingOf leafAt fieldAt bigAt
 unread = refl
 

@@ -37,7 +37,7 @@ use Rattle.model.proofs.PartLaws.{part-bounds, part-less, rest-no-part,
 
 -- ---- the heading
 abbrev heading : ℕ → ℕ → ℕ → ℕ → Heading
-heading a b m e = record { scope = span a b; message = span m e; options = e }
+heading a b m e = record { scope = span a b; «options_type» = span m e; options = e }
 
 abbrev heads : ℕ → ℕ → ℕ → ℕ → Headed
 heads a b m e = Heads (heading a b m e)
@@ -63,8 +63,8 @@ pub ruleset heading-laws = (heading-unscoped, heading-untyped, heading-is, leaf-
 -- ---- where a heading lies
 pub record HeadingPlaces (s : List ℕ) (h : Heading) : Type 0 where
   pub scope : Bounds 0 (length s) (h .scope .from) (h .scope .to)
-  pub message : Bounds (h .scope .to) (length s) (h .message .from) (h .message .to)
-  pub options : h .options ≡ h .message .to
+  pub optionsType : Bounds (h .scope .to) (length s) (h .«options_type» .from) (h .«options_type» .to)
+  pub options : h .options ≡ h .«options_type» .to
 
 module _ (s : List ℕ) (h : Heading) where
   typed : (a b : ℕ) → Bounds 0 (length s) a b → (l : Leaf) → l ≡ leafAt optionsTypeTag anyBytes s b (length s)
@@ -72,7 +72,7 @@ module _ (s : List ℕ) (h : Heading) where
   typed a b k Not q g = absurd (let z : _≡_ {A = ℕ} 0 1 = cc in omega arith)
   typed a b k (At m e) q g =
       let x : h ≡ heading a b m e = cc in
-      rw x (record { scope = k; message = leaf-bounds optionsTypeTag anyBytes s b (length s) (At m e) q m e refl; options = refl })
+      rw x (record { scope = k; optionsType = leaf-bounds optionsTypeTag anyBytes s b (length s) (At m e) q m e refl; options = refl })
 
   scoped : (l : Leaf) → l ≡ leafAt scopeTag anyBytes s 0 (length s)
       → Heads h ≡ onLeaf NoHeading l (λ a b. onLeaf NoHeading (leafAt optionsTypeTag anyBytes s b (length s)) (heads a b))
@@ -92,16 +92,16 @@ module _ (s : List ℕ) (r : Headed) (q : r ≡ headingOf s) (h : Heading) (g : 
   pub scope-inside : h .scope .to ≤ length s
   scope-inside = heading-places .scope .inside
 
-  pub message-ordered : h .message .from ≤ h .message .to
-  message-ordered = heading-places .message .ordered
+  pub options-type-ordered : h .«options_type» .from ≤ h .«options_type» .to
+  options-type-ordered = heading-places .optionsType .ordered
 
-  pub message-inside : h .message .to ≤ length s
-  message-inside = heading-places .message .inside
+  pub options-type-inside : h .«options_type» .to ≤ length s
+  options-type-inside = heading-places .optionsType .inside
 
   pub options-inside : h .options ≤ length s
-  options-inside = rw (heading-places .options) message-inside
+  options-inside = rw (heading-places .options) options-type-inside
 
-pub ruleset heading-spans = (scope-ordered, scope-inside, message-ordered, message-inside, options-inside)
+pub ruleset heading-spans = (scope-ordered, scope-inside, options-type-ordered, options-type-inside, options-inside)
 
 -- ---- the loop of `after_parts`
 module _ (v : ℕ) (s : List ℕ) (to at : ℕ) (k : Rest v (afterParts at) s to at) where

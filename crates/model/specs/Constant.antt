@@ -3,9 +3,12 @@
 --           signedOf b ==  the integer that 64 bits are in two's complement
 --            floatOf b ==  the double that 64 bits are, a NaN by its bits
 --         boolOf s a e ==  the bool whose payload is from a to e
+--       numberWith t b ==  the number of the tag t that 64 bits are
 --     numberOf s t a e ==  the number of the tag t whose payload is from a to e
 --   constantOf s t a e ==  the constant of the tag t whose payload is from a to e
 --         isPairName t <=> t is the tag of a pair's name
+--     pairWith t a e f ==  the pair of a name of the tag t from a to e and the constant's field f
+--     pairFrom s end f ==  the pair that begins with the field f
 --        pairAt s at e ==  the pair at a place
 --
 -- Assumes nothing.

@@ -1,9 +1,13 @@
 -- The parts of an option's name, from 01's table: "one or more of 1A direct part, 1B extension part".
 --
---       partOf t a e == the part that a field is
---      partAt s at e == the part at a place
---          partsIn w == the parts that the fields w begin with
---    afterParts at w == where these parts end, the fields w starting at the place `at`
+--      partWith x a e == a part whose name is from a to e, an extension part where x holds
+--        partOf t a e == the part that a field of the tag t is
+--       partOfField f == the part that the field f is
+--       partAt s at e == the part at a place
+--      leading p rest == the parts that begin with p, where that is one
+--           partsIn w == the parts that the fields w begin with
+--   further p at rest == the place `rest` where p is a part, else `at`
+--     afterParts at w == where these parts end, the fields w starting at the place `at`
 --
 -- Assumes nothing.
 use mathlib.Core.Bool.{Bool, true, false}

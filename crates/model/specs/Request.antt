@@ -3,9 +3,11 @@
 --                  Option == the parts of a name, and a constant
 --                 Request == the scope, the path of the options type, and the options
 --             headingOf s == scope and options type as they are written, and where the options start
+--     constantOfField s f == the constant that the field f is
 --          optionOf s a e == the option whose payload is from a to e
 --   optionIn s t a e rest == the option that a field is, and what follows it
 --           optionsIn s w == the options among the fields w
+--         requestWith s h == the request of a heading, and of none
 --             requestOf s == the request
 --              partsOf os == how many parts the names of the options have, all together
 --
@@ -35,7 +37,7 @@ pub record Option : Type 0 where
 
 pub record Request : Type 0 where
   pub scope : Span
-  pub message : Span
+  pub optionsType : Span
   pub options : List Option
 
 -- "18 scope, 19 options type path, then 08 options"
@@ -43,7 +45,7 @@ unfoldable pub headingOf : List ℕ → Headed
 headingOf s =
     onLeaf NoHeading (leafAt scopeTag anyBytes s 0 (length s)) λ a types.
     onLeaf NoHeading (leafAt optionsTypeTag anyBytes s types (length s)) λ m options.
-    Heads (record { scope = span a types; message = span m options; options = options })
+    Heads (record { scope = span a types; «options_type» = span m options; options = options })
 
 -- "one or more of 1A direct part, 1B extension part; one constant"
 abbrev pub constantOfField : List ℕ → Field → Constants
@@ -63,8 +65,8 @@ optionsIn s cut = []
 optionsIn s (step t a e w) = optionIn s t a e (optionsIn s w)
 
 abbrev pub requestWith : List ℕ → Headed → Request
-requestWith s NoHeading = record { scope = span 0 0; message = span 0 0; options = [] }
-requestWith s (Heads h) = record { scope = h .scope; message = h .message; options = optionsIn s (walk s (h .options) (length s)) }
+requestWith s NoHeading = record { scope = span 0 0; optionsType = span 0 0; options = [] }
+requestWith s (Heads h) = record { scope = h .scope; optionsType = h .«options_type»; options = optionsIn s (walk s (h .options) (length s)) }
 
 unfoldable pub requestOf : List ℕ → Request
 requestOf s = requestWith s (headingOf s)

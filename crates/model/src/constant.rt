@@ -8,7 +8,7 @@ use field::Field;
 use field::Span;
 use field::field_at;
 
-// A constant of any of the eight kinds. A NaN is none of f64's values here, since it keeps its bits.
+// A constant. 21 and 22 are both integers, a sign and a size. A NaN stands apart from the floats, since an f64 does not keep its bits.
 pub enum Constant {
     Bool(bool),
     Integer { minus: bool, size: u64 },
@@ -20,6 +20,7 @@ pub enum Constant {
     List(Span),
 }
 
+// What a reader of constants answers.
 pub enum Held {
     Holds(Constant),
     NoConstant,
@@ -123,6 +124,7 @@ pub struct Pair {
     pub constant: Span,
 }
 
+// What a reader of pairs answers.
 pub enum Paired {
     Pairs(Pair),
     NoPair,

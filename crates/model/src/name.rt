@@ -14,6 +14,7 @@ pub struct Part {
     pub name: Span,
 }
 
+// What a reader of parts answers.
 pub enum Parted {
     Is(Part),
     NoPart,

@@ -17,10 +17,11 @@ use field::leaf_at;
 pub struct Heading {
     pub scope: Span,
     // The path of the options type.
-    pub message: Span,
+    pub options_type: Span,
     pub options: usize,
 }
 
+// What the reader of headings answers.
 pub enum Headed {
     Heads(Heading),
     NoHeading,
@@ -43,7 +44,7 @@ pub fn heading_of(s: &[u8]) -> Headed
     };
     Headed::Heads(Heading {
         scope: Span { from: a, to: types },
-        message: Span {
+        options_type: Span {
             from: m,
             to: options,
         },

@@ -33,11 +33,11 @@ use Rattle.model.specs.declared.constant.Held.the-variants.{Holds}
 use Rattle.model.specs.Table.{boolTag, unsignedTag, signedTag, floatTag, stringTag, identTag, messageTag, listTag}
 use Rattle.model.specs.Table.{pairFieldTag, pairExtensionTag, pairUrlTag}
 use Rattle.model.specs.Constant.{signedOf, floatOf, isPairName, constantOf}
-use Rattle.model.specs.Tree.{Label, unnamed, Constants, none, scalar, Reader, labelOf, elementsIn, pairsIn, grown, ifHeld, constantIn}
+use Rattle.model.specs.Tree.{PairName, unnamed, Constants, none, scalar, Reader, pairNameOf, elementsIn, pairsIn, grown, ifHeld, constantIn}
 use Rattle.model.proofs.ConstantLaws.{bool-is, number-unsigned, number-signed, number-float}
 use Rattle.modelform.specs.Leaves.{isConstant, isBool, goodScalar, goodPairName}
 use Rattle.modelform.specs.Form.{malformed, beyond, pairsOf, constantWith, judgeConstant}
-use Rattle.modelform.specs.Fine.{goodLabel, goodValue, goodConstants, countOf}
+use Rattle.modelform.specs.Fine.{goodName, goodValue, goodConstants, countOf}
 use Rattle.modelform.proofs.LeafRules.{scalar-other, pair-name-other}
 
 -- ---- the payloads of fields that lie inside the bytes
@@ -67,7 +67,7 @@ module _ (s : List ℕ) (end : ℕ) (h : end ≤ length s) where
 -- ---- a value that is no message and no list, and is good
 record Plain (s : List ℕ) (c : Constant) : Type 0 where
   good : goodValue s c ≡ true
-  alone : (inner : Reader) (l : Label) (rest : Constants) → grown inner s l rest c ≡ scalar l c rest
+  alone : (inner : Reader) (l : PairName) (rest : Constants) → grown inner s l rest c ≡ scalar l c rest
 
 record PlainAt (s : List ℕ) (r : Held) : Type 0 where
   value : Constant
@@ -182,7 +182,7 @@ pub record FineConstant (s : List ℕ) (rest c : Constants) : Type 0 where
   pub good : goodConstants s rest ≡ true → goodConstants s c ≡ true
   pub whole : countOf c ≡ 1 + countOf rest
 
-module _ (s : List ℕ) (l : Label) (named : goodLabel s l ≡ true) (rest : Constants) (inner : Reader) where
+module _ (s : List ℕ) (l : PairName) (named : goodName s l ≡ true) (rest : Constants) (inner : Reader) where
   plain-fine : (r : Held) → PlainAt s r → FineConstant s rest (ifHeld inner s l rest r)
   plain-fine r x =
       rw (x .held, x .plain .alone inner l rest) record { good = λ h. rw (named, x .plain .good, h); whole = refl }
@@ -197,7 +197,7 @@ pub record FinePairs (s : List ℕ) (w : Walk) (c : Constants) : Type 0 where
   pub whole : 2 * countOf c ≡ length (tagsIn w)
 
 abbrev pub FineAt : ℕ → List ℕ → Type 0
-FineAt d s = (l : Label) → goodLabel s l ≡ true → (t a e : ℕ) (rest : Constants) → e ≤ length s → judgeConstant d s t a e ≡ Fine
+FineAt d s = (l : PairName) → goodName s l ≡ true → (t a e : ℕ) (rest : Constants) → e ≤ length s → judgeConstant d s t a e ≡ Fine
     → FineConstant s rest (constantIn d s l t a e rest)
 
 -- a tag is one of the three of a pair's name, or another
@@ -213,7 +213,7 @@ by-name t P f x u o = elim (ℕ-discrete t pairFieldTag) [
 
 record Named (s : List ℕ) (t a e : ℕ) : Type 0 where
   is : isPairName t ≡ true
-  good : goodLabel s (labelOf t (span a e)) ≡ true
+  good : goodName s (pairNameOf t (span a e)) ≡ true
 
 pair-named : (s : List ℕ) (t a e : ℕ) → goodPairName t (part s a e) ≡ true → Named s t a e
 unfolding goodPairName isPairName
@@ -225,11 +225,11 @@ pair-named s t a e =
     (λ f x u p. absurd (false≢true (pair-name-other t (part s a e) f x u ∙ p)))
 
 pair-first : (inner : Reader) (t a e k b f : ℕ) (w : Walk) → isPairName t ≡ true
-    → pairsIn inner (step t a e (step k b f w)) ≡ inner (labelOf t (span a e)) k b f (pairsIn inner w)
+    → pairsIn inner (step t a e (step k b f w)) ≡ inner (pairNameOf t (span a e)) k b f (pairsIn inner w)
 pair-first inner t a e k b f w = go (isPairName t)
   where
     first-pair : Constants
-    first-pair = inner (labelOf t (span a e)) k b f (pairsIn inner w)
+    first-pair = inner (pairNameOf t (span a e)) k b f (pairsIn inner w)
 
     go : (x : Bool) → x ≡ true → elim x [ true ↦ first-pair | false ↦ none ] ≡ first-pair
     go true y = refl
@@ -259,12 +259,12 @@ module _ (d : ℕ) (s : List ℕ) (fine : FineAt d s) where
       let p′ = first-fine-rest name after p in
       let front = first-fine-front (judge k b f) (pairsOf judge s w) p′ in
       let rest = pairs-with w (i .1 .1) (first-fine-rest (judge k b f) (pairsOf judge s w) p′) in
-      let here = fine (labelOf t (span a e)) (n .good) k b f (pairsIn (constantIn d s) w) (i .1 .0) front in
+      let here = fine (pairNameOf t (span a e)) (n .good) k b f (pairsIn (constantIn d s) w) (i .1 .0) front in
       rw (pair-first (constantIn d s) t a e k b f w (n .is))
       record { good = here .good (rest .good); whole = omega (arith, here .whole, rest .whole) }
 
 -- ---- constants, with d levels left
-module _ (d : ℕ) (s : List ℕ) (fine : FineAt d s) (l : Label) (named : goodLabel s l ≡ true) (a e : ℕ) (rest : Constants)
+module _ (d : ℕ) (s : List ℕ) (fine : FineAt d s) (l : PairName) (named : goodName s l ≡ true) (a e : ℕ) (rest : Constants)
     (h : e ≤ length s) where
   constant-with : (t : ℕ) → constantWith (judgeConstant d s) s t a e ≡ Fine → FineConstant s rest (constantIn (suc d) s l t a e rest)
   unfolding constantOf

@@ -6,7 +6,7 @@ use mathlib.Core.List.{List, [], _∷_}
 use Prim.Native.Nat.{ℕ, suc, _+_, _*_, _≤_, _<_}
 use native.Mathlib.Decide.{ℕ-discrete}
 use native.Mathlib.Omega.{arith}
-use borrow.Author.Tests.{ltb-true, eqb-false, le-leb}
+use borrow.Author.Tests.{ltb-true, eqb-true, eqb-false, le-leb}
 use lib.Dec.{eqb, ltb}
 use lib.ListN.{length}
 use Rattle.limits.specs.Figures.{mostRequest, mostOptions, mostParts, mostConstants}
@@ -16,7 +16,7 @@ use Rattle.reply.specs.declared.Refusal.the-variants.{BadRequest, BeyondLimit}
 use Rattle.reply.specs.declared.Verdict.{Verdict}
 use Rattle.reply.specs.declared.Verdict.the-variants.{Fine}
 use Rattle.reply.specs.Verdicts.{first, judged}
-use Rattle.reply.proofs.VerdictLaws.{refused-fine, first-fine-front, first-fine-rest}
+use Rattle.reply.proofs.VerdictLaws.{refused-fine, first-fine-front, first-fine-rest, judged-fine}
 use Rattle.field.specs.declared.Field.{Field}
 use Rattle.field.specs.declared.Field.the-variants.{Whole, Cut}
 use Rattle.field.specs.declared.Leaf.the-variants.{At}
@@ -24,7 +24,6 @@ use Rattle.field.specs.Field.{fieldAt}
 use Rattle.field.specs.Leaf.{span, text, anyBytes, onLeaf, leafAt}
 use Rattle.field.specs.Walk.{Walk, done, cut, step, walk, tagsIn}
 use Rattle.field.specs.Each.{each, eachFrom}
-use Rattle.field.proofs.FieldLaws.{field-inside}
 use Rattle.field.proofs.LeafLaws.{leaf-tested, leaf-untested, on-leaf-some}
 use Rattle.field.proofs.WalkLaws.{walk-step}
 use Rattle.model.specs.declared.constant.Pair.{Pair}
@@ -39,7 +38,7 @@ use Rattle.model.specs.declared.request.Headed.the-variants.{Heads}
 use Rattle.model.specs.Table.{scopeTag, optionsTypeTag, optionTag, messageTag, listTag}
 use Rattle.model.specs.Constant.{pairAt}
 use Rattle.model.specs.Name.{partOf, leading, further, partsIn, afterParts}
-use Rattle.model.specs.Tree.{Label, unnamed, Constants, none, elementsIn, pairsIn, constantIn}
+use Rattle.model.specs.Tree.{PairName, unnamed, Constants, none, elementsIn, pairsIn, constantIn}
 use Rattle.model.specs.Request.{Option, headingOf, constantOfField, optionOf, optionIn, optionsIn, requestOf}
 use Rattle.model.proofs.PairLaws.{pair-steps}
 use Rattle.model.proofs.RequestLaws.{heading-is}
@@ -48,7 +47,7 @@ use Rattle.modelform.specs.declared.options.Parts.the-variants.{After, R
 use Rattle.modelform.specs.Leaves.{isConstant, goodPairName, goodPart}
 use Rattle.modelform.specs.Form.{malformed, beyond, pairsOf, judgeConstant, judgeElements, judgePairs}
 use Rattle.modelform.specs.Form.{nextPart, partsFrom, lastField, judgeLast, afterName, judgeOption, judgeOptions, judgeRequest}
-use Rattle.modelform.specs.Fine.{goodLabel, goodConstants, countOf, goodParts, goodOption, goodOptions, goodRequest}
+use Rattle.modelform.specs.Fine.{goodName, goodConstants, countOf, goodParts, goodOption, goodOptions, goodRequest}
 use Rattle.modelform.proofs.OptionLaws.{option-other}
 use Rattle.modelform.proofs.FineConstants.{Within, walk-within, FineConstant, constant-opened}
 use Rattle.modelform.proofs.FineConstants.{constant-fine, elements-fine, pairs-fine}
@@ -96,45 +95,87 @@ parts-some (step t a e w) at n = go (partOf t a e) n
     go NoPart n = absurd (n refl)
     go (Is p) n = omega arith
 
--- ---- one option
-module _ (s : List ℕ) (a e : ℕ) (h : e ≤ length s) where
-  last-good : (x : ℕ) → judgeLast s x e ≡ Fine → FineConstant s none (constantOfField s (fieldAt s x e))
-  unfolding judgeLast
-  last-good x = go (fieldAt s x e) refl
-    where
-      go : (f : Field) → f ≡ fieldAt s x e → lastField s e f ≡ Fine → FineConstant s none (constantOfField s f)
-      go Cut q p = absurd (refused-fine BadRequest p)
-      go (Whole t b m) q p =
-          constant-fine mostConstants s unnamed refl t b m none (omega (arith, field-inside s x e (Whole t b m) q t b m refl))
-          (first-fine-front (judgeConstant mostConstants s t b m) (judged BadRequest (eqb m e)) p)
+-- ---- one option: parts that end at a place, and a constant from there to the end
+record Named (s : List ℕ) (a e : ℕ) : Type 0 where
+  place : ℕ
+  parts : FineParts s 0 place (partsIn (walk s a e)) (afterParts a (walk s a e))
+  some : place ≡ a → ⊥
+  last : judgeLast s place e ≡ Fine
 
-  named-good : (v : Parts) → v ≡ partsFrom s 0 a (walk s a e) → afterName s a e v ≡ Fine → goodOption s (optionOf s a e) ≡ true
-  unfolding optionOf
-  named-good (Refuses w) q p = absurd (refused-fine w p)
-  named-good (After x) q p = go (eqb x a) refl p
+-- the field at a place is a fine constant that ends at e
+pub record Last (s : List ℕ) (place e : ℕ) : Type 0 where
+  pub tag : ℕ
+  pub from : ℕ
+  pub to : ℕ
+  pub whole : fieldAt s place e ≡ Whole tag from to
+  pub fine : judgeConstant mostConstants s tag from to ≡ Fine
+  pub ends : to ≡ e
+
+option-tagged : (s : List ℕ) (i t a e : ℕ) → judgeOption s i t a e ≡ Fine → t ≡ optionTag
+option-tagged s i t a e p = elim (ℕ-discrete t optionTag) [
+  | yes y ↦ y
+  | no n ↦ absurd (refused-fine BadRequest (option-other s i t a e n ∙ p))
+]
+
+last-opened : (s : List ℕ) (x e : ℕ) → judgeLast s x e ≡ Fine → Last s x e
+unfolding judgeLast
+last-opened s x e = go (fieldAt s x e) refl
+  where
+    go : (f : Field) → fieldAt s x e ≡ f → lastField s e f ≡ Fine → Last s x e
+    go Cut q p = absurd (refused-fine BadRequest p)
+    go (Whole t b m) q p =
+        let judge = judgeConstant mostConstants s t b m in
+        let ends = judged BadRequest (eqb m e) in
+        record {
+          tag = t;
+          from = b;
+          to = m;
+          whole = q;
+          fine = first-fine-front judge ends p;
+          ends = eqb-true m e (judged-fine BadRequest (eqb m e) (first-fine-rest judge ends p));
+        }
+
+last-good : (s : List ℕ) (x e : ℕ) → e ≤ length s → Last s x e → FineConstant s none (constantOfField s (fieldAt s x e))
+last-good s x e h l =
+    rw (l .whole) (constant-fine mostConstants s unnamed refl (l .tag) (l .from) (l .to) none (omega (arith, l .ends)) (l .fine))
+
+module _ (s : List ℕ) (a e : ℕ) where
+  name-opened : (v : Parts) → v ≡ partsFrom s 0 a (walk s a e) → afterName s a e v ≡ Fine → Named s a e
+  name-opened (Refuses w) q p = absurd (refused-fine w p)
+  name-opened (After x) q p = go (eqb x a) refl p
     where
-      go : (b : Bool) → eqb x a ≡ b → elim b [ true ↦ malformed | false ↦ judgeLast s x e ] ≡ Fine → goodOption s (optionOf s a e) ≡ true
+      go : (b : Bool) → eqb x a ≡ b → elim b [ true ↦ malformed | false ↦ judgeLast s x e ] ≡ Fine → Named s a e
       go true y p = absurd (refused-fine BadRequest p)
-      go false y p =
-          let i = parts-fine s x (walk s a e) 0 a (omega arith) (sym q) in
-          let c = subst (λ (z : ℕ). FineConstant s none (constantOfField s (fieldAt s z e))) (i .ends) (last-good x p) in
-          let n = length (partsIn (walk s a e)) in
-          rw (
-            le-leb 1 n (parts-some (walk s a e) a (λ z. eqb-false x a y (i .ends ∙ z))),
-            le-leb n mostParts (omega (arith, i .few)),
-            i .good,
-            c .whole,
-            c .good refl,
-          )
+      go false y p = record {
+        place = x;
+        parts = parts-fine s x (walk s a e) 0 a (omega arith) (sym q);
+        some = eqb-false x a y;
+        last = p;
+      }
 
-  option-good : (i : ℕ) → judgeOption s i optionTag a e ≡ Fine → goodOption s (optionOf s a e) ≡ true
+  option-opened : (i : ℕ) → judgeOption s i optionTag a e ≡ Fine → Named s a e
   unfolding judgeOption
-  option-good i = go (ltb i mostOptions)
+  option-opened i = go (ltb i mostOptions)
     where
-      go : (b : Bool) → elim b [ true ↦ afterName s a e (partsFrom s 0 a (walk s a e)) | false ↦ beyond ] ≡ Fine
-          → goodOption s (optionOf s a e) ≡ true
-      go true p = named-good (partsFrom s 0 a (walk s a e)) refl p
+      go : (b : Bool) → elim b [ true ↦ afterName s a e (partsFrom s 0 a (walk s a e)) | false ↦ beyond ] ≡ Fine → Named s a e
+      go true p = name-opened (partsFrom s 0 a (walk s a e)) refl p
       go false p = absurd (refused-fine BeyondLimit p)
+
+  option-good : (i : ℕ) → e ≤ length s → judgeOption s i optionTag a e ≡ Fine → goodOption s (optionOf s a e) ≡ true
+  unfolding optionOf
+  option-good i h p =
+      let o = option-opened i p in
+      let f = o .parts in
+      let l = last-good s (o .place) e h (last-opened s (o .place) e (o .last)) in
+      let c = subst (λ (z : ℕ). FineConstant s none (constantOfField s (fieldAt s z e))) (f .ends) l in
+      let n = length (partsIn (walk s a e)) in
+      rw (
+        le-leb 1 n (parts-some (walk s a e) a (λ z. o .some (f .ends ∙ z))),
+        le-leb n mostParts (omega (arith, f .few)),
+        f .good,
+        c .whole,
+        c .good refl,
+      )
 
 -- ---- options: each field is one
 record FineOptions (s : List ℕ) (w : Walk) (os : List Option) : Type 0 where
@@ -144,13 +185,10 @@ record FineOptions (s : List ℕ) (w : Walk) (os : List Option) : Type 0 where
 option-more : (s : List ℕ) (i t a e : ℕ) (w : Walk) (os : List Option) → e ≤ length s → judgeOption s i t a e ≡ Fine → FineOptions s w os
     → FineOptions s (step t a e w) (optionIn s t a e os)
 unfolding optionIn
-option-more s i t a e w os l p h = elim (ℕ-discrete t optionTag) [
-  | yes y ↦ rw y (at-option (rw y at p))
-  | no n ↦ absurd (refused-fine BadRequest (option-other s i t a e n ∙ p))
-]
+option-more s i t a e w os l p h = let y = option-tagged s i t a e p in rw y (at-option (rw y at p))
   where
     at-option : judgeOption s i optionTag a e ≡ Fine → FineOptions s (step optionTag a e w) (optionOf s a e ∷ os)
-    at-option q = record { good = rw (option-good s a e l i q, h .good); whole = ap suc (h .whole) }
+    at-option q = record { good = rw (option-good s a e i l q, h .good); whole = ap suc (h .whole) }
 
 options-fine : (s : List ℕ) (n : ℕ) (w : Walk) → Within s w → eachFrom BadRequest (judgeOption s) n w ≡ Fine
     → FineOptions s w (optionsIn s w)
@@ -167,7 +205,8 @@ record FineRequest (s : List ℕ) : Type 0 where
   heading : Heading
   heads : headingOf s ≡ Heads heading
   scope : isRelOrEmpty (text s (heading .scope)) ≡ true
-  message : isRelPath (text s (heading .message)) ≡ true
+  optionsType : isRelPath (text s (heading .«options_type»)) ≡ true
+  fine : eachFrom BadRequest (judgeOption s) 0 (walk s (heading .options) (length s)) ≡ Fine
   options : FineOptions s (walk s (heading .options) (length s)) (optionsIn s (walk s (heading .options) (length s)))
 
 module _ (s : List ℕ) where
@@ -180,14 +219,15 @@ module _ (s : List ℕ) where
       (FineRequest s)
       (λ q. refused-fine BadRequest (sym q))
       (λ m options k q. record {
-        heading = record { scope = span a types; message = span m options; options = options };
+        heading = record { scope = span a types; «options_type» = span m options; options = options };
         heads =
             sym (heading-is s (leafAt scopeTag anyBytes s 0 (length s)) refl a types
             (leaf-untested scopeTag isRelOrEmpty s 0 (length s) a types l)
             (leafAt optionsTypeTag anyBytes s types (length s)) refl m options
             (leaf-untested optionsTypeTag isRelPath s types (length s) m options k));
         scope = leaf-tested scopeTag isRelOrEmpty s 0 (length s) a types l;
-        message = leaf-tested optionsTypeTag isRelPath s types (length s) m options k;
+        optionsType = leaf-tested optionsTypeTag isRelPath s types (length s) m options k;
+        fine = sym q;
         options = options-fine s 0 (walk s options (length s)) (walk-within s (length s) (omega arith) options) (sym q);
       })
       (sym p)
@@ -208,10 +248,11 @@ module _ (s : List ℕ) where
           (λ a types l q. typed-fine a types l (sym q))
           (sym p)
 
--- a heading r, and an option of the tree for every field after it
+-- a heading r, fine options after it, and an option of the tree for every field there
 pub record Wholly (s : List ℕ) (r : Headed) : Type 0 where
   pub heading : Heading
   pub heads : r ≡ Heads heading
+  pub fine : eachFrom BadRequest (judgeOption s) 0 (walk s (heading .options) (length s)) ≡ Fine
   pub whole : length (requestOf s .options) ≡ length (tagsIn (walk s (heading .options) (length s)))
 
 -- ==== the statements
@@ -221,16 +262,36 @@ pub fine-good : (s : List ℕ) → judgeRequest s ≡ Fine → goodRequest s (re
 unfolding requestOf
 fine-good s p =
     let f = request-fine s p in
-    rw (f .heads, f .scope, f .message, f .options .good)
+    rw (f .heads, f .scope, f .optionsType, f .options .good)
 
--- A fine request has a heading, and every field after it is an option of the tree.
+-- A fine request has a heading, and every field after it is fine and an option of the tree.
 pub fine-options : (s : List ℕ) → judgeRequest s ≡ Fine → (r : Headed) → r ≡ headingOf s → Wholly s r
 unfolding requestOf
 fine-options s p r q =
     let f = request-fine s p in
-    record { heading = f .heading; heads = q ∙ f .heads; whole = rw (f .heads) (f .options .whole) }
+    record { heading = f .heading; heads = q ∙ f .heads; fine = f .fine; whole = rw (f .heads) (f .options .whole) }
 
-module _ (d : ℕ) (s : List ℕ) (l : Label) (n : goodLabel s l ≡ true) (t a e : ℕ) (rest : Constants) (h : e ≤ length s)
+module _ (s : List ℕ) (n i to : ℕ) (p : eachFrom BadRequest (judgeOption s) n (walk s i to) ≡ Fine) (h : i < to)
+    (r : Field) (q : r ≡ fieldAt s i to) (t a e : ℕ) (g : r ≡ Whole t a e) where
+  options-opened : eachFrom BadRequest (judgeOption s) n (step t a e (walk s e to)) ≡ Fine
+  options-opened = ap (eachFrom BadRequest (judgeOption s) n) (sym (walk-step s i to h r q t a e g)) ∙ p
+
+  -- Where fine options have a field, that is a fine option: so on to every option of a request.
+  pub fine-option-at : judgeOption s n t a e ≡ Fine
+  fine-option-at = first-fine-front (judgeOption s n t a e) (eachFrom BadRequest (judgeOption s) (n + 1) (walk s e to)) options-opened
+
+  -- The options that follow it are fine.
+  pub fine-option-next : eachFrom BadRequest (judgeOption s) (n + 1) (walk s e to) ≡ Fine
+  fine-option-next = first-fine-rest (judgeOption s n t a e) (eachFrom BadRequest (judgeOption s) (n + 1) (walk s e to)) options-opened
+
+-- Where the parts of a fine option end, a fine constant stands, and it is the last: so all below holds of it.
+pub fine-option-constant : (s : List ℕ) (i t a e : ℕ) → judgeOption s i t a e ≡ Fine → (x : ℕ) → x ≡ afterParts a (walk s a e)
+    → Last s x e
+fine-option-constant s i t a e p x q =
+    let o = option-opened s a e i (rw (option-tagged s i t a e p) at p) in
+    subst (λ (z : ℕ). Last s z e) (o .parts .ends ∙ sym q) (last-opened s (o .place) e (o .last))
+
+module _ (d : ℕ) (s : List ℕ) (l : PairName) (n : goodName s l ≡ true) (t a e : ℕ) (rest : Constants) (h : e ≤ length s)
     (p : judgeConstant d s t a e ≡ Fine) where
   -- A fine constant is one constant of the tree, in front of what follows it.
   pub fine-constant : countOf (constantIn d s l t a e rest) ≡ 1 + countOf rest

@@ -1,7 +1,7 @@
 -- What the tree of a fine request is like.
 --
---       goodLabel s l <=> a pair's name is what 01 allows
---       goodValue s c <=> an identifier among the constants is one
+--        goodName s l <=> a pair's name is what 01 allows
+--       goodValue s c <=> a constant that holds no others is one, and an identifier is what 01 allows
 --   goodConstants s c <=> so it is of the constants, at every depth
 --           countOf c ==  how many constants follow one another, at the first level
 --      goodParts s ps <=> every part is what 01 allows
@@ -10,7 +10,7 @@
 --     goodRequest s q <=> scope, options type and options are what 01 allows
 --
 -- Assumes nothing.
-use mathlib.Core.Bool.{Bool, true, _&&_}
+use mathlib.Core.Bool.{Bool, true, false, _&&_}
 use mathlib.Core.List.{List, [], _∷_}
 use Prim.Native.Nat.{ℕ, _+_}
 use lib.Dec.{eqb, leb}
@@ -23,15 +23,15 @@ use Rattle.model.specs.declared.name.Part.{Part}
 use Rattle.model.specs.declared.constant.Constant.{Constant}
 use Rattle.model.specs.declared.constant.Constant.the-variants.{Bool as BoolOf, Integer, Float, NotANumber}
 use Rattle.model.specs.declared.constant.Constant.the-variants.{Text, Ident, Message, List as ListOf}
-use Rattle.model.specs.Tree.{Label, unnamed, byField, byExtension, byUrl, Constants, none, scalar, message, list}
+use Rattle.model.specs.Tree.{PairName, unnamed, byField, byExtension, byUrl, Constants, none, scalar, message, list}
 use Rattle.model.specs.Request.{Option, Request}
 use Rattle.modelform.specs.Leaves.{isUrl, goodPart}
 
-abbrev pub goodLabel : List ℕ → Label → Bool
-goodLabel s unnamed = true
-goodLabel s (byField p) = isIdent (text s p)
-goodLabel s (byExtension p) = isRelPath (text s p)
-goodLabel s (byUrl p) = isUrl (text s p)
+abbrev pub goodName : List ℕ → PairName → Bool
+goodName s unnamed = true
+goodName s (byField p) = isIdent (text s p)
+goodName s (byExtension p) = isRelPath (text s p)
+goodName s (byUrl p) = isUrl (text s p)
 
 abbrev pub goodValue : List ℕ → Constant → Bool
 goodValue s (BoolOf b) = true
@@ -40,14 +40,14 @@ goodValue s (Float x) = true
 goodValue s (NotANumber b) = true
 goodValue s (Text p) = true
 goodValue s (Ident p) = isIdent (text s p)
-goodValue s (Message p) = true
-goodValue s (ListOf p) = true
+goodValue s (Message p) = false
+goodValue s (ListOf p) = false
 
 abbrev pub goodConstants : List ℕ → Constants → Bool
 goodConstants s none = true
-goodConstants s (scalar l c r) = goodLabel s l && goodValue s c && goodConstants s r
-goodConstants s (message l i r) = goodLabel s l && goodConstants s i && goodConstants s r
-goodConstants s (list l i r) = goodLabel s l && goodConstants s i && goodConstants s r
+goodConstants s (scalar l c r) = goodName s l && goodValue s c && goodConstants s r
+goodConstants s (message l i r) = goodName s l && goodConstants s i && goodConstants s r
+goodConstants s (list l i r) = goodName s l && goodConstants s i && goodConstants s r
 
 abbrev pub countOf : Constants → ℕ
 countOf none = 0
@@ -70,4 +70,4 @@ goodOptions s [] = true
 goodOptions s (o ∷ os) = goodOption s o && goodOptions s os
 
 abbrev pub goodRequest : List ℕ → Request → Bool
-goodRequest s q = isRelOrEmpty (text s (q .scope)) && isRelPath (text s (q .message)) && goodOptions s (q .options)
+goodRequest s q = isRelOrEmpty (text s (q .scope)) && isRelPath (text s (q .optionsType)) && goodOptions s (q .options)

@@ -1,19 +1,25 @@
 -- The verdict of a request, and of a path or a name that a call is given alone: 01, Replies, "by over-length, then .. the first fault from
 -- the front (a container holds its children's faults; a limit is a fault where it is passed)".
 --
---         pairsOf inner s w == the pairs among the fields w, `inner` judging a constant
---   judgeConstant d s t a e == a constant, with d levels of constants left
---     judgeElements d s a e == the elements of a list
---        judgePairs d s a e == the pairs of a message constant
---        partsFrom s n at w == the parts that the fields w begin with, n before them: where they end, or the first fault
---          judgeLast s at e == the constant that an option ends with
---     judgeOption s i t a e == one field of a request after its heading, the i-th, counted from 0
---        judgeOptions s a e == the options of a request
---            judgeRequest s == a request
---               judgeName s == the parts of a name, alone
---              judgeScope t == a scope, alone
---        judgeOptionsType t == the path of an options type, alone
---               judgePath t == a path as an extension part has it, alone
+--            malformed, beyond == a fault of form, and a limit that is passed
+--            pairsOf inner s w == the pairs among the fields w, `inner` judging a constant
+--   constantWith inner s t a e == a constant, `inner` judging those inside it
+--      judgeConstant d s t a e == a constant, with d levels of constants left
+--        judgeElements d s a e == the elements of a list
+--           judgePairs d s a e == the pairs of a message constant
+--       nextPart s n at p rest == one part, n before it, and what is said of the rest
+--           partsFrom s n at w == the parts that the fields w begin with, n before them: where they end, or the first fault
+--              lastField s e f == the field f, as the constant that an option ends with
+--             judgeLast s at e == the constant that an option ends with
+--            afterName s a e p == an option whose parts come to p
+--        judgeOption s i t a e == one field of a request after its heading, the i-th, counted from 0
+--           judgeOptions s a e == the options of a request
+--               judgeRequest s == a request
+--                wholeName n p == a name of n bytes whose parts come to p
+--                  judgeName s == the parts of a name, alone
+--                 judgeScope t == a scope, alone
+--           judgeOptionsType t == the path of an options type, alone
+--                  judgePath t == a path as an extension part has it, alone
 --
 -- Assumes nothing.
 use mathlib.Core.Bool.{true, false, _&&_, not}
@@ -94,7 +100,7 @@ lastField s end (Whole t a e) = first (judgeConstant mostConstants s t a e) (jud
 unfoldable pub judgeLast : List ℕ → ℕ → ℕ → Verdict
 judgeLast s at end = lastField s end (fieldAt s at end)
 
--- "08 option: one or more of 1A direct part, 1B extension part; one constant"
+-- 08: "one or more of 1A direct part, 1B extension part; one constant"
 abbrev pub afterName : List ℕ → ℕ → ℕ → Parts → Verdict
 afterName s a e (Refuses w) = Refused w
 afterName s a e (After at) = elim (eqb at a) [ true ↦ malformed | false ↦ judgeLast s at e ]
@@ -109,7 +115,7 @@ judgeOption s i t a e = elim (eqb t optionTag) [
 unfoldable pub judgeOptions : List ℕ → ℕ → ℕ → Verdict
 judgeOptions s a e = eachFrom BadRequest (judgeOption s) 0 (walk s a e)
 
--- "request: 18 scope, 19 options type path, then 08 options"; "request 8,192 bytes"
+-- a request: "18 scope, 19 options type path, then 08 options"; "request 8,192 bytes"
 unfoldable pub judgeRequest : List ℕ → Verdict
 judgeRequest s = elim (ltb mostRequest (length s)) [
   | true ↦ beyond

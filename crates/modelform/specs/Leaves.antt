@@ -1,4 +1,5 @@
--- What the leaves of a request may hold, by their tags, from 01's "Sheet and request".
+-- What the leaves of a request may hold, by their tags, from 01's "Sheet and request". All of it is form (01, Replies: "all other figures
+-- are form (1 or 2)").
 --
 --        isConstant t <=> t is the tag of a constant
 --           isBool bs <=> the bytes are a bool

@@ -5,10 +5,10 @@ pub mod leaves;
 pub mod options;
 
 ghost use mathlib.Core.Path.{_≡_};
-ghost use Prim.Native.Nat.{_≤_};
-ghost use lib.ListN.{length};
-ghost use Rattle.modelform.specs.Form.{judgeRequest, judgeScope, judgeOptionsType, judgePath};
+ghost use Rattle.modelform.specs.Form.{judgeRequest, judgeScope, judgeOptionsType, judgePath, judgeName};
+use crate::options::Parts;
 use crate::options::check_options;
+use crate::options::check_parts;
 use field::Leaf;
 use limits::MOST_REQUEST;
 use model::table;
@@ -58,4 +58,14 @@ pub fn check_path(path: &[u8]) -> Verdict
     ensures { λ r. ⌜ r ≡ judgePath (now (path .entry)) ⌝ }
 {
     reply::judge(is_path(path), Refusal::BadRequest)
+}
+
+// Whether a name that a call is given alone, parts as an option has them, is fine.
+pub fn check_name(s: &[u8]) -> Verdict
+    ensures { λ r. ⌜ r ≡ judgeName (now (s .entry)) ⌝ }
+{
+    match check_parts(s, 0, s.len()) {
+        Parts::Refuses(why) => Verdict::Refused(why),
+        Parts::After(at) => reply::judge((at != 0) & (at == s.len()), Refusal::BadRequest),
+    }
 }

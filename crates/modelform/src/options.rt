@@ -3,7 +3,7 @@ ghost use mathlib.Core.Path.{_≡_};
 ghost use Prim.Native.Nat.{_≤_};
 ghost use lib.ListN.{length};
 ghost use Rattle.field.specs.Walk.{walk};
-ghost use Rattle.modelform.specs.Form.{partsFrom, judgeLast, judgeOption, judgeOptions, judgeName};
+ghost use Rattle.modelform.specs.Form.{partsFrom, judgeLast, judgeOption, judgeOptions};
 use crate::constants::check_constant;
 use crate::leaves::good_part;
 use field::Field;
@@ -24,7 +24,7 @@ pub enum Parts {
 }
 
 // The parts from a place on.
-fn check_parts(s: &[u8], from: usize, to: usize) -> Parts
+pub fn check_parts(s: &[u8], from: usize, to: usize) -> Parts
     requires { ⌜ (from ≤ to) × (to ≤ length (now s)) ⌝ }
     ensures { λ r. ⌜ r ≡ partsFrom (now (s .entry)) 0 from (walk (now (s .entry)) from to) ⌝ }
 {
@@ -107,14 +107,4 @@ pub fn check_options(s: &[u8], from: usize, end: usize) -> Verdict
         at = e;
     }
     Verdict::Fine
-}
-
-// Whether a name that a call is given alone, parts as an option has them, is fine.
-pub fn check_name(s: &[u8]) -> Verdict
-    ensures { λ r. ⌜ r ≡ judgeName (now (s .entry)) ⌝ }
-{
-    match check_parts(s, 0, s.len()) {
-        Parts::Refuses(why) => Verdict::Refused(why),
-        Parts::After(at) => reply::judge((at != 0) & (at == s.len()), Refusal::BadRequest),
-    }
 }

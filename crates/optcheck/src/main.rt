@@ -41,7 +41,7 @@ fn tell_request(request: &[u8]) {
     text(b"\n");
 }
 
-// The line of a verdict, and whether it is fine.
+// Whether a verdict is fine; a refusal is printed.
 fn told(verdict: Verdict) -> bool {
     let Verdict::Refused(why) = verdict else {
         return true;

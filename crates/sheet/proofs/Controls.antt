@@ -10,7 +10,7 @@ use Rattle.field.specs.Leaf.{span, leafAt}
 use Rattle.field.specs.Walk.{walk}
 use Rattle.sheet.specs.Table.{fileTag, messageTag, extensionTag, enumTag, fieldTag, valueTag}
 use Rattle.sheet.specs.Declaration.{hasTypePath, typePathAt, shape, shapeAt, extensionAt, messageFieldAt, valueAt}
-use Rattle.sheet.specs.Tree.{Items, none, message, extension, enumeration, field, File, valueIn, itemIn, itemsIn, fileIn, treeOf}
+use Rattle.sheet.specs.Tree.{Items, none, message, extension, enumeration, field, File, fileWith, valueIn, itemIn, itemsIn, fileIn, treeOf}
 use Rattle.sheet.specs.Count.{inSheet}
 
 tree : List ℕ → List File
@@ -35,9 +35,10 @@ abbrev p1-tree : List File
 p1-tree =
     record {
       packageName = span 6 7;
+      body = span 7 35;
       items = extension (record { name = span 13 14; extendee = span 17 20; shape = shape 5 13 1 0 0 }) none;
     }
-    ∷ record { packageName = span 41 42; items = message (span 48 49) none none }
+    ∷ record { packageName = span 41 42; body = span 42 49; items = message (span 48 49) (span 49 49) none none }
     ∷ []
 
 p1-whole : tree p1 ≡ p1-tree
@@ -70,11 +71,12 @@ inside =
 
 abbrev inside-items : Items
 inside-items =
-    message (span 19 20) none
+    message (span 19 20) (span 20 20) none
     (field (record { name = span 26 27; extendee = span 0 0; shape = shape 1 13 1 0 0 })
-    (enumeration (span 48 49) (record { name = span 55 56; number = 0 } ∷ record { name = span 69 70; number = 0xFFFFFFFF } ∷ []) none))
+    (enumeration (span 48 49) (span 49 77)
+    (record { name = span 55 56; number = 0 } ∷ record { name = span 69 70; number = 0xFFFFFFFF } ∷ []) none))
 
-inside-whole : tree inside ≡ record { packageName = span 6 6; items = message (span 12 13) inside-items none } ∷ []
+inside-whole : tree inside ≡ fileWith (span 6 6) (span 6 77) (message (span 12 13) (span 13 77) inside-items none) ∷ []
 unfolding tree
 inside-whole = refl
 
@@ -94,7 +96,7 @@ cut-inside =
     ∷ 0x01 ∷ 0 ∷ 3 ∷ 0x10 ∷ 0 ∷ 0 ∷ []
 
 cut-file : tree cut-inside
-    ≡ record { packageName = span 6 6; items = message (span 12 13) none none } ∷ record { packageName = span 21 21; items = none } ∷ []
+    ≡ fileWith (span 6 6) (span 6 15) (message (span 12 13) (span 13 13) none none) ∷ fileWith (span 21 21) (span 21 21) none ∷ []
 unfolding tree
 cut-file = refl
 
@@ -105,7 +107,7 @@ odd =
     ∷ 0x02 ∷ 0 ∷ 0 ∷ 0x05 ∷ 0 ∷ 4 ∷ 0x11 ∷ 0 ∷ 1 ∷ 0x66 ∷ 0x07 ∷ 0 ∷ 0
     ∷ 0x02 ∷ 0 ∷ 4 ∷ 0x11 ∷ 0 ∷ 1 ∷ 0x4D ∷ []
 
-left-out : tree odd ≡ record { packageName = span 6 6; items = message (span 25 26) none none } ∷ []
+left-out : tree odd ≡ fileWith (span 6 6) (span 6 26) (message (span 25 26) (span 26 26) none none) ∷ []
 unfolding tree
 left-out = refl
 

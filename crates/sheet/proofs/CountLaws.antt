@@ -54,7 +54,7 @@ module _ (s : List ℕ) (t a e : ℕ) where
   file-adds k rest = go (eqb t fileTag) (leafAt packageTag anyBytes s a e)
     where
       file : ℕ → ℕ → List File → List File
-      file n m r = record { packageName = span n m; items = itemsIn mostMessages s (walk s m e) } ∷ r
+      file n m r = record { packageName = span n m; body = span m e; items = itemsIn mostMessages s (walk s m e) } ∷ r
 
       go : (b : Bool) (l : Leaf)
           → inSheet k (elim b [ true ↦ onLeaf rest l (λ n m. file n m rest) | false ↦ rest ])
@@ -67,8 +67,8 @@ enum-adds : (k : ℕ) (s : List ℕ) (a e : ℕ) (rest : Items) → inItems k (e
 enum-adds k s a e rest = go (leafAt nameTag anyBytes s a e)
   where
     go : (l : Leaf)
-        → inItems k (onLeaf rest l λ n m. enumeration (span n m) (valuesIn s (walk s m e)) rest)
-        ≡ inItems k (onLeaf none l λ n m. enumeration (span n m) (valuesIn s (walk s m e)) none) + inItems k rest
+        → inItems k (onLeaf rest l λ n m. enumeration (span n m) (span m e) (valuesIn s (walk s m e)) rest)
+        ≡ inItems k (onLeaf none l λ n m. enumeration (span n m) (span m e) (valuesIn s (walk s m e)) none) + inItems k rest
     go Not = omega arith
     go (At n m) = omega arith
 
@@ -81,8 +81,8 @@ message-adds k zero s a e rest = omega arith
 message-adds k (suc d) s a e rest = go (leafAt nameTag anyBytes s a e)
   where
     go : (l : Leaf)
-        → inItems k (onLeaf rest l λ n m. message (span n m) (itemsWith (messageIn d s) s (walk s m e)) rest)
-        ≡ inItems k (onLeaf none l λ n m. message (span n m) (itemsWith (messageIn d s) s (walk s m e)) none) + inItems k rest
+        → inItems k (onLeaf rest l λ n m. message (span n m) (span m e) (itemsWith (messageIn d s) s (walk s m e)) rest)
+        ≡ inItems k (onLeaf none l λ n m. message (span n m) (span m e) (itemsWith (messageIn d s) s (walk s m e)) none) + inItems k rest
     go Not = omega arith
     go (At n m) = omega arith
 

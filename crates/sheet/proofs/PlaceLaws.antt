@@ -20,9 +20,9 @@ use Rattle.sheet.specs.declared.declaration.Valued.{Valued}
 use Rattle.sheet.specs.declared.declaration.Valued.the-variants.{Values, NoValue}
 use Rattle.sheet.specs.Table.{nameTag, extendeeTag, signedNumberTag}
 use Rattle.sheet.specs.Declaration.{lastAt, shapeAt, declared, extensionAt, messageFieldAt, valueAt}
-use Rattle.sheet.proofs.ShapeLaws.{Lies, shape-lies}
+use Rattle.sheet.proofs.ShapeLaws.{Placed, shape-lies}
 
-name-lies : (k : ℕ) (s : List ℕ) (a e n m : ℕ) → leafAt k anyBytes s a e ≡ At n m → Lies e n m
+name-lies : (k : ℕ) (s : List ℕ) (a e n m : ℕ) → leafAt k anyBytes s a e ≡ At n m → Placed e n m
 name-lies k s a e n m p =
     record {
       ordered = leaf-ordered k anyBytes s a e (At n m) (sym p) n m refl;
@@ -30,11 +30,11 @@ name-lies k s a e n m p =
     }
 
 record Places (end : ℕ) (d : Declaration) : Type 0 where
-  name : Lies end (d .name .from) (d .name .to)
-  extendee : Lies end (d .extendee .from) (d .extendee .to)
-  path : Lies end (d .shape .path .from) (d .shape .path .to)
+  name : Placed end (d .name .from) (d .name .to)
+  extendee : Placed end (d .extendee .from) (d .extendee .to)
+  path : Placed end (d .shape .path .from) (d .shape .path .to)
 
-declared-places : (s : List ℕ) (at end : ℕ) (n x : Span) (d : Declaration) → Lies end (n .from) (n .to) → Lies end (x .from) (x .to)
+declared-places : (s : List ℕ) (at end : ℕ) (n x : Span) (d : Declaration) → Placed end (n .from) (n .to) → Placed end (x .from) (x .to)
     → (p : Shaped) → p ≡ shapeAt s at end → Declares d ≡ declared n x p → Places end d
 declared-places s at end n x d i j NoShape q p = absurd (let z : _≡_ {A = ℕ} 0 1 = cc in omega arith)
 declared-places s at end n x d i j (Shapes h) q p =
@@ -59,7 +59,7 @@ field-places s a e d =
     declared-places s shapes e (span n shapes) (span 0 0) d (name-lies nameTag s a e n shapes y)
     (record { ordered = omega arith; inside = omega arith }) (shapeAt s shapes e) refl
 
-value-name-lies : (s : List ℕ) (a e : ℕ) (v : Value) → Values v ≡ valueAt s a e → Lies e (v .name .from) (v .name .to)
+value-name-lies : (s : List ℕ) (a e : ℕ) (v : Value) → Values v ≡ valueAt s a e → Placed e (v .name .from) (v .name .to)
 unfolding valueAt
 value-name-lies s a e v =
     on-leaf-some NoValue (Values v) (leafAt nameTag anyBytes s a e) _ L none λ n numbers y.
@@ -68,7 +68,7 @@ value-name-lies s a e v =
     rw u (name-lies nameTag s a e n numbers y)
   where
     L : Type 0
-    L = Lies e (v .name .from) (v .name .to)
+    L = Placed e (v .name .from) (v .name .to)
 
     none : Values v ≡ NoValue → ⊥
     none p = let z : _≡_ {A = ℕ} 0 1 = cc in omega arith

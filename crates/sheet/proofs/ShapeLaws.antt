@@ -79,15 +79,15 @@ module _ (s : List ℕ) (at end : ℕ) (r : Leaf) (q : r ≡ leafAt numberTag (o
         shape-whole a e x number u label v = rw (← q, g, ← q′, g′, ← q″, g″, ← y, ← z, x, ← u, ← v)
 
 -- ---- where a type path lies
-pub record Lies (end from to : ℕ) : Type 0 where
+pub record Placed (end from to : ℕ) : Type 0 where
   pub ordered : from ≤ to
   pub inside : to ≤ end
 
-type-path-lies : (t : ℕ) (s : List ℕ) (at end a e : ℕ) → At a e ≡ typePathAt t s at end → Lies end a e
+type-path-lies : (t : ℕ) (s : List ℕ) (at end a e : ℕ) → At a e ≡ typePathAt t s at end → Placed end a e
 unfolding typePathAt
 type-path-lies t s at end a e p = go (hasTypePath t) (eqb at end) (leafAt typePathTag anyBytes s at end) refl p
   where
-    last : (n m : ℕ) → At n m ≡ leafAt typePathTag anyBytes s at end → (b : Bool) → At a e ≡ onlyIf b (At n m) → Lies end a e
+    last : (n m : ℕ) → At n m ≡ leafAt typePathTag anyBytes s at end → (b : Bool) → At a e ≡ onlyIf b (At n m) → Placed end a e
     last n m q false p = absurd (let z : _≡_ {A = ℕ} 0 1 = cc in omega arith)
     last n m q true p =
         record {
@@ -96,7 +96,7 @@ type-path-lies t s at end a e p = go (hasTypePath t) (eqb at end) (leafAt typePa
         }
 
     go : (b b′ : Bool) (l : Leaf) → l ≡ leafAt typePathTag anyBytes s at end
-        → At a e ≡ elim b [ true ↦ lastAt end l | false ↦ onlyIf b′ (At 0 0) ] → Lies end a e
+        → At a e ≡ elim b [ true ↦ lastAt end l | false ↦ onlyIf b′ (At 0 0) ] → Placed end a e
     go false false l q p = absurd (let z : _≡_ {A = ℕ} 0 1 = cc in omega arith)
     go false true l q p =
         let u : a ≡ 0 = cc in
@@ -105,7 +105,7 @@ type-path-lies t s at end a e p = go (hasTypePath t) (eqb at end) (leafAt typePa
     go true b′ Not q p = absurd (let z : _≡_ {A = ℕ} 0 1 = cc in omega arith)
     go true b′ (At n m) q p = last n m q (eqb m end) p
 
-pub shape-lies : (s : List ℕ) (at end : ℕ) (h : Shape) → Shapes h ≡ shapeAt s at end → Lies end (h .path .from) (h .path .to)
+pub shape-lies : (s : List ℕ) (at end : ℕ) (h : Shape) → Shapes h ≡ shapeAt s at end → Placed end (h .path .from) (h .path .to)
 unfolding shapeAt
 shape-lies s at end h =
     on-leaf-some NoShape (Shapes h) (leafAt numberTag (ofSize 4) s at end) _ L none λ n types _.
@@ -116,7 +116,7 @@ shape-lies s at end h =
     rw u (type-path-lies (getD s t 0) s paths end a e (sym x))
   where
     L : Type 0
-    L = Lies end (h .path .from) (h .path .to)
+    L = Placed end (h .path .from) (h .path .to)
 
     none : Shapes h ≡ NoShape → ⊥
     none p = let z : _≡_ {A = ℕ} 0 1 = cc in omega arith

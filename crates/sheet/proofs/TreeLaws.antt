@@ -1,5 +1,5 @@
--- The laws of a sheet's tree: what a list of fields holds opens at its first field, and what one field holds goes by its tag. Who walks
--- over a sheet cites these, and nothing after them opens a definition of the tree.
+-- The laws of a sheet's tree: what a list of fields holds opens at its first field, and what one field holds goes by its tag. They are for
+-- whoever walks over a sheet: the counts here, and the search to come.
 -- Assumes nothing.
 use mathlib.Core.Path.{_≡_, refl, ap}
 use mathlib.Core.List.{List, [], _∷_}
@@ -25,7 +25,7 @@ use Rattle.sheet.specs.declared.declaration.Valued.the-variants.{Values,
 use Rattle.sheet.specs.Table.{fileTag, messageTag, extensionTag, enumTag, fieldTag, valueTag, packageTag, nameTag}
 use Rattle.sheet.specs.Declaration.{extensionAt, messageFieldAt, valueAt}
 use Rattle.sheet.specs.Tree.{Items, none, message, extension, enumeration, field, File}
-use Rattle.sheet.specs.Tree.{valueIn, valuesIn, enumIn, itemIn, messageIn, itemsIn, fileIn, filesIn, treeOf}
+use Rattle.sheet.specs.Tree.{fileWith, valueIn, valuesIn, enumIn, itemIn, messageIn, itemsIn, fileIn, filesIn, treeOf}
 
 -- ---- the values of an enum: none at the end or where the rest is cut, else what the first field is and what stands after it
 module _ (s : List ℕ) (i to : ℕ) where
@@ -105,7 +105,7 @@ module _ (s : List ℕ) (a e : ℕ) (rest : Items) (r : Leaf) (q : r ≡ leafAt 
   pub enum-unnamed : r ≡ Not → enumIn s a e rest ≡ rest
   enum-unnamed g = rw (← q, g)
 
-  pub enum-named : (n m : ℕ) → r ≡ At n m → enumIn s a e rest ≡ enumeration (span n m) (valuesIn s (walk s m e)) rest
+  pub enum-named : (n m : ℕ) → r ≡ At n m → enumIn s a e rest ≡ enumeration (span n m) (span m e) (valuesIn s (walk s m e)) rest
   enum-named n m g = rw (← q, g)
 
 -- a message: with no level left it is left out
@@ -119,7 +119,7 @@ message-unnamed (suc d) s a e rest r q g = rw (← q, g)
 
 pub message-named : (d : ℕ) (s : List ℕ) (a e : ℕ) (rest : Items) → (d ≡ 0 → ⊥)
     → (r : Leaf) → r ≡ leafAt nameTag anyBytes s a e → (n m : ℕ) → r ≡ At n m
-    → messageIn d s a e rest ≡ message (span n m) (itemsIn (d - 1) s (walk s m e)) rest
+    → messageIn d s a e rest ≡ message (span n m) (span m e) (itemsIn (d - 1) s (walk s m e)) rest
 unfolding itemsIn
 message-named zero s a e rest z r q n m g = absurd (z refl)
 message-named (suc d) s a e rest z r q n m g = let p : suc d - 1 ≡ d = omega arith in rw (p, ← q, g)
@@ -151,6 +151,6 @@ module _ (s : List ℕ) (t a e : ℕ) (rest : List File) where
     file-unnamed g = rw (h, ← q, g)
 
     pub file-named : (n m : ℕ) → r ≡ At n m
-        → fileIn s t a e rest ≡ record { packageName = span n m; items = itemsIn mostMessages s (walk s m e) } ∷ rest
+        → fileIn s t a e rest ≡ fileWith (span n m) (span m e) (itemsIn mostMessages s (walk s m e)) ∷ rest
     unfolding fileIn
     file-named n m g = rw (h, ← q, g)

@@ -28,9 +28,9 @@ declaredCount (Declares d) k t = one k t
 
 abbrev pub inItems : ℕ → Items → ℕ
 inItems k none = 0
-inItems k (message n i r) = one k messageTag + inItems k i + inItems k r
+inItems k (message n b i r) = one k messageTag + inItems k i + inItems k r
 inItems k (extension d r) = one k extensionTag + inItems k r
-inItems k (enumeration n vs r) = one k enumTag + one k valueTag * length vs + inItems k r
+inItems k (enumeration n b vs r) = one k enumTag + one k valueTag * length vs + inItems k r
 inItems k (field d r) = one k fieldTag + inItems k r
 
 abbrev pub inSheet : ℕ → List File → ℕ

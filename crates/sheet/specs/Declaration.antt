@@ -3,8 +3,10 @@
 --
 --          hasTypePath t <=> the type t is a group, a message or an enum
 --             lastAt e l ==  the leaf l where it ends at e
---    typePathAt t s at e ==  the type path where the type t has one, and in any case the end
+--    typePathAt t s at e ==  the type path where the type t has one, and nothing after it
+--    shape number .. a e ==  a shape, its type path from a to e
 --         shapeAt s at e ==  number, type, label and type path, from the place `at` up to the end e
+--         declared n x h ==  the declaration of the name n, the extendee x and the shape h, where there is one
 --      extensionAt s a e ==  the extension whose payload is from a to e
 --   messageFieldAt s a e ==  the field of a message whose payload is from a to e
 --          valueAt s a e ==  the enum value whose payload is from a to e

@@ -5,10 +5,16 @@
 --                        Items == what a file or a message holds, in order: the first one, and what follows it
 --                         File == a package, and what the file holds
 --         valueIn s t a e rest == the enum value that a field is, and what follows it
+--                valued v rest == an enum value, where there is one, and what follows it
 --                 valuesIn s w == the values among the fields w
+--            enumIn s a e rest == the enum whose payload is from a to e, and what follows it
+--           extensionIn d rest == an extension, where there is one, and what follows it
+--               fieldIn d rest == a field, where there is one, and what follows it
 --    itemIn inner s t a e rest == the item that a field is, `inner` reading a message, and what follows it
+--          itemsWith inner s w == the items among the fields w, `inner` reading a message
 --       messageIn d s a e rest == the message whose payload is from a to e, with d levels of messages left, and what follows it
 --                itemsIn d s w == the items among the fields w, with d levels of messages left
+--               fileWith p b i == the file of the package p, the body b and the items i
 --          fileIn s t a e rest == the file that a field is, and what follows it
 --                  filesIn s w == the files among the fields w
 --                     treeOf s == the files of a sheet, in order
@@ -32,20 +38,21 @@ use Rattle.sheet.specs.declared.declaration.Valued.the-variants.{Values,
 use Rattle.sheet.specs.Table.{fileTag, messageTag, extensionTag, enumTag, fieldTag, valueTag, packageTag, nameTag}
 use Rattle.sheet.specs.Declaration.{extensionAt, messageFieldAt, valueAt}
 
--- names and declarations hold places of the sheet
+-- names, bodies (what stands after the name) and declarations hold places of the sheet
 pub data Items : Type 0 where
   none : Items
-  message : (name : Span) (inside rest : Items) → Items
+  message : (name body : Span) (inside rest : Items) → Items
   extension : Declaration → (rest : Items) → Items
-  enumeration : (name : Span) → List Value → (rest : Items) → Items
+  enumeration : (name body : Span) → List Value → (rest : Items) → Items
   field : Declaration → (rest : Items) → Items
 
 -- 01: "A sheet is files or none, the current one first, then its dependencies"; a file's index is its place in the list
 pub record File : Type 0 where
   pub packageName : Span
+  pub body : Span
   pub items : Items
 
--- "04 enum: 11, then 06 values"
+-- 04: "11, then 06 values"
 abbrev pub valued : Valued → List Value → List Value
 valued NoValue rest = rest
 valued (Values v) rest = v ∷ rest
@@ -59,7 +66,7 @@ valuesIn s cut = []
 valuesIn s (step t a e w) = valueIn s t a e (valuesIn s w)
 
 abbrev pub enumIn : List ℕ → ℕ → ℕ → Items → Items
-enumIn s a e rest = onLeaf rest (leafAt nameTag anyBytes s a e) λ n m. enumeration (span n m) (valuesIn s (walk s m e)) rest
+enumIn s a e rest = onLeaf rest (leafAt nameTag anyBytes s a e) λ n m. enumeration (span n m) (span m e) (valuesIn s (walk s m e)) rest
 
 abbrev pub extensionIn : Declared → Items → Items
 extensionIn NoDeclaration rest = rest
@@ -87,22 +94,22 @@ itemsWith inner s done = none
 itemsWith inner s cut = none
 itemsWith inner s (step t a e w) = itemIn inner s t a e (itemsWith inner s w)
 
--- "02 message: 11 name, then any of 02, 03, 04, 05"; "The outermost message .. is depth 1"
+-- 02: "11 name, then any of 02, 03, 04, 05"; "The outermost message .. is depth 1"
 abbrev pub messageIn : ℕ → List ℕ → ℕ → ℕ → Items → Items
 messageIn zero s a e rest = rest
 messageIn (suc d) s a e rest =
-    onLeaf rest (leafAt nameTag anyBytes s a e) λ n m. message (span n m) (itemsWith (messageIn d s) s (walk s m e)) rest
+    onLeaf rest (leafAt nameTag anyBytes s a e) λ n m. message (span n m) (span m e) (itemsWith (messageIn d s) s (walk s m e)) rest
 
 unfoldable pub itemsIn : ℕ → List ℕ → Walk → Items
 itemsIn d s w = itemsWith (messageIn d s) s w
 
--- "01 file: 10 package, then any of 02, 03, 04"
-abbrev pub fileWith : Span → Items → File
-fileWith p i = record { packageName = p; items = i }
+-- 01: "10 package, then any of 02, 03, 04"
+abbrev pub fileWith : Span → Span → Items → File
+fileWith p b i = record { packageName = p; body = b; items = i }
 
 unfoldable pub fileIn : List ℕ → ℕ → ℕ → ℕ → List File → List File
 fileIn s t a e rest = elim (eqb t fileTag) [
-  | true ↦ onLeaf rest (leafAt packageTag anyBytes s a e) λ n m. fileWith (span n m) (itemsIn mostMessages s (walk s m e)) ∷ rest
+  | true ↦ onLeaf rest (leafAt packageTag anyBytes s a e) λ n m. fileWith (span n m) (span m e) (itemsIn mostMessages s (walk s m e)) ∷ rest
   | false ↦ rest
 ]
 

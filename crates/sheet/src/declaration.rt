@@ -21,6 +21,7 @@ pub struct Shape {
     pub path: Span,
 }
 
+// What a reader of shapes answers.
 pub enum Shaped {
     Shapes(Shape),
     NoShape,
@@ -34,6 +35,7 @@ pub struct Declaration {
     pub shape: Shape,
 }
 
+// What a reader of extensions or fields answers.
 pub enum Declared {
     Declares(Declaration),
     NoDeclaration,
@@ -45,6 +47,7 @@ pub struct Value {
     pub number: u32,
 }
 
+// What a reader of enum values answers.
 pub enum Valued {
     Values(Value),
     NoValue,
@@ -57,7 +60,7 @@ pub fn has_type_path(typ: usize) -> bool
     (typ == TYPE_GROUP) | (typ == TYPE_MESSAGE) | (typ == TYPE_ENUM)
 }
 
-// The type path where the type has one, and in any case the end.
+// The type path where the type has one, and nothing after it.
 fn type_path_at(s: &[u8], at: usize, end: usize, typ: usize) -> Leaf
     requires { ⌜ (at ≤ end) × (end ≤ length (now s)) ⌝ }
     ensures { λ r. ⌜ r ≡ typePathAt typ (now (s .entry)) at end ⌝ }
@@ -78,7 +81,7 @@ fn type_path_at(s: &[u8], at: usize, end: usize, typ: usize) -> Leaf
 }
 
 // Number, type, label and type path, from a place on.
-pub fn shape_at(s: &[u8], at: usize, end: usize) -> Shaped
+fn shape_at(s: &[u8], at: usize, end: usize) -> Shaped
     requires { ⌜ (at ≤ end) × (end ≤ length (now s)) ⌝ }
     ensures { λ r. ⌜ r ≡ shapeAt (now (s .entry)) at end ⌝ }
 {

@@ -85,6 +85,11 @@ values-fine s (step t a e w) p =
     let rest = first-fine-rest (judge t a e) (each BadSheet judge w) p in
     value-more s t a e w (valuesIn s w) front (values-fine s w rest)
 
+pub enum-inside : (s : List ℕ) (a e : ℕ) → judgeEnum s a e ≡ Fine
+    → Inside (leafAt nameTag anyBytes s a e) isIdent s (λ m. each BadSheet (judgeValue s) (walk s m e))
+unfolding judgeEnum
+enum-inside s a e p = leaf-fine nameTag isIdent s a e (λ m. each BadSheet (judgeValue s) (walk s m e)) p
+
 -- ---- one item: it is in front of what follows it, and nothing in it is bad
 record FineItem (s : List ℕ) (t : ℕ) (rest i : Items) : Type 0 where
   good : goodItems s rest ≡ true → goodItems s i ≡ true
@@ -109,9 +114,8 @@ module _ (s : List ℕ) (rest : Items) where
       go NoDeclaration p = absurd (false≢true p)
 
   enum-fine : (a e : ℕ) → judgeEnum s a e ≡ Fine → FineItem s enumTag rest (enumIn s a e rest)
-  unfolding judgeEnum
   enum-fine a e p =
-      let x = leaf-fine nameTag isIdent s a e (λ m. each BadSheet (judgeValue s) (walk s m e)) p in
+      let x = enum-inside s a e p in
       let vs = values-fine s (walk s (x .to) e) (x .fine) in
       rw (x .named) record { good = λ h. rw (x .tested, vs .good, h); whole = refl }
 

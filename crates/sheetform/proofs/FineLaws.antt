@@ -21,12 +21,12 @@ use Rattle.field.specs.Leaf.{anyBytes, onLeaf, leafAt}
 use Rattle.field.specs.Walk.{Walk, done, cut, step, walk, tagsIn}
 use Rattle.field.specs.Each.{each, eachFrom}
 use Rattle.field.proofs.WalkLaws.{walk-step}
-use Rattle.sheet.specs.Table.{fileTag, messageTag, packageTag, nameTag}
+use Rattle.sheet.specs.Table.{fileTag, messageTag, enumTag, packageTag, nameTag}
 use Rattle.sheet.specs.Tree.{File, valuesIn, itemsIn, fileIn, filesIn, treeOf}
-use Rattle.sheetform.specs.Form.{malformed, beyond, judgeValue, judgeItem, judgeMessage, judgeItems, judgeFile, judgeSheet}
+use Rattle.sheetform.specs.Form.{malformed, beyond, judgeValue, judgeEnum, judgeItem, judgeMessage, judgeItems, judgeFile, judgeSheet}
 use Rattle.sheetform.specs.Fine.{goodItems, goodFiles, tagsOf}
 use Rattle.sheetform.proofs.SheetLaws.{file-other}
-use Rattle.sheetform.proofs.FineItems.{Inside, leaf-fine, values-fine, FineItems, message-inside, items-fine}
+use Rattle.sheetform.proofs.FineItems.{Inside, leaf-fine, values-fine, enum-inside, FineItems, message-inside, items-fine}
 
 level-fine : (d : ℕ) (fields : Bool) (s : List ℕ) (a e : ℕ) → judgeItems d fields s a e ≡ Fine
     → FineItems s (walk s a e) (itemsIn d s (walk s a e))
@@ -53,13 +53,16 @@ fine-file s i a e = go (ltb i mostFiles)
     go true p = leaf-fine packageTag isRelOrEmpty s a e (λ m. judgeItems mostMessages false s m e) p
     go false p = absurd (refused-fine BeyondLimit p)
 
+file-tagged : (s : List ℕ) (i t a e : ℕ) → judgeFile s i t a e ≡ Fine → t ≡ fileTag
+file-tagged s i t a e p = elim (ℕ-discrete t fileTag) [
+  | yes y ↦ y
+  | no n ↦ absurd (refused-fine BadSheet (file-other s i t a e n ∙ p))
+]
+
 file-more : (s : List ℕ) (i t a e : ℕ) (w : Walk) (fs : List File) → judgeFile s i t a e ≡ Fine → FineFiles s w fs
     → FineFiles s (step t a e w) (fileIn s t a e fs)
 unfolding fileIn
-file-more s i t a e w fs p h = elim (ℕ-discrete t fileTag) [
-  | yes y ↦ rw y (at-file (rw y at p))
-  | no n ↦ absurd (refused-fine BadSheet (file-other s i t a e n ∙ p))
-]
+file-more s i t a e w fs p h = let y = file-tagged s i t a e p in rw y (at-file (rw y at p))
   where
     at-file : judgeFile s i fileTag a e ≡ Fine → FineFiles s (step fileTag a e w) (fileIn s fileTag a e fs)
     at-file q =
@@ -76,19 +79,21 @@ files-fine s n (step t a e w) p =
     let rest = first-fine-rest (judge n t a e) (eachFrom BadSheet judge (n + 1) w) p in
     file-more s n t a e w (filesIn s w) front (files-fine s (n + 1) w rest)
 
-sheet-fine : (s : List ℕ) → judgeSheet s ≡ Fine → FineFiles s (walk s 0 (length s)) (treeOf s)
-unfolding judgeSheet treeOf
-sheet-fine s = go (ltb mostSheet (length s))
+-- ==== the statements
+-- Where a sheet is fine, so are its files.
+pub fine-sheet : (s : List ℕ) → judgeSheet s ≡ Fine → eachFrom BadSheet (judgeFile s) 0 (walk s 0 (length s)) ≡ Fine
+unfolding judgeSheet
+fine-sheet s = go (ltb mostSheet (length s))
   where
     go : (b : Bool) → elim b [ true ↦ beyond | false ↦ eachFrom BadSheet (judgeFile s) 0 (walk s 0 (length s)) ] ≡ Fine
-        → FineFiles s (walk s 0 (length s)) (treeOf s)
+        → eachFrom BadSheet (judgeFile s) 0 (walk s 0 (length s)) ≡ Fine
     go true p = absurd (refused-fine BeyondLimit p)
-    go false p = files-fine s 0 (walk s 0 (length s)) p
+    go false p = p
 
--- ==== the statements
 -- Every name, path, number, type and label in the tree of a fine sheet is what 01 allows.
 pub fine-good : (s : List ℕ) → judgeSheet s ≡ Fine → goodFiles s (treeOf s) ≡ true
-fine-good s p = sheet-fine s p .good
+unfolding treeOf
+fine-good s p = files-fine s 0 (walk s 0 (length s)) (fine-sheet s p) .good
 
 -- So it is in what a fine file or message holds, at every depth.
 pub fine-good-items : (d : ℕ) (fields : Bool) (s : List ℕ) (a e : ℕ) → judgeItems d fields s a e ≡ Fine
@@ -97,7 +102,8 @@ fine-good-items d fields s a e p = level-fine d fields s a e p .good
 
 -- Every field of a fine sheet is a file of its tree.
 pub fine-files : (s : List ℕ) → judgeSheet s ≡ Fine → length (treeOf s) ≡ length (tagsIn (walk s 0 (length s)))
-fine-files s p = sheet-fine s p .whole
+unfolding treeOf
+fine-files s p = files-fine s 0 (walk s 0 (length s)) (fine-sheet s p) .whole
 
 -- Every field of a fine file or message is an item of its own kind in the tree, in order.
 pub fine-whole : (d : ℕ) (fields : Bool) (s : List ℕ) (a e : ℕ) → judgeItems d fields s a e ≡ Fine
@@ -113,18 +119,47 @@ pub fine-inside : (d : ℕ) (s : List ℕ) (a e : ℕ) → judgeMessage (suc d) 
     → Inside r isIdent s (λ m. judgeItems d true s m e)
 fine-inside d s a e p r q = rw q (message-inside d s a e p)
 
--- Where a fine level has a field, the rest of the level is fine, and so is the field where it is a message: so on to every depth.
+-- An enum that is fine has a name, and its values are fine: so the above holds of them too.
+pub fine-enum-inside : (s : List ℕ) (a e : ℕ) → judgeEnum s a e ≡ Fine → (r : Leaf) → r ≡ leafAt nameTag anyBytes s a e
+    → Inside r isIdent s (λ m. each BadSheet (judgeValue s) (walk s m e))
+fine-enum-inside s a e p r q = rw q (enum-inside s a e p)
+
+module _ (s : List ℕ) (n i to : ℕ) (p : eachFrom BadSheet (judgeFile s) n (walk s i to) ≡ Fine) (h : i < to)
+    (r : Field) (q : r ≡ fieldAt s i to) (t a e : ℕ) (g : r ≡ Whole t a e) where
+  file-opened : eachFrom BadSheet (judgeFile s) n (step t a e (walk s e to)) ≡ Fine
+  file-opened = ap (eachFrom BadSheet (judgeFile s) n) (sym (walk-step s i to h r q t a e g)) ∙ p
+
+  -- Where fine files have a field, that is fine: so on to every file of a sheet, and by fine-file to what it holds.
+  pub fine-file-at : judgeFile s n t a e ≡ Fine
+  fine-file-at = first-fine-front (judgeFile s n t a e) (eachFrom BadSheet (judgeFile s) (n + 1) (walk s e to)) file-opened
+
+  -- It is a file.
+  pub fine-file-tag : t ≡ fileTag
+  fine-file-tag = file-tagged s n t a e fine-file-at
+
+  -- The files that follow it are fine.
+  pub fine-file-next : eachFrom BadSheet (judgeFile s) (n + 1) (walk s e to) ≡ Fine
+  fine-file-next = first-fine-rest (judgeFile s n t a e) (eachFrom BadSheet (judgeFile s) (n + 1) (walk s e to)) file-opened
+
 module _ (d : ℕ) (fields : Bool) (s : List ℕ) (i to : ℕ) (p : judgeItems d fields s i to ≡ Fine) (h : i < to)
     (r : Field) (q : r ≡ fieldAt s i to) (t a e : ℕ) (g : r ≡ Whole t a e) where
   opened : each BadSheet (judgeItem (judgeMessage d s) fields s) (step t a e (walk s e to)) ≡ Fine
   unfolding judgeItems
   opened = ap (each BadSheet (judgeItem (judgeMessage d s) fields s)) (sym (walk-step s i to h r q t a e g)) ∙ p
 
+  -- Where a fine level has a field, the rest of the level is fine.
   pub fine-next : judgeItems d fields s e to ≡ Fine
   unfolding judgeItems
   fine-next = first-fine-rest (judgeItem (judgeMessage d s) fields s t a e) (judgeItems d fields s e to) opened
 
+  -- Where that field is a message, it is fine: so on to every depth.
   pub fine-message : t ≡ messageTag → judgeMessage d s a e ≡ Fine
   unfolding judgeItem judgeItems
   fine-message y =
+      rw y at (first-fine-front (judgeItem (judgeMessage d s) fields s t a e) (judgeItems d fields s e to) opened)
+
+  -- Where it is an enum, it is fine.
+  pub fine-enum : t ≡ enumTag → judgeEnum s a e ≡ Fine
+  unfolding judgeItem judgeItems
+  fine-enum y =
       rw y at (first-fine-front (judgeItem (judgeMessage d s) fields s t a e) (judgeItems d fields s e to) opened)

@@ -1,13 +1,13 @@
--- What the leaves of an extension, a field and an enum value may hold, from 01's "Sheet and request". All of it is form, so the
--- order of the tests within one declaration shows in no answer.
+-- What the leaves of an extension, a field and an enum value may hold, from 01's "Sheet and request". All of it is form (01, Replies: "all
+-- other figures are form (1 or 2)"), so the order of the tests within one declaration shows in no answer.
 --
---       inRange n most <=> n is 1 to `most`
---   goodTypePath s h <=> the type path, where the type has one, is a path
---        goodShape s h <=> number, type, label and type path are what they may be
---        goodField s d <=> so is the name
---          isField s a e <=> a field's payload is from a to e
---      isExtension s a e <=> an extension's payload is from a to e
---          isValue s a e <=> an enum value's payload is from a to e
+--      inRange n most <=> n is 1 to `most`
+--    goodTypePath s h <=> the type path, where the type has one, is a path
+--       goodShape s h <=> number, type, label and type path are what they may be
+--       goodField s d <=> so is the name
+--       isField s a e <=> a field's payload is from a to e
+--   isExtension s a e <=> an extension's payload is from a to e
+--       isValue s a e <=> an enum value's payload is from a to e
 --
 -- Assumes nothing.
 use mathlib.Core.Bool.{Bool, true, false, _&&_}

@@ -23,9 +23,9 @@ goodValues s (v ∷ vs) = isIdent (text s (v .name)) && goodValues s vs
 
 abbrev pub goodItems : List ℕ → Items → Bool
 goodItems s none = true
-goodItems s (message n i r) = isIdent (text s n) && goodItems s i && goodItems s r
+goodItems s (message n b i r) = isIdent (text s n) && goodItems s i && goodItems s r
 goodItems s (extension d r) = isRelPath (text s (d .extendee)) && goodField s d && goodItems s r
-goodItems s (enumeration n vs r) = isIdent (text s n) && goodValues s vs && goodItems s r
+goodItems s (enumeration n b vs r) = isIdent (text s n) && goodValues s vs && goodItems s r
 goodItems s (field d r) = goodField s d && goodItems s r
 
 abbrev pub goodFiles : List ℕ → List File → Bool
@@ -34,7 +34,7 @@ goodFiles s (f ∷ fs) = isRelOrEmpty (text s (f .packageName)) && goodItems s (
 
 abbrev pub tagsOf : Items → List ℕ
 tagsOf none = []
-tagsOf (message n i r) = messageTag ∷ tagsOf r
+tagsOf (message n b i r) = messageTag ∷ tagsOf r
 tagsOf (extension d r) = extensionTag ∷ tagsOf r
-tagsOf (enumeration n vs r) = enumTag ∷ tagsOf r
+tagsOf (enumeration n b vs r) = enumTag ∷ tagsOf r
 tagsOf (field d r) = fieldTag ∷ tagsOf r

@@ -1,13 +1,14 @@
 -- The verdict of a sheet: 01, Replies, "by over-length, then .. the first fault from the front (a container holds its children's faults; a
 -- limit is a fault where it is passed)".
 --
---         judgeValue s t a e == one field of an enum, after its name
---            judgeEnum s a e == an enum
+--           malformed, beyond == a fault of form, and a limit that is passed
+--          judgeValue s t a e == one field of an enum, after its name
+--             judgeEnum s a e == an enum
 --   judgeItem inner b s t a e == one field of a file or, where b holds, of a message; `inner` judges a message
---       judgeMessage d s a e == a message, with d levels of messages left
---       judgeItems d b s a e == what a file or a message holds after its name
---        judgeFile s i t a e == one field of a sheet, the i-th, counted from 0
---               judgeSheet s == a sheet
+--        judgeMessage d s a e == a message, with d levels of messages left
+--        judgeItems d b s a e == what a file holds after its package, or a message after its name, with d levels left
+--         judgeFile s i t a e == one field of a sheet, the i-th, counted from 0
+--                judgeSheet s == a sheet
 --
 -- Assumes nothing.
 use mathlib.Core.Bool.{Bool, true, false}
@@ -34,7 +35,7 @@ malformed = Refused BadSheet
 abbrev pub beyond : Verdict
 beyond = Refused BeyondLimit
 
--- "04 enum: 11, then 06 values"
+-- 04: "11, then 06 values"
 unfoldable pub judgeValue : List ℕ → ℕ → ℕ → ℕ → Verdict
 judgeValue s t a e = elim (eqb t valueTag) [ true ↦ judged BadSheet (isValue s a e) | false ↦ malformed ]
 
@@ -57,7 +58,7 @@ judgeItem inner fields s t a e = elim (eqb t messageTag) [
   ]
 ]
 
--- "02 message: 11 name, then any of 02, 03, 04, 05"; "messages 16 deep", "The outermost message .. is depth 1"
+-- 02: "11 name, then any of 02, 03, 04, 05"; "messages 16 deep", "The outermost message .. is depth 1"
 abbrev pub judgeMessage : ℕ → List ℕ → ℕ → ℕ → Verdict
 judgeMessage zero s a e = beyond
 judgeMessage (suc d) s a e =
@@ -66,7 +67,7 @@ judgeMessage (suc d) s a e =
 unfoldable pub judgeItems : ℕ → Bool → List ℕ → ℕ → ℕ → Verdict
 judgeItems d fields s a e = each BadSheet (judgeItem (judgeMessage d s) fields s) (walk s a e)
 
--- "01 file: 10 package, then any of 02, 03, 04"; "8 files"; package may be empty
+-- 01: "10 package, then any of 02, 03, 04"; "8 files"; package may be empty
 unfoldable pub judgeFile : List ℕ → ℕ → ℕ → ℕ → ℕ → Verdict
 judgeFile s i t a e = elim (eqb t fileTag) [
   | true ↦ elim (ltb i mostFiles) [

@@ -86,7 +86,8 @@ fn check_message(s: &[u8], from: usize, to: usize, left: usize) -> Verdict
     check_items(s, body, to, left - 1, true)
 }
 
-// What a file or a message holds after its name.
+// What a file holds after its package, or a message after its name, with `left` levels of messages left; `fields`: whether fields may
+// stand there.
 pub fn check_items(s: &[u8], from: usize, to: usize, left: usize, fields: bool) -> Verdict
     requires { ⌜ (from ≤ to) × (to ≤ length (now s)) ⌝ }
     ensures { λ r. ⌜ r ≡ judgeItems left fields (now (s .entry)) from to ⌝ }

@@ -1,3 +1,5 @@
+-- `field::leaf_at` meets its contract.
+-- Assumes nothing.
 use Rattle.field.proofs.LeafLaws.{leaf-any-laws}
 use borrow.Author.Needs.{needs}
 use Rattle.field.proofs.leaf_at.Statement.{statement}

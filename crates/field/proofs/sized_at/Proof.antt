@@ -1,3 +1,5 @@
+-- `field::sized_at` meets its contract.
+-- Assumes nothing.
 use Rattle.field.proofs.LeafLaws.{sized-laws}
 use borrow.Author.Needs.{needs}
 use Rattle.field.proofs.sized_at.Statement.{statement}

@@ -1,3 +1,5 @@
+-- `leaf::ident_at` meets its contract.
+-- Assumes nothing.
 use Rattle.leaf.proofs.NameLaws.{name-laws}
 use borrow.Author.Needs.{needs}
 use Rattle.leaf.proofs.ident_at.Statement.{statement}

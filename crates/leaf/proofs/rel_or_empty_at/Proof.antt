@@ -1,3 +1,5 @@
+-- `leaf::rel_or_empty_at` meets its contract.
+-- Assumes nothing.
 use Rattle.leaf.proofs.NameLaws.{name-laws}
 use borrow.Author.Needs.{needs}
 use Rattle.leaf.proofs.rel_or_empty_at.Statement.{statement}

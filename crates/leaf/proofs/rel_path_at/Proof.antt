@@ -1,3 +1,5 @@
+-- `leaf::rel_path_at` meets its contract.
+-- Assumes nothing.
 use Rattle.leaf.proofs.NameLaws.{name-laws}
 use borrow.Author.Needs.{needs}
 use Rattle.leaf.proofs.rel_path_at.Statement.{statement}

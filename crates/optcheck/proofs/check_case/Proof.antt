@@ -1,3 +1,5 @@
+-- `optcheck::check_case` meets its contract.
+-- Assumes nothing.
 use Rattle.optcheck.proofs.CaseLaws.{case-laws}
 use borrow.Author.Needs.{needs}
 use Rattle.optcheck.proofs.check_case.Statement.{statement}

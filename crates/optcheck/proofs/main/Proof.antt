@@ -1,3 +1,5 @@
+-- `optcheck::main` meets its contract.
+-- Assumes nothing.
 use Rattle.optcheck.proofs.CaseLaws.{case-laws}
 use borrow.Author.Needs.{needs}
 use Rattle.optcheck.proofs.main.Statement.{statement}

@@ -1,3 +1,5 @@
+-- `optcheck::run` meets its contract.
+-- Assumes nothing.
 use Prim.Native.Nat.{_-_, _≤_}
 use lib.ListN.{length}
 use Rattle.optcheck.proofs.CaseLaws.{case-laws}

@@ -1,9 +1,9 @@
--- `options::check_name` meets its contract.
+-- `modelform::check_name` meets its contract.
 -- Assumes nothing.
 use Rattle.modelform.proofs.OptionLaws.{name-laws}
 use borrow.Author.Needs.{needs}
-use Rattle.modelform.proofs.options.check_name.Statement.{statement}
-use Rattle.modelform.proofs.options.check_name.Tie as tie
+use Rattle.modelform.proofs.check_name.Statement.{statement}
+use Rattle.modelform.proofs.check_name.Tie as tie
 
 pub check-name-spec : {M : Type 1} → statement M
 check-name-spec = tie.close (tie.spec
