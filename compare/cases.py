@@ -111,7 +111,8 @@ SHEETS = [
     (3, deep("M" * 16 + "9")), (1, deep("M" * 15 + "9" + "M")), (1, deep("M" * 16, f(7))), (3, deep("M" * 17) + b"\1"),
     (1, file(message(name="9") + deep("M" * 17)[6:])),
     # containers
-    (0, MANY), (1, f(1)), (1, file(f(0x10))), (1, f(1, message() + f(0x10))), (1, file(file())), (1, file(field())), (1, file(message(value()))),
+    (0, MANY), (1, f(1)), (1, file(f(0x10))), (1, f(1, message() + f(0x10))), (1, file(file())), (1, file(field())),
+    (1, file(message(value()))),
     (1, file(message(f(0x11, "N")))), (0, file(enum())), (0, file(enum(value(b"\xff" * 4)))), (1, file(enum(value(bytes(5))))),
     (1, file(enum(field()))), (1, file(enum(f(6, f(0x11, "v") + f(0x17, bytes(4)) * 2)))),
     # names and paths
@@ -123,7 +124,8 @@ SHEETS = [
     (1, extension(kind=12, path="M")), (1, extension(kind=13, path="M")), (1, extension(number=0)), (0, extension(number=536870911)),
     (1, extension(number=536870912)), (1, extension(label=0)), (0, extension(label=3)), (1, extension(label=4)), (1, extension(kind=0)),
     (0, extension(kind=18)), (1, extension(kind=19)), (1, file(f(3, f(0x11, "x") + shape()))),
-    (1, file(message(f(5, f(0x11, "x") + f(0x12, "M") + shape())))), (1, file(f(3, f(0x11, "x") + f(0x12, "M") + shape() + f(0x15, b"\1")))),
+    (1, file(message(f(5, f(0x11, "x") + f(0x12, "M") + shape())))),
+    (1, file(f(3, f(0x11, "x") + f(0x12, "M") + shape() + f(0x15, b"\1")))),
 ]
 
 REQUESTS = [
@@ -131,14 +133,17 @@ REQUESTS = [
     (3, of(lists(16, YES))), (2, request(kind="a.")), (0, pair(f(0x29, "/" * 255))), (2, pair(f(0x29, "/" * 256))),
     # limits: at the figure, past it, and what stands before it
     (2, bytes(8192)), (3, bytes(8193)), (0, request(option() * 128)), (3, request(option() * 129)), (2, request(option() * 128 + f(9))),
-    (2, request(option() * 128 + b"\x08\0\1")), (3, request(option() * 128 + f(8))), (0, request(option(X * 16))), (3, request(option(X * 17))),
+    (2, request(option() * 128 + b"\x08\0\1")), (3, request(option() * 128 + f(8))), (0, request(option(X * 16))),
+    (3, request(option(X * 17))),
     (3, request(option(X * 16 + f(0x1A, "9")))), (2, request(option(X * 15 + f(0x1A, "9") + X))), (2, request(f(8, X * 16 + b"\x1a\0\5x"))),
-    (2, request(f(8, X * 16))), (3, request(f(8, X * 17))), (0, of(lists(15, YES))), (2, of(lists(16, f(0x30)))), (2, of(lists(16, f(0x27, "x")))),
+    (2, request(f(8, X * 16))), (3, request(f(8, X * 17))), (0, of(lists(15, YES))), (2, of(lists(16, f(0x30)))),
+    (2, of(lists(16, f(0x27, "x")))),
     (2, of(lists(16, b"\x20\0\2\1"))), (3, of(lists(16, f(0x20, b"\2")))), (0, of(lists(16, b""))), (3, of(lists(17, b""))),
     (0, of(messages(15, YES))), (3, of(messages(16, YES))), (3, of(lists(16, YES) + X)), (2, of(lists(15, f(0x26, f(0x27, "9") + YES)))),
     (3, of(lists(15, f(0x26, f(0x27, "x") + YES)))), (2, of(lists(15, f(0x26, f(0x27, "x"))))), (3, pair(f(0x28, "x"), lists(15, YES))),
     # containers
-    (2, b""), (0, request()), (2, f(0x18)), (2, f(0x19, "a") + f(0x18)), (2, request(f(0x19, "a"))), (2, request(f(8, YES))), (2, request(f(8))),
+    (2, b""), (0, request()), (2, f(0x18)), (2, f(0x19, "a") + f(0x18)), (2, request(f(0x19, "a"))), (2, request(f(8, YES))),
+    (2, request(f(8))),
     (2, of(YES + X)), (2, of(YES + YES)), (0, of(KINDS)), (0, of(f(0x26))), (0, of(f(0x2A))), (2, pair(f(0x27, "x"), f(0x27, "y"))),
     (2, pair(f(0x29, "x"), f(0x20, b"\2"))),
     # names and paths

@@ -252,10 +252,10 @@ module _ (v : ℕ) (s : List ℕ) (from to n at : ℕ) (h : at < to) (r : Field)
           tally-more v (nameCount s) s from to n at k h r q t a e g m
           (ap partsOf (option-first s t a e (walk s e to) x) ∙ ap (λ (y : ℕ). y + nameCount s (walk s e to)) (sym p)) (omega arith)
 
-      pub names-fit : Fits w64 to → Fits w64 (n + m)
-      names-fit = tally-fits v (nameCount s) s from to n at k h r q t a e g m (omega arith)
+      pub names-fits : Fits w64 to → Fits w64 (n + m)
+      names-fits = tally-fits v (nameCount s) s from to n at k h r q t a e g m (omega arith)
 
 pub ruleset options-laws = (no-options, options-start, tally-end, tally-cut, options-other, options-next, field-less)
 
 pub ruleset names-laws =
-    (no-names, names-start, tally-end, tally-cut, names-other, names-next, names-fit, field-ordered, field-within, field-less)
+    (no-names, names-start, tally-end, tally-cut, names-other, names-next, names-fits, field-ordered, field-within, field-less)

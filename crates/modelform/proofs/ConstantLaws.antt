@@ -26,7 +26,7 @@ use Rattle.model.specs.Constant.{isPairName, pairAt}
 use Rattle.model.proofs.PairLaws.{Pairless, broken, unnamed, alone, cut-short, rest-pairless, rest-pair, rest-pair-next, pair-places}
 use Rattle.modelform.specs.Leaves.{isConstant, goodScalar, goodPairName}
 use Rattle.modelform.specs.Form.{malformed, beyond, pairsOf, constantWith, judgeConstant, judgeElements, judgePairs}
-use Rattle.modelform.proofs.LeafRules.{pair-name-other}
+use Rattle.modelform.proofs.LeafLaws.{pair-name-other}
 
 -- ---- check_constant
 constant-open : (d : ℕ) (s : List ℕ) (t a e : ℕ) → (d ≡ 0 → ⊥) → isConstant t ≡ true

@@ -17,6 +17,7 @@ use Rattle.model.specs.Table.{messageTag, pairFieldTag, pairExtensionTag, pairU
 use Rattle.model.specs.Name.{partOf}
 use Rattle.modelform.specs.Leaves.{isConstant, isBool, isUrl, goodScalar, goodPairName, goodPart}
 use Rattle.modelform.specs.Form.{malformed, beyond, judgeLast, judgeOption, judgeOptions, judgeRequest, judgeName}
+use Rattle.modelform.specs.Form.{judgeScope, judgeOptionsType, judgePath}
 
 -- ---- bytes
 -- a field whose payload has fewer than 256 bytes
@@ -114,3 +115,19 @@ names = refl
 urls : map (λ n. goodPairName pairUrlTag (replicate n 47)) (1 ∷ 255 ∷ 0 ∷ 256 ∷ []) ≡ true ∷ true ∷ false ∷ false ∷ []
 unfolding goodPairName isUrl
 urls = refl
+
+-- ---- paths alone: nothing, `x`, `.x`, `.`; only a scope may be empty, and only a path as a part has it may lead with a dot
+abbrev texts : List (List ℕ)
+texts = [] ∷ (120 ∷ []) ∷ rooted ∷ (dot ∷ []) ∷ []
+
+scopes : map judgeScope texts ≡ Fine ∷ Fine ∷ malformed ∷ malformed ∷ []
+unfolding judgeScope isRelOrEmpty allIdent components split onFirst isIdent isLetter isDigit allWord
+scopes = refl
+
+options-types : map judgeOptionsType texts ≡ malformed ∷ Fine ∷ malformed ∷ malformed ∷ []
+unfolding judgeOptionsType isRelPath allIdent split onFirst isIdent isLetter isDigit allWord
+options-types = refl
+
+paths : map judgePath texts ≡ malformed ∷ Fine ∷ Fine ∷ malformed ∷ []
+unfolding judgePath isPath rootless allIdent split onFirst isIdent isLetter isDigit allWord
+paths = refl

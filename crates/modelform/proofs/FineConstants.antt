@@ -38,7 +38,7 @@ use Rattle.model.proofs.ConstantLaws.{bool-is, number-unsigned, number-signed, 
 use Rattle.modelform.specs.Leaves.{isConstant, isBool, goodScalar, goodPairName}
 use Rattle.modelform.specs.Form.{malformed, beyond, pairsOf, constantWith, judgeConstant}
 use Rattle.modelform.specs.Fine.{goodName, goodValue, goodConstants, countOf}
-use Rattle.modelform.proofs.LeafRules.{scalar-other, pair-name-other}
+use Rattle.modelform.proofs.LeafLaws.{scalar-other, pair-name-other}
 
 -- ---- the payloads of fields that lie inside the bytes
 abbrev pub Within : List ℕ → Walk → Type 0

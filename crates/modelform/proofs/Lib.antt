@@ -1,4 +1,4 @@
-pub mod LeafRules
+pub mod LeafLaws
 pub mod ConstantLaws
 pub mod OptionLaws
 pub mod RequestLaws

@@ -30,7 +30,7 @@ verdict = judgeSheet
 abbrev aField : ℕ → List ℕ → List ℕ
 aField tag payload = tag ∷ 0 ∷ length payload ∷ payload
 
--- ---- files: none, one that is cut, one with an empty package, one with the package `.`
+-- ---- files: none, one that is cut, one with an empty package, one with no package, one with the package `.`
 no-files : verdict [] ≡ Fine
 unfolding verdict
 no-files = refl
@@ -39,7 +39,11 @@ cut : verdict (0x01 ∷ []) ≡ malformed
 unfolding verdict
 cut = refl
 
-no-package : verdict (0x01 ∷ 0x00 ∷ 0x03 ∷ 0x10 ∷ 0x00 ∷ 0x00 ∷ []) ≡ Fine
+empty-package : verdict (0x01 ∷ 0x00 ∷ 0x03 ∷ 0x10 ∷ 0x00 ∷ 0x00 ∷ []) ≡ Fine
+unfolding verdict
+empty-package = refl
+
+no-package : verdict (0x01 ∷ 0x00 ∷ 0x00 ∷ []) ≡ malformed
 unfolding verdict
 no-package = refl
 

@@ -1,6 +1,6 @@
 -- `leaves::good_pair_name` meets its contract.
 -- Assumes nothing.
-use Rattle.modelform.proofs.LeafRules.{pair-name-laws}
+use Rattle.modelform.proofs.LeafLaws.{pair-name-laws}
 use borrow.Author.Needs.{needs}
 use Rattle.modelform.proofs.leaves.good_pair_name.Statement.{statement}
 use Rattle.modelform.proofs.leaves.good_pair_name.Tie as tie

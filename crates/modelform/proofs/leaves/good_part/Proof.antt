@@ -1,6 +1,6 @@
 -- `leaves::good_part` meets its contract.
 -- Assumes nothing.
-use Rattle.modelform.proofs.LeafRules.{part-leaf-laws}
+use Rattle.modelform.proofs.LeafLaws.{part-leaf-laws}
 use borrow.Author.Needs.{needs}
 use Rattle.modelform.proofs.leaves.good_part.Statement.{statement}
 use Rattle.modelform.proofs.leaves.good_part.Tie as tie

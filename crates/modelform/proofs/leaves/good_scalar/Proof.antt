@@ -1,6 +1,6 @@
 -- `leaves::good_scalar` meets its contract.
 -- Assumes nothing.
-use Rattle.modelform.proofs.LeafRules.{scalar-laws}
+use Rattle.modelform.proofs.LeafLaws.{scalar-laws}
 use borrow.Author.Needs.{needs}
 use Rattle.modelform.proofs.leaves.good_scalar.Statement.{statement}
 use Rattle.modelform.proofs.leaves.good_scalar.Tie as tie

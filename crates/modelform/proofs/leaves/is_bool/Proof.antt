@@ -1,6 +1,6 @@
 -- `leaves::is_bool` meets its contract.
 -- Assumes nothing.
-use Rattle.modelform.proofs.LeafRules.{bool-laws}
+use Rattle.modelform.proofs.LeafLaws.{bool-laws}
 use borrow.Author.Needs.{needs}
 use Rattle.modelform.proofs.leaves.is_bool.Statement.{statement}
 use Rattle.modelform.proofs.leaves.is_bool.Tie as tie

@@ -1,6 +1,6 @@
 -- `leaves::is_constant` meets its contract.
 -- Assumes nothing.
-use Rattle.modelform.proofs.LeafRules.{constant-tag}
+use Rattle.modelform.proofs.LeafLaws.{constant-tag}
 use borrow.Author.Needs.{needs}
 use Rattle.modelform.proofs.leaves.is_constant.Statement.{statement}
 use Rattle.modelform.proofs.leaves.is_constant.Tie as tie

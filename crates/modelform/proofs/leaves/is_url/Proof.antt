@@ -1,6 +1,6 @@
 -- `leaves::is_url` meets its contract.
 -- Assumes nothing.
-use Rattle.modelform.proofs.LeafRules.{url-size}
+use Rattle.modelform.proofs.LeafLaws.{url-size}
 use borrow.Author.Needs.{needs}
 use Rattle.modelform.proofs.leaves.is_url.Statement.{statement}
 use Rattle.modelform.proofs.leaves.is_url.Tie as tie
