@@ -2,11 +2,11 @@
 -- Assumes nothing.
 use mathlib.Core.Path.{_≡_, refl, sym, ap, subst, _∙_}
 use mathlib.Core.Bool.{Bool, true, false}
-use mathlib.Core.List.{List, [], _∷_}
+use mathlib.Core.List.{List, [], _∷_, map}
 use Prim.Native.Nat.{ℕ, suc, _+_, _*_, _≤_, _<_}
 use native.Mathlib.Decide.{ℕ-discrete}
 use native.Mathlib.Omega.{arith}
-use borrow.Author.Tests.{ltb-true, eqb-true, eqb-false, le-leb}
+use borrow.Author.Tests.{ltb-true, ltb-false, eqb-true, eqb-false, le-leb}
 use lib.Dec.{eqb, ltb}
 use lib.ListN.{length}
 use Rattle.limits.specs.Figures.{mostRequest, mostOptions, mostParts, mostConstants}
@@ -25,7 +25,8 @@ use Rattle.field.specs.Leaf.{span, text, anyBytes, onLeaf, leafAt}
 use Rattle.field.specs.Walk.{Walk, done, cut, step, walk, tagsIn}
 use Rattle.field.specs.Each.{each, eachFrom}
 use Rattle.field.proofs.LeafLaws.{leaf-tested, leaf-untested, on-leaf-some}
-use Rattle.field.proofs.WalkLaws.{walk-step}
+use Rattle.field.proofs.FieldLaws.{Bounds, field-bounds}
+use Rattle.field.proofs.WalkLaws.{walk-done, walk-cut, walk-step}
 use Rattle.model.specs.declared.constant.Pair.{Pair}
 use Rattle.model.specs.declared.constant.Paired.{Paired}
 use Rattle.model.specs.declared.constant.Paired.the-variants.{Pairs}
@@ -47,7 +48,8 @@ use Rattle.modelform.specs.declared.options.Parts.the-variants.{After, R
 use Rattle.modelform.specs.Leaves.{isConstant, goodPairName, goodPart}
 use Rattle.modelform.specs.Form.{malformed, beyond, pairsOf, judgeConstant, judgeElements, judgePairs}
 use Rattle.modelform.specs.Form.{nextPart, partsFrom, lastField, judgeLast, afterName, judgeOption, judgeOptions, judgeRequest}
-use Rattle.modelform.specs.Fine.{goodName, goodConstants, countOf, goodParts, goodOption, goodOptions, goodRequest}
+use Rattle.modelform.specs.Fine.{goodName, goodConstants, countOf, kindOf, withName, tagsOf}
+use Rattle.modelform.specs.Fine.{goodParts, goodOption, goodOptions, goodRequest}
 use Rattle.modelform.proofs.OptionLaws.{option-other}
 use Rattle.modelform.proofs.FineConstants.{Within, walk-within, FineConstant, constant-opened}
 use Rattle.modelform.proofs.FineConstants.{constant-fine, elements-fine, pairs-fine}
@@ -95,6 +97,32 @@ parts-some (step t a e w) at n = go (partOf t a e) n
     go NoPart n = absurd (n refl)
     go (Is p) n = omega arith
 
+-- what stands after the first of the fields up to a place are the fields from its end on
+module _ (s : List ℕ) (end at t a e : ℕ) (w : Walk) (p : walk s at end ≡ step t a e w) where
+  walk-field : at < end → (f : Field) → f ≡ fieldAt s at end → walk s e end ≡ w
+  walk-field h Cut q = absurd (let z = sym (walk-cut s at end h Cut q refl) ∙ p in let y : _≡_ {A = ℕ} 0 1 = cc in omega arith)
+  walk-field h (Whole k b f) q = let z = sym (walk-step s at end h (Whole k b f) q k b f refl) ∙ p in cc
+
+  walk-next : walk s e end ≡ w
+  walk-next = go (ltb at end) refl
+    where
+      go : (b : Bool) → ltb at end ≡ b → walk s e end ≡ w
+      go true l = walk-field (ltb-true at end l) (fieldAt s at end) refl
+      go false l =
+          absurd (let z = sym (walk-done s at end (ltb-false at end l)) ∙ p in let y : _≡_ {A = ℕ} 0 1 = cc in omega arith)
+
+-- every field is a part or stands where the parts end, or after that
+parts-rest : (s : List ℕ) (end : ℕ) (w : Walk) (at : ℕ) → walk s at end ≡ w
+    → length (tagsIn w) ≡ length (partsIn w) + length (tagsIn (walk s (afterParts at w) end))
+parts-rest s end done at p = rw p refl
+parts-rest s end cut at p = rw p refl
+parts-rest s end (step t a e w) at p = go (parts-rest s end w e (walk-next s end at t a e w p)) (partOf t a e)
+  where
+    go : length (tagsIn w) ≡ length (partsIn w) + length (tagsIn (walk s (afterParts e w) end)) → (r : Parted)
+        → suc (length (tagsIn w)) ≡ length (leading r (partsIn w)) + length (tagsIn (walk s (further r at (afterParts e w)) end))
+    go after NoPart = rw p (omega arith)
+    go after (Is x) = omega (arith, after)
+
 -- ---- one option: parts that end at a place, and a constant from there to the end
 record Named (s : List ℕ) (a e : ℕ) : Type 0 where
   place : ℕ
@@ -135,9 +163,19 @@ last-opened s x e = go (fieldAt s x e) refl
           ends = eqb-true m e (judged-fine BadRequest (eqb m e) (first-fine-rest judge ends p));
         }
 
-last-good : (s : List ℕ) (x e : ℕ) → e ≤ length s → Last s x e → FineConstant s none (constantOfField s (fieldAt s x e))
+last-good : (s : List ℕ) (x e : ℕ) → e ≤ length s → (l : Last s x e)
+    → FineConstant s unnamed (l .tag) none (constantOfField s (fieldAt s x e))
 last-good s x e h l =
     rw (l .whole) (constant-fine mostConstants s unnamed refl (l .tag) (l .from) (l .to) none (omega (arith, l .ends)) (l .fine))
+
+last-alone : (s : List ℕ) (x e : ℕ) → Last s x e → length (tagsIn (walk s x e)) ≡ 1
+last-alone s x e l =
+    let b : Bounds x e (l .from) (l .to) = field-bounds s x e (fieldAt s x e) refl (l .tag) (l .from) (l .to) (l .whole) in
+    let h : x < e = omega (arith, b .starts, b .ordered, l .ends) in
+    rw (
+      walk-step s x e h (fieldAt s x e) refl (l .tag) (l .from) (l .to) (l .whole),
+      walk-done s (l .to) e (omega (arith, l .ends)),
+    )
 
 module _ (s : List ℕ) (a e : ℕ) where
   name-opened : (v : Parts) → v ≡ partsFrom s 0 a (walk s a e) → afterName s a e v ≡ Fine → Named s a e
@@ -166,8 +204,10 @@ module _ (s : List ℕ) (a e : ℕ) where
   option-good i h p =
       let o = option-opened i p in
       let f = o .parts in
-      let l = last-good s (o .place) e h (last-opened s (o .place) e (o .last)) in
-      let c = subst (λ (z : ℕ). FineConstant s none (constantOfField s (fieldAt s z e))) (f .ends) l in
+      let l = last-opened s (o .place) e (o .last) in
+      let c =
+      subst (λ (z : ℕ). FineConstant s unnamed (l .tag) none (constantOfField s (fieldAt s z e))) (f .ends)
+      (last-good s (o .place) e h l) in
       let n = length (partsIn (walk s a e)) in
       rw (
         le-leb 1 n (parts-some (walk s a e) a (λ z. o .some (f .ends ∙ z))),
@@ -199,6 +239,26 @@ options-fine s n (step t a e w) i p =
     let front = first-fine-front (judge n t a e) (eachFrom BadRequest judge (n + 1) w) p in
     let rest = first-fine-rest (judge n t a e) (eachFrom BadRequest judge (n + 1) w) p in
     option-more s n t a e w (optionsIn s w) (i .0) front (options-fine s (n + 1) w (i .1) rest)
+
+option-few : (s : List ℕ) (i a e : ℕ) → judgeOption s i optionTag a e ≡ Fine → i < mostOptions
+unfolding judgeOption
+option-few s i a e = go (ltb i mostOptions) refl
+  where
+    go : (b : Bool) → ltb i mostOptions ≡ b
+        → elim b [ true ↦ afterName s a e (partsFrom s 0 a (walk s a e)) | false ↦ beyond ] ≡ Fine → i < mostOptions
+    go true l q = ltb-true i mostOptions l
+    go false l q = absurd (refused-fine BeyondLimit q)
+
+options-few : (s : List ℕ) (n : ℕ) (w : Walk) → n ≤ mostOptions → eachFrom BadRequest (judgeOption s) n w ≡ Fine
+    → n + length (tagsIn w) ≤ mostOptions
+options-few s n done h p = omega arith
+options-few s n cut h p = absurd (refused-fine BadRequest p)
+options-few s n (step t a e w) h p =
+    let judge = judgeOption s in
+    let front = first-fine-front (judge n t a e) (eachFrom BadRequest judge (n + 1) w) p in
+    let here = option-few s n a e (rw (option-tagged s n t a e front) at front) in
+    let rest = first-fine-rest (judge n t a e) (eachFrom BadRequest judge (n + 1) w) p in
+    omega (arith, options-few s (n + 1) w (omega (arith, here)) rest)
 
 -- ---- a request: it has a heading, and what stands after it are options
 record FineRequest (s : List ℕ) : Type 0 where
@@ -297,6 +357,10 @@ module _ (d : ℕ) (s : List ℕ) (l : PairName) (n : goodName s l ≡ true) (t 
   pub fine-constant : countOf (constantIn d s l t a e rest) ≡ 1 + countOf rest
   fine-constant = constant-fine d s l n t a e rest h p .whole
 
+  -- It is of the kind that its tag says.
+  pub fine-constant-tag : tagsOf (constantIn d s l t a e rest) ≡ withName l (kindOf t ∷ tagsOf rest)
+  fine-constant-tag = constant-fine d s l n t a e rest h p .tags
+
   -- Every name and identifier in a fine constant is what 01 allows, at every depth.
   pub fine-good-constant : goodConstants s rest ≡ true → goodConstants s (constantIn d s l t a e rest) ≡ true
   fine-good-constant = constant-fine d s l n t a e rest h p .good
@@ -307,6 +371,12 @@ module _ (d : ℕ) (s : List ℕ) (a e : ℕ) (h : e ≤ length s) where
   unfolding judgeElements
   fine-elements p = elements-fine d s (walk s a e) (walk-within s e h a) p .whole
 
+  -- Each is of the kind that its tag says, in order.
+  pub fine-element-tags : judgeElements d s a e ≡ Fine
+      → tagsOf (elementsIn (constantIn d s) (walk s a e)) ≡ map kindOf (tagsIn (walk s a e))
+  unfolding judgeElements
+  fine-element-tags p = elements-fine d s (walk s a e) (walk-within s e h a) p .tags
+
   -- Every name and identifier in a fine list is what 01 allows, at every depth.
   pub fine-good-elements : judgeElements d s a e ≡ Fine → goodConstants s (elementsIn (constantIn d s) (walk s a e)) ≡ true
   unfolding judgeElements
@@ -316,6 +386,11 @@ module _ (d : ℕ) (s : List ℕ) (a e : ℕ) (h : e ≤ length s) where
   pub fine-pairs : judgePairs d s a e ≡ Fine → 2 * countOf (pairsIn (constantIn d s) (walk s a e)) ≡ length (tagsIn (walk s a e))
   unfolding judgePairs
   fine-pairs p = pairs-fine d s (walk s a e) (walk-within s e h a) p .whole
+
+  -- Each is a name and a constant of the kinds that their tags say, in order.
+  pub fine-pair-tags : judgePairs d s a e ≡ Fine → tagsOf (pairsIn (constantIn d s) (walk s a e)) ≡ map kindOf (tagsIn (walk s a e))
+  unfolding judgePairs
+  fine-pair-tags p = pairs-fine d s (walk s a e) (walk-within s e h a) p .tags
 
   -- Every name and identifier in a fine message is what 01 allows, at every depth.
   pub fine-good-pairs : judgePairs d s a e ≡ Fine → goodConstants s (pairsIn (constantIn d s) (walk s a e)) ≡ true
@@ -365,3 +440,18 @@ module _ (d : ℕ) (s : List ℕ) (i to : ℕ) (p : judgePairs d s i to ≡ Fine
   pub fine-pair-next : judgePairs d s (x .constant .to) to ≡ Fine
   fine-pair-next =
       first-fine-rest (judgeConstant d s (x .tag) (x .constant .from) (x .constant .to)) (judgePairs d s (x .constant .to) to) pair-opened
+
+-- Every field of a fine option but its last, the constant, is a part of it in the tree.
+pub fine-parts : (s : List ℕ) (i t a e : ℕ) → judgeOption s i t a e ≡ Fine
+    → length (tagsIn (walk s a e)) ≡ length (optionOf s a e .parts) + 1
+unfolding optionOf
+fine-parts s i t a e p =
+    let x = afterParts a (walk s a e) in
+    let l = fine-option-constant s i t a e p x refl in
+    parts-rest s e (walk s a e) a refl ∙ ap (λ (n : ℕ). length (partsIn (walk s a e)) + n) (last-alone s x e l)
+
+-- A fine request has at most 128 options.
+pub fine-few-options : (s : List ℕ) → judgeRequest s ≡ Fine → length (requestOf s .options) ≤ mostOptions
+fine-few-options s p =
+    let f = fine-options s p (headingOf s) refl in
+    omega (arith, f .whole, options-few s 0 (walk s (f .heading .options) (length s)) (omega arith) (f .fine))

@@ -4,6 +4,10 @@
 --       goodValue s c <=> a constant that holds no others is one, and an identifier is what 01 allows
 --   goodConstants s c <=> so it is of the constants, at every depth
 --           countOf c ==  how many constants follow one another, at the first level
+--            kindOf t ==  the tag t, but one for signed and unsigned integers
+--          valueTag c ==  the tag of a constant, of integers as above
+--        withName l r ==  the tag of a pair's name, where it has one, before the tags r
+--            tagsOf c ==  the tags of the constants that follow one another and of their names, at the first level, in order
 --      goodParts s ps <=> every part is what 01 allows
 --      goodOption s o <=> an option has 1 to 16 good parts and one good constant
 --    goodOptions s os <=> every option is good
@@ -23,6 +27,8 @@ use Rattle.model.specs.declared.name.Part.{Part}
 use Rattle.model.specs.declared.constant.Constant.{Constant}
 use Rattle.model.specs.declared.constant.Constant.the-variants.{Bool as BoolOf, Integer, Float, NotANumber}
 use Rattle.model.specs.declared.constant.Constant.the-variants.{Text, Ident, Message, List as ListOf}
+use Rattle.model.specs.Table.{boolTag, unsignedTag, signedTag, floatTag, stringTag, identTag, messageTag}
+use Rattle.model.specs.Table.{pairFieldTag, pairExtensionTag, pairUrlTag, listTag}
 use Rattle.model.specs.Tree.{PairName, unnamed, byField, byExtension, byUrl, Constants, none, scalar, message, list}
 use Rattle.model.specs.Request.{Option, Request}
 use Rattle.modelform.specs.Leaves.{isUrl, goodPart}
@@ -54,6 +60,32 @@ countOf none = 0
 countOf (scalar l c r) = 1 + countOf r
 countOf (message l i r) = 1 + countOf r
 countOf (list l i r) = 1 + countOf r
+
+-- the tree has an integer's sign, not which of the two tags it had
+abbrev pub kindOf : ℕ → ℕ
+kindOf t = elim (eqb t signedTag) [ true ↦ unsignedTag | false ↦ t ]
+
+abbrev pub valueTag : Constant → ℕ
+valueTag (BoolOf b) = boolTag
+valueTag (Integer m n) = unsignedTag
+valueTag (Float x) = floatTag
+valueTag (NotANumber b) = floatTag
+valueTag (Text p) = stringTag
+valueTag (Ident p) = identTag
+valueTag (Message p) = messageTag
+valueTag (ListOf p) = listTag
+
+abbrev pub withName : PairName → List ℕ → List ℕ
+withName unnamed r = r
+withName (byField p) r = pairFieldTag ∷ r
+withName (byExtension p) r = pairExtensionTag ∷ r
+withName (byUrl p) r = pairUrlTag ∷ r
+
+abbrev pub tagsOf : Constants → List ℕ
+tagsOf none = []
+tagsOf (scalar l c r) = withName l (valueTag c ∷ tagsOf r)
+tagsOf (message l i r) = withName l (messageTag ∷ tagsOf r)
+tagsOf (list l i r) = withName l (listTag ∷ tagsOf r)
 
 abbrev pub goodParts : List ℕ → List Part → Bool
 goodParts s [] = true

@@ -3,8 +3,10 @@
 use mathlib.Core.Path.{_≡_, refl, sym, ap, _∙_}
 use mathlib.Core.Bool.{Bool, true, false}
 use mathlib.Core.List.{List}
-use Prim.Native.Nat.{ℕ, suc, _+_, _<_}
+use Prim.Native.Nat.{ℕ, suc, _+_, _≤_, _<_}
 use native.Mathlib.Decide.{ℕ-discrete}
+use native.Mathlib.Omega.{arith}
+use borrow.Author.Tests.{ltb-true}
 use lib.Dec.{ltb}
 use lib.ListN.{length}
 use Rattle.limits.specs.Figures.{mostSheet, mostFiles, mostMessages}
@@ -78,6 +80,30 @@ files-fine s n (step t a e w) p =
     let front = first-fine-front (judge n t a e) (eachFrom BadSheet judge (n + 1) w) p in
     let rest = first-fine-rest (judge n t a e) (eachFrom BadSheet judge (n + 1) w) p in
     file-more s n t a e w (filesIn s w) front (files-fine s (n + 1) w rest)
+
+file-few : (s : List ℕ) (i a e : ℕ) → judgeFile s i fileTag a e ≡ Fine → i < mostFiles
+unfolding judgeFile
+file-few s i a e = go (ltb i mostFiles) refl
+  where
+    go : (b : Bool) → ltb i mostFiles ≡ b
+        → elim b [
+          | true ↦ onLeaf malformed (leafAt packageTag isRelOrEmpty s a e) λ n m. judgeItems mostMessages false s m e
+          | false ↦ beyond
+        ] ≡ Fine
+        → i < mostFiles
+    go true l q = ltb-true i mostFiles l
+    go false l q = absurd (refused-fine BeyondLimit q)
+
+files-few : (s : List ℕ) (n : ℕ) (w : Walk) → n ≤ mostFiles → eachFrom BadSheet (judgeFile s) n w ≡ Fine
+    → n + length (tagsIn w) ≤ mostFiles
+files-few s n done h p = omega arith
+files-few s n cut h p = absurd (refused-fine BadSheet p)
+files-few s n (step t a e w) h p =
+    let judge = judgeFile s in
+    let front = first-fine-front (judge n t a e) (eachFrom BadSheet judge (n + 1) w) p in
+    let here = file-few s n a e (rw (file-tagged s n t a e front) at front) in
+    let rest = first-fine-rest (judge n t a e) (eachFrom BadSheet judge (n + 1) w) p in
+    omega (arith, files-few s (n + 1) w (omega (arith, here)) rest)
 
 -- ==== the statements
 -- Where a sheet is fine, so are its files.
@@ -163,3 +189,7 @@ module _ (d : ℕ) (fields : Bool) (s : List ℕ) (i to : ℕ) (p : judgeItems d
   unfolding judgeItem judgeItems
   fine-enum y =
       rw y at (first-fine-front (judgeItem (judgeMessage d s) fields s t a e) (judgeItems d fields s e to) opened)
+
+-- A fine sheet has at most 8 files.
+pub fine-few-files : (s : List ℕ) → judgeSheet s ≡ Fine → length (treeOf s) ≤ mostFiles
+fine-few-files s p = omega (arith, fine-files s p, files-few s 0 (walk s 0 (length s)) (omega arith) (fine-sheet s p))
