@@ -66,7 +66,8 @@ optionsIn s (step t a e w) = optionIn s t a e (optionsIn s w)
 
 abbrev pub requestWith : List ℕ → Headed → Request
 requestWith s NoHeading = record { scope = span 0 0; optionsType = span 0 0; options = [] }
-requestWith s (Heads h) = record { scope = h .scope; optionsType = h .«options_type»; options = optionsIn s (walk s (h .options) (length s)) }
+requestWith s (Heads h) =
+    record { scope = h .scope; optionsType = h .«options_type»; options = optionsIn s (walk s (h .options) (length s)) }
 
 unfoldable pub requestOf : List ℕ → Request
 requestOf s = requestWith s (headingOf s)

@@ -10,7 +10,8 @@ use Rattle.field.specs.Leaf.{span, leafAt}
 use Rattle.field.specs.Walk.{walk}
 use Rattle.sheet.specs.Table.{fileTag, messageTag, extensionTag, enumTag, fieldTag, valueTag}
 use Rattle.sheet.specs.Declaration.{hasTypePath, typePathAt, shape, shapeAt, extensionAt, messageFieldAt, valueAt}
-use Rattle.sheet.specs.Tree.{Items, none, message, extension, enumeration, field, File, fileWith, valueIn, itemIn, itemsIn, fileIn, treeOf}
+use Rattle.sheet.specs.Tree.{Items, none, message, extension, enumeration, field, File, fileWith}
+use Rattle.sheet.specs.Tree.{valueIn, itemIn, itemsIn, fileIn, treeOf}
 use Rattle.sheet.specs.Count.{inSheet}
 
 tree : List ℕ → List File
