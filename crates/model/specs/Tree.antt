@@ -1,10 +1,10 @@
 -- The tree that constants stand for, whatever their bytes are: what is no constant, what stands after a pair that is none, and
 -- a constant deeper than 01 allows, is left out.
 --
---                         PairName == the name of a pair; elements of a list and an option's own constant have none
+--                      PairName == the name of a pair; elements of a list and an option's own constant have none
 --                     Constants == constants in order: the first one, and what follows it
 --                        Reader == what reads a constant and puts it before what follows it
---                   pairNameOf t p == the name of the tag t that stands at p
+--                pairNameOf t p == the name of the tag t that stands at p
 --            elementsIn inner w == the elements of a list among the fields w, `inner` reading a constant
 --               pairsIn inner w == the pairs of a message among the fields w
 --        grown inner s l rest c == the constant c, with what it holds, and what follows it

@@ -100,7 +100,7 @@ lastField s end (Whole t a e) = first (judgeConstant mostConstants s t a e) (jud
 unfoldable pub judgeLast : List ℕ → ℕ → ℕ → Verdict
 judgeLast s at end = lastField s end (fieldAt s at end)
 
--- 08: "one or more of 1A direct part, 1B extension part; one constant"
+-- tag 08: "one or more of 1A direct part, 1B extension part; one constant"
 abbrev pub afterName : List ℕ → ℕ → ℕ → Parts → Verdict
 afterName s a e (Refuses w) = Refused w
 afterName s a e (After at) = elim (eqb at a) [ true ↦ malformed | false ↦ judgeLast s at e ]

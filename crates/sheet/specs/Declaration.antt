@@ -62,20 +62,20 @@ abbrev pub declared : Span → Span → Shaped → Declared
 declared name extendee NoShape = NoDeclaration
 declared name extendee (Shapes h) = Declares (record { name = name; extendee = extendee; shape = h })
 
--- 03: "11, 12 extendee path, 13 number ..": name and extendee, then the shape
+-- tag 03: "11, 12 extendee path, 13 number ..": name and extendee, then the shape
 unfoldable pub extensionAt : List ℕ → ℕ → ℕ → Declared
 extensionAt s a e =
     onLeaf NoDeclaration (leafAt nameTag anyBytes s a e) λ n extendees.
     onLeaf NoDeclaration (leafAt extendeeTag anyBytes s extendees e) λ x shapes.
     declared (span n extendees) (span x shapes) (shapeAt s shapes e)
 
--- 05: "as 03 without 12"
+-- tag 05: "as 03 without 12"
 unfoldable pub messageFieldAt : List ℕ → ℕ → ℕ → Declared
 messageFieldAt s a e =
     onLeaf NoDeclaration (leafAt nameTag anyBytes s a e) λ n shapes.
     declared (span n shapes) (span 0 0) (shapeAt s shapes e)
 
--- 06: "11, 17 signed number (4 bytes)"
+-- tag 06: "11, 17 signed number (4 bytes)"
 unfoldable pub valueAt : List ℕ → ℕ → ℕ → Valued
 valueAt s a e =
     onLeaf NoValue (leafAt nameTag anyBytes s a e) λ n numbers.

@@ -52,7 +52,6 @@ pub record File : Type 0 where
   pub body : Span
   pub items : Items
 
--- 04: "11, then 06 values"
 abbrev pub valued : Valued → List Value → List Value
 valued NoValue rest = rest
 valued (Values v) rest = v ∷ rest
@@ -65,6 +64,7 @@ valuesIn s done = []
 valuesIn s cut = []
 valuesIn s (step t a e w) = valueIn s t a e (valuesIn s w)
 
+-- tag 04: "11, then 06 values"
 abbrev pub enumIn : List ℕ → ℕ → ℕ → Items → Items
 enumIn s a e rest = onLeaf rest (leafAt nameTag anyBytes s a e) λ n m. enumeration (span n m) (span m e) (valuesIn s (walk s m e)) rest
 
@@ -94,7 +94,7 @@ itemsWith inner s done = none
 itemsWith inner s cut = none
 itemsWith inner s (step t a e w) = itemIn inner s t a e (itemsWith inner s w)
 
--- 02: "11 name, then any of 02, 03, 04, 05"; "The outermost message .. is depth 1"
+-- tag 02: "11 name, then any of 02, 03, 04, 05"; "The outermost message .. is depth 1"
 abbrev pub messageIn : ℕ → List ℕ → ℕ → ℕ → Items → Items
 messageIn zero s a e rest = rest
 messageIn (suc d) s a e rest =
@@ -103,10 +103,10 @@ messageIn (suc d) s a e rest =
 unfoldable pub itemsIn : ℕ → List ℕ → Walk → Items
 itemsIn d s w = itemsWith (messageIn d s) s w
 
--- 01: "10 package, then any of 02, 03, 04"
 abbrev pub fileWith : Span → Span → Items → File
 fileWith p b i = record { packageName = p; body = b; items = i }
 
+-- tag 01: "10 package, then any of 02, 03, 04"
 unfoldable pub fileIn : List ℕ → ℕ → ℕ → ℕ → List File → List File
 fileIn s t a e rest = elim (eqb t fileTag) [
   | true ↦ onLeaf rest (leafAt packageTag anyBytes s a e) λ n m. fileWith (span n m) (span m e) (itemsIn mostMessages s (walk s m e)) ∷ rest

@@ -35,7 +35,7 @@ malformed = Refused BadSheet
 abbrev pub beyond : Verdict
 beyond = Refused BeyondLimit
 
--- 04: "11, then 06 values"
+-- tag 04: "11, then 06 values"
 unfoldable pub judgeValue : List ℕ → ℕ → ℕ → ℕ → Verdict
 judgeValue s t a e = elim (eqb t valueTag) [ true ↦ judged BadSheet (isValue s a e) | false ↦ malformed ]
 
@@ -58,7 +58,7 @@ judgeItem inner fields s t a e = elim (eqb t messageTag) [
   ]
 ]
 
--- 02: "11 name, then any of 02, 03, 04, 05"; "messages 16 deep", "The outermost message .. is depth 1"
+-- tag 02: "11 name, then any of 02, 03, 04, 05"; "messages 16 deep", "The outermost message .. is depth 1"
 abbrev pub judgeMessage : ℕ → List ℕ → ℕ → ℕ → Verdict
 judgeMessage zero s a e = beyond
 judgeMessage (suc d) s a e =
@@ -67,7 +67,7 @@ judgeMessage (suc d) s a e =
 unfoldable pub judgeItems : ℕ → Bool → List ℕ → ℕ → ℕ → Verdict
 judgeItems d fields s a e = each BadSheet (judgeItem (judgeMessage d s) fields s) (walk s a e)
 
--- 01: "10 package, then any of 02, 03, 04"; "8 files"; package may be empty
+-- tag 01: "10 package, then any of 02, 03, 04"; "8 files"; package may be empty
 unfoldable pub judgeFile : List ℕ → ℕ → ℕ → ℕ → ℕ → Verdict
 judgeFile s i t a e = elim (eqb t fileTag) [
   | true ↦ elim (ltb i mostFiles) [
