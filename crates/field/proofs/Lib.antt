@@ -3,5 +3,6 @@ pub mod WalkLaws
 pub mod LeafLaws
 pub mod Rest
 pub mod EachLaws
+pub mod Seek
 pub mod Tally
 pub mod Controls

@@ -1,4 +1,4 @@
--- The laws of `walk`: the list of fields opens at its first, and no law after these speaks of fuel.
+-- The laws of `walk`: the list of fields opens at its first, and what holds of it by its fields. No law after these speaks of fuel.
 -- Assumes nothing.
 use mathlib.Core.Path.{_≡_, refl, ap, _∙_}
 use mathlib.Core.Bool.{Bool, true, false}
@@ -56,3 +56,25 @@ module _ (s : List ℕ) (at end : ℕ) where
         let b : Bounds at end a e = field-bounds s at end r q t a e g in
         rw (walk-open s end at h, ← q, g)
         (ap (step t a e) (walk-fuel s end (end - at) (end - e) e (omega (arith, b .starts, b .ordered)) (omega arith)))
+
+-- ---- what holds at a place of the fields from there on: each of them lies between the place and the end
+module _ (s : List ℕ) (end : ℕ) (P : ℕ → Walk → Type 0) (onDone : (at : ℕ) → P at done) (onCut : (at : ℕ) → P at cut)
+    (onStep : (at t a e : ℕ) (w : Walk) → Bounds at end a e → P e w → P at (step t a e w)) where
+  follow-holds : (n at : ℕ) → ((e : ℕ) → P e (walkFor n s e end)) → (f : Field) → f ≡ fieldAt s at end
+      → P at (follow f (λ e. walkFor n s e end))
+  follow-holds n at ih Cut q = onCut at
+  follow-holds n at ih (Whole t a e) q =
+      onStep at t a e (walkFor n s e end) (field-bounds s at end (Whole t a e) q t a e refl) (ih e)
+
+  test-holds : (n at : ℕ) → ((e : ℕ) → P e (walkFor n s e end)) → (b : Bool)
+      → P at (elim b [ true ↦ follow (fieldAt s at end) (λ e. walkFor n s e end) | false ↦ done ])
+  test-holds n at ih true = follow-holds n at ih (fieldAt s at end) refl
+  test-holds n at ih false = onDone at
+
+  fuel-holds : (n at : ℕ) → P at (walkFor n s at end)
+  fuel-holds zero at = onDone at
+  fuel-holds (suc n) at = test-holds n at (fuel-holds n) (ltb at end)
+
+  pub walk-holds : (at : ℕ) → P at (walk s at end)
+  unfolding walk
+  walk-holds at = fuel-holds (end - at) at

@@ -11,11 +11,12 @@ use mir.Val.{Fits}
 use lib.ListN.{length, getD, take, length-take}
 use Rattle.limits.specs.Figures.{mostPath, mostCandidate}
 use Rattle.octets.specs.Octets.{Laid}
-use Rattle.path.specs.Path.{Path, split, components, spell, isAbs, rootless, ancestors}
+use Rattle.path.specs.Path.{Path, split, components, spell, allIdent, isRelOrEmpty, isAbs, rootless, isPath, ancestors}
 use Rattle.path.specs.Candidates.{candidates, candidate}
-use Rattle.path.proofs.AbsLaws.{rootless-length-le}
+use Rattle.path.proofs.AbsLaws.{rootless-rel, rootless-length-le}
 use Rattle.path.proofs.PathLaws.{spell-components, components-length-le, spell-take-le, split-spell}
-use Rattle.path.proofs.PathLaws.{spell-append-le, components-dotless, dotless-take}
+use Rattle.path.proofs.PathLaws.{spell-append-le, components-dotless, dotless-take, components-spell}
+use Rattle.path.proofs.PathLaws.{idents-append, idents-take, rel-idents, rel-length-le, path-idents, path-length-le}
 use Rattle.path.proofs.Pieces.{Dotless}
 use Rattle.path.proofs.JoinLaws.{alone-fits}
 use Rattle.path.proofs.PathLaws.{ancestors-at, candidates-abs, candidates-length-abs, candidates-length-rel, candidate-rel}
@@ -89,5 +90,29 @@ candidate-length-le scope name i w h k = go (isAbs name) refl
         let scoped : length (spell cs) ≡ length scope = ap length (spell-components scope) in
         let named : length (spell (components name)) ≡ length name = ap length (spell-components name) in
         rw (candidate-rel scope name e i within) (omega (arith, whole, spell-take-le (length cs - i) cs))
+
+-- the candidates of a name and a scope of the right form are paths of identifiers, read back from their texts
+module _ (scope name : List ℕ) (h : isRelOrEmpty scope ≡ true) (k : isPath name ≡ true)
+    (i : ℕ) (w : i < length (candidates scope name)) where
+  candidate-idents : allIdent (candidate scope name i) ≡ true
+  unfolding candidate
+  candidate-idents = go (isAbs name) refl
+    where
+      go : (b : Bool) → isAbs name ≡ b → allIdent (candidate scope name i) ≡ true
+      go true e =
+          let only : i ≡ 0 = omega (arith, candidates-length-abs scope name e) in
+          rw (only, candidates-abs scope name e) (path-idents name k)
+      go false e =
+          let cs = components scope in
+          let within : i ≤ length cs = candidate-within scope name i w (isAbs name) refl e in
+          let named : allIdent (components name) ≡ true = rw (rootless-rel name e) at (path-idents name k) in
+          rw (candidate-rel scope name e i within)
+          (idents-append (take (length cs - i) cs) (components name) (idents-take (length cs - i) cs (rel-idents scope h)) named)
+
+  pub candidate-components : components (spell (candidate scope name i)) ≡ candidate scope name i
+  candidate-components = components-spell (candidate scope name i) candidate-idents
+
+  pub candidate-text-le : length (spell (candidate scope name i)) ≤ mostCandidate
+  candidate-text-le = candidate-length-le scope name i w (rel-length-le scope h) (path-length-le name k)
 
 pub ruleset candidate-laws = (rootless-short, alone-fits, candidate-whole, candidate-within, candidate-joined, candidate-alone)

@@ -7,7 +7,7 @@ use Prim.Native.Nat.{ℕ}
 use lib.ListN.{length, replicate}
 use Rattle.path.specs.Ident.{isLetter, isDigit, allWord, isIdent}
 use Rattle.path.specs.Path.{Name, dot, onFirst, split, components, spell, allIdent, isRelPath, isRelOrEmpty}
-use Rattle.path.specs.Path.{isAbs, rootless, isPath, parent, ancestors}
+use Rattle.path.specs.Path.{isAbs, rootless, isPath, parent, last, namesFrom, ancestors}
 use Rattle.path.specs.Candidates.{candidates}
 
 abbrev a : Name
@@ -109,6 +109,31 @@ lost = refl
 parents : map parent ([] ∷ (a ∷ []) ∷ (a ∷ b ∷ []) ∷ []) ≡ [] ∷ [] ∷ (a ∷ []) ∷ []
 unfolding parent
 parents = refl
+
+-- of the empty text, `a`, `a.b`, `.b` and `a.`
+lasts : map (λ (t : List ℕ). last (components t)) ([] ∷ a ∷ a·b ∷ (dot ∷ b) ∷ (97 ∷ dot ∷ []) ∷ []) ≡ [] ∷ a ∷ b ∷ b ∷ [] ∷ []
+unfolding last components split onFirst
+lasts = refl
+
+-- `a.b` from its start, from its dot, from behind that, and past its end
+names : map (namesFrom a·b) (0 ∷ 1 ∷ 2 ∷ 4 ∷ []) ≡ (a ∷ b ∷ []) ∷ ([] ∷ b ∷ []) ∷ (b ∷ []) ∷ [] ∷ []
+unfolding namesFrom split onFirst
+names = refl
+
+-- at the end of `a` there is one empty name, and past it none
+names-one : map (namesFrom a) (0 ∷ 1 ∷ 2 ∷ []) ≡ (a ∷ []) ∷ ([] ∷ []) ∷ [] ∷ []
+unfolding namesFrom split onFirst
+names-one = refl
+
+-- the empty text has one empty name at its start, and none past it
+names-none : map (namesFrom []) (0 ∷ 1 ∷ []) ≡ ([] ∷ []) ∷ [] ∷ []
+unfolding namesFrom split onFirst
+names-none = refl
+
+-- `.b` has an empty name before its dot
+names-dot : map (namesFrom (dot ∷ b)) (0 ∷ 1 ∷ 2 ∷ 3 ∷ []) ≡ ([] ∷ b ∷ []) ∷ (b ∷ []) ∷ ([] ∷ []) ∷ [] ∷ []
+unfolding namesFrom split onFirst
+names-dot = refl
 
 ancestors-none : ancestors [] ≡ [] ∷ []
 unfolding ancestors

@@ -1,6 +1,7 @@
 pub mod IdentLaws
 pub mod Pieces
 pub mod PathLaws
+pub mod Names
 pub mod AbsLaws
 pub mod Scans
 pub mod FormLaws

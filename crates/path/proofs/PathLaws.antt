@@ -6,16 +6,17 @@ use mathlib.Core.List.{List, [], _∷_, _++_, map}
 use Prim.Native.Nat.{ℕ, zero, suc, _+_, _-_, _≤_, _<_}
 use native.Mathlib.Decide.{decLt}
 use native.Mathlib.Omega.{arith}
+use borrow.Author.Tests.{leb-true}
 use lib.Dec.{leb}
 use lib.ListN.{length, getD, take, drop, length-append, length-map, List·getD-append}
 use lib.Seq.{getD-at}
 use Rattle.limits.specs.Figures.{mostPath}
 use Rattle.path.specs.Ident.{isIdent}
 use Rattle.path.specs.Path.{Name, Path, dot, untilDot, split, components, spell, allIdent, isRelOrEmpty}
-use Rattle.path.specs.Path.{isAbs, rootless, parent, ancestors}
+use Rattle.path.specs.Path.{isAbs, rootless, isPath, parent, last, ancestors}
 use Rattle.path.specs.Candidates.{candidates, candidate}
 pub use Rattle.path.proofs.IdentLaws.{ident-dotless, ident-some}
-use Rattle.path.proofs.Pieces.{text, piece-length-le, piece-take, piece-last, piece-more}
+use Rattle.path.proofs.Pieces.{text, piece-length-le, piece-take, piece-dotless, piece-dot, piece-last, piece-more}
 use Rattle.path.proofs.Pieces.{pieces-append, pieces-length-le, pieces-spell, pieces-dotless, Dotless, none, more}
 
 -- ---- the pieces of a text
@@ -25,6 +26,13 @@ module _ (t : List ℕ) where
 
   pub until-take : take (length (untilDot t)) t ≡ untilDot t
   until-take = piece-take (text t)
+
+  pub until-dotless : untilDot (untilDot t) ≡ untilDot t
+  until-dotless = piece-dotless (text t)
+
+  -- what follows the first piece, if anything does
+  pub until-dot : length (untilDot t) < length t → getD t (length (untilDot t)) 0 ≡ dot
+  until-dot = piece-dot (text t)
 
   -- the text ends with its first piece
   pub split-last : length (untilDot t) ≡ length t → split t ≡ untilDot t ∷ []
@@ -75,6 +83,11 @@ pub components-append : (a b : List ℕ) → (length a ≡ 0 → ⊥) → (lengt
 components-append a b h k =
     components-split (a ++ dot ∷ b) (λ e. omega (arith, length-append a (dot ∷ b)))
     ∙ rw (components-split a h, components-split b k) (split-append a b)
+
+-- a text up to its last dot, and what follows that
+pub components-snoc : (a b : List ℕ) → untilDot b ≡ b → components (a ++ dot ∷ b) ≡ split a ++ (b ∷ [])
+components-snoc a b h =
+    components-split (a ++ dot ∷ b) (λ e. omega (arith, length-append a (dot ∷ b))) ∙ rw (split-append a b, split-dotless b h)
 
 -- ---- the text of a path
 spell-length-le : (n : Name) (p : Path) → length n ≤ length (spell (n ∷ p))
@@ -146,6 +159,25 @@ pub rel-idents : (t : List ℕ) → isRelOrEmpty t ≡ true → allIdent (compon
 unfolding isRelOrEmpty
 rel-idents t h = and-eq-true-iff (leb (length t) mostPath) (allIdent (components t)) .0 h .1
 
+pub rel-length-le : (t : List ℕ) → isRelOrEmpty t ≡ true → length t ≤ mostPath
+unfolding isRelOrEmpty
+rel-length-le t h = leb-true (length t) mostPath (and-eq-true-iff (leb (length t) mostPath) (allIdent (components t)) .0 h .0)
+
+-- the empty text has no component, and one piece
+idents-components : (t : List ℕ) → allIdent (split t) ≡ true → allIdent (components t) ≡ true
+unfolding components allIdent
+idents-components [] h = refl
+idents-components (c ∷ cs) h = h
+
+pub path-idents : (t : List ℕ) → isPath t ≡ true → allIdent (components (rootless t)) ≡ true
+unfolding isPath
+path-idents t h =
+    idents-components (rootless t) (and-eq-true-iff (leb (length t) mostPath) (allIdent (split (rootless t))) .0 h .1)
+
+pub path-length-le : (t : List ℕ) → isPath t ≡ true → length t ≤ mostPath
+unfolding isPath
+path-length-le t h = leb-true (length t) mostPath (and-eq-true-iff (leb (length t) mostPath) (allIdent (split (rootless t))) .0 h .0)
+
 -- the text of one path followed by another
 pub components-joined : (a b : List ℕ) → isRelOrEmpty a ≡ true → isRelOrEmpty b ≡ true
     → components (spell (components a ++ components b)) ≡ components a ++ components b
@@ -175,16 +207,30 @@ parent-spell ((c ∷ n) ∷ []) d = ap parent (split-spell (c ∷ n) [] d)
 parent-spell ([] ∷ m ∷ p) d = ap parent (split-spell [] (m ∷ p) d)
 parent-spell ((c ∷ n) ∷ m ∷ p) d = ap parent (split-spell (c ∷ n) (m ∷ p) d)
 
--- the text of the parent ends before the last dot, and is empty where there is none
-pub parent-append : (a b : List ℕ) → untilDot b ≡ b → spell (parent (components (a ++ dot ∷ b))) ≡ a
-parent-append a b h =
-    let some : length (a ++ dot ∷ b) ≡ 0 → ⊥ = λ e. omega (arith, length-append a (dot ∷ b)) in
-    rw (components-split (a ++ dot ∷ b) some, split-append a b, split-dotless b h, parent-snoc (split a) b) (spell-split a)
-
-pub parent-dotless : (t : List ℕ) → untilDot t ≡ t → spell (parent (components t)) ≡ []
-unfolding components parent spell
+-- what holds no dot has no parent
+pub parent-dotless : (t : List ℕ) → untilDot t ≡ t → parent (components t) ≡ []
+unfolding components parent
 parent-dotless [] h = refl
 parent-dotless (c ∷ cs) h = rw (split-dotless (c ∷ cs) h)
+
+-- ---- the last name
+pub last-append : (p : Path) (n : Name) → last (p ++ (n ∷ [])) ≡ n
+unfolding last
+last-append [] n = refl
+last-append (m ∷ []) n = refl
+last-append (m ∷ l ∷ p) n = last-append (l ∷ p) n
+
+-- what holds no dot is one name
+pub last-dotless : (t : List ℕ) → untilDot t ≡ t → last (components t) ≡ t
+unfolding components last
+last-dotless [] h = refl
+last-dotless (c ∷ cs) h = rw (split-dotless (c ∷ cs) h)
+
+-- a path that is not empty is its parent and its last name
+pub parent-last : (n : Name) (p : Path) → parent (n ∷ p) ++ (last (n ∷ p) ∷ []) ≡ n ∷ p
+unfolding parent last
+parent-last n [] = refl
+parent-last n (m ∷ p) = ap (λ (q : Path). n ∷ q) (parent-last m p)
 
 -- ---- ancestors
 pub ancestors-length : (p : Path) → length (ancestors p) ≡ suc (length p)

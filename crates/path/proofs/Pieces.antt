@@ -6,7 +6,7 @@ use Prim.Native.Nat.{ℕ, suc, _≤_, _<_}
 use native.Mathlib.Decide.{ℕ-discrete, decLt}
 use native.Mathlib.Omega.{arith}
 use borrow.Author.Tests.{ne-eqb}
-use lib.ListN.{length, take, drop}
+use lib.ListN.{length, getD, take, drop}
 use Rattle.path.specs.Path.{Name, Path, dot, untilDot, onFirst, split, spell}
 
 pub data Text : List ℕ → Type 0 where
@@ -42,6 +42,18 @@ unfolding untilDot
 piece-take ends = refl
 piece-take (dotted k) = refl
 piece-take (other {c} {cs} n k) = rw (until-other c cs n) (ap (λ (t : List ℕ). c ∷ t) (piece-take k))
+
+pub piece-dotless : {t : List ℕ} → Text t → untilDot (untilDot t) ≡ untilDot t
+unfolding untilDot
+piece-dotless ends = refl
+piece-dotless (dotted k) = refl
+piece-dotless (other {c} {cs} n k) = rw (until-other c cs n, until-other c (untilDot cs) n, piece-dotless k)
+
+pub piece-dot : {t : List ℕ} → Text t → length (untilDot t) < length t → getD t (length (untilDot t)) 0 ≡ dot
+unfolding untilDot
+piece-dot ends h = absurd (omega arith)
+piece-dot (dotted k) h = refl
+piece-dot (other {c} {cs} n k) h = let e = rw (until-other c cs n) at h in rw (until-other c cs n) (piece-dot k (omega arith))
 
 pub piece-last : {t : List ℕ} → Text t → length (untilDot t) ≡ length t → split t ≡ untilDot t ∷ []
 unfolding split untilDot onFirst

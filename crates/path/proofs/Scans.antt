@@ -7,14 +7,16 @@ use Prim.Native.Nat.{ℕ, suc, _+_, _-_, _≤_, _<_}
 use native.Mathlib.Numerals.{add-one}
 use native.Mathlib.Omega.{arith}
 use borrow.Author.Tests.{not-true, not-false}
-use lib.ListN.{length, getD, take, drop, length-drop, drop-of-length-le, take-append-drop}
-use lib.Seq.{drop-cons, drop-drop, take-take, take-length, length-take-le, getD-take}
+use lib.ListN.{length, getD, take, drop, drop-of-length-le, take-append-drop}
+use lib.Seq.{drop-cons, drop-length, take-take, take-length, length-take-le}
 use Rattle.path.specs.Ident.{isIdent}
 use Rattle.path.specs.Path.{dot, untilDot, split, components, spell, allIdent, parent, ancestors}
+use Rattle.path.specs.Last.{LastAt}
 use Rattle.path.proofs.Pieces.{text, until-other, headed}
-use Rattle.path.proofs.PathLaws.{until-length-le, until-take, split-last, split-more, spell-components}
-use Rattle.path.proofs.PathLaws.{components-nil, components-split, components-dotless, dotless-take}
-use Rattle.path.proofs.PathLaws.{parent-dotless, parent-append, parent-spell, parent-take, ancestors-at}
+use Rattle.path.proofs.PathLaws.{spell-split, spell-components, components-nil, components-split, components-snoc}
+use Rattle.path.proofs.PathLaws.{components-dotless, dotless-take, parent-dotless, parent-snoc, parent-spell, parent-take}
+use Rattle.path.proofs.PathLaws.{last-dotless, last-append, ancestors-at}
+use Rattle.path.proofs.Names.{names-at, names-past, end-after, end-within, next-less, piece-is, pieces-last, pieces-more}
 
 -- ---- component_end: no dot from `at` up to i
 pub record Ending (s : List ℕ) (at i : ℕ) : Type 0 where
@@ -40,30 +42,6 @@ module _ (s : List ℕ) (at i : ℕ) (k : Ending s at i) where
       record { within = omega arith; rest = k .rest ∙ rw one (omega arith) }
 
 pub ruleset ending-laws = (ending-start, ending-over, ending-dot, ending-next)
-
--- ---- the component from `at` up to e, as `component_end` finds e
-module _ (s : List ℕ) (at e : ℕ) (q : e ≡ at + length (untilDot (drop at s))) where
-  pub end-after : at ≤ e
-  end-after = omega arith
-
-  piece-is : take (e - at) (drop at s) ≡ untilDot (drop at s)
-  piece-is = let n : e - at ≡ length (untilDot (drop at s)) = omega arith in rw n (until-take (drop at s))
-
-  module _ (h : at ≤ length s) where
-    pub end-within : e ≤ length s
-    end-within = omega (arith, until-length-le (drop at s), length-drop at s)
-
-    pieces-last : length s ≤ e → split (drop at s) ≡ take (e - at) (drop at s) ∷ []
-    pieces-last l = let w = end-within in rw piece-is (split-last (drop at s) (omega (arith, length-drop at s)))
-
-  module _ (l : e < length s) where
-    pub next-less : length s - (e + 1) < length s - at
-    next-less = omega arith
-
-    pieces-more : split (drop at s) ≡ take (e - at) (drop at s) ∷ split (drop (e + 1) s)
-    pieces-more =
-        let m : at + suc (length (untilDot (drop at s))) ≡ e + 1 = omega arith in
-        rw piece-is (split-more (drop at s) (omega (arith, length-drop at s)) ∙ rw (drop-drop, m))
 
 -- ---- all_ident: the components from `from` up to `at` are identifiers
 pub record Checked (s : List ℕ) (from at : ℕ) : Type 0 where
@@ -113,51 +91,87 @@ module _ (s : List ℕ) (n at : ℕ) (k : Counted s n at) (e : ℕ) (q : e ≡ a
 
 pub ruleset counted-laws = (end-after, end-within, next-less, count-empty, counted-start, counted-last, counted-next)
 
--- ---- parent_end: the first `end` bytes have no dot from i on
-pub record Tail (s : List ℕ) (end i : ℕ) : Type 0 where
-  pub within : i ≤ end
-  pub inside : end ≤ length s
-  pub clear : untilDot (drop i (take end s)) ≡ drop i (take end s)
+-- ---- last_at: no dot from i on
+pub record Tail (s : List ℕ) (i : ℕ) : Type 0 where
+  pub within : i ≤ length s
+  pub clear : untilDot (drop i s) ≡ drop i s
 
-pub tail-start : (s : List ℕ) (end : ℕ) → end ≤ length s → Tail s end end
+pub tail-start : (s : List ℕ) → Tail s (length s)
 unfolding untilDot
-tail-start s end h =
-    let short : length (take end s) ≤ end = omega (arith, length-take-le end s h) in
-    record { within = omega arith; inside = h; clear = rw (drop-of-length-le (take end s) short) }
+tail-start s = record { within = omega arith; clear = rw (drop-length s) }
 
-module _ (s : List ℕ) (end i : ℕ) (k : Tail s end i) where
-  pub tail-none : i ≤ 0 → take 0 s ≡ spell (parent (components (take end s)))
-  tail-none h = let z : i ≡ 0 = omega arith in sym (parent-dotless (take end s) (rw z at (k .clear)))
+module _ (s : List ℕ) (i : ℕ) (k : Tail s i) where
+  pub tail-none : i ≤ 0 → LastAt s 0
+  tail-none h =
+      let z : i ≡ 0 = omega arith in
+      let clear : untilDot s ≡ s = rw z at (k .clear) in
+      record {
+        within = omega arith;
+        name = sym (last-dotless s clear);
+        before = names-past [] 1 (omega arith) ∙ sym (parent-dotless s clear);
+      }
 
   module _ (h : 0 < i) where
-    tail-cons : drop (i - 1) (take end s) ≡ getD s (i - 1) 0 ∷ drop i (take end s)
-    tail-cons =
-        let w : i - 1 < end = omega (arith, k .within) in
-        let one : suc (i - 1) ≡ i = omega arith in
-        drop-cons (take end s) (i - 1) 0 (omega (arith, length-take-le end s (k .inside))) ∙ rw (one, getD-take end s (i - 1) 0 w)
+    tail-cons : drop (i - 1) s ≡ getD s (i - 1) 0 ∷ drop i s
+    tail-cons = let one : suc (i - 1) ≡ i = omega arith in drop-cons s (i - 1) 0 (omega (arith, k .within)) ∙ rw one
 
-    pub tail-next : (getD s (i - 1) 0 ≡ dot → ⊥) → Tail s end (i - 1)
+    pub tail-next : (getD s (i - 1) 0 ≡ dot → ⊥) → Tail s (i - 1)
     tail-next n =
-        let clear = until-other (getD s (i - 1) 0) (drop i (take end s)) n ∙ ap (λ (t : List ℕ). getD s (i - 1) 0 ∷ t) (k .clear) in
-        record { within = omega (arith, k .within); inside = k .inside; clear = rw tail-cons clear }
+        let clear = until-other (getD s (i - 1) 0) (drop i s) n ∙ ap (λ (t : List ℕ). getD s (i - 1) 0 ∷ t) (k .clear) in
+        record { within = omega (arith, k .within); clear = rw tail-cons clear }
 
-    pub tail-dot : getD s (i - 1) 0 ≡ dot → take (i - 1) s ≡ spell (parent (components (take end s)))
+    pub tail-dot : getD s (i - 1) 0 ≡ dot → LastAt s i
     tail-dot e =
-        let cut : take end s ≡ take (i - 1) s ++ dot ∷ drop i (take end s) =
-        sym (take-append-drop (i - 1) (take end s)) ∙ rw (tail-cons, e, take-take (i - 1) end s (omega (arith, k .within))) in
-        sym (rw cut (parent-append (take (i - 1) s) (drop i (take end s)) (k .clear)))
+        let cut : s ≡ take (i - 1) s ++ dot ∷ drop i s = sym (take-append-drop (i - 1) s) ∙ rw (tail-cons, e) in
+        let names : components s ≡ split (take (i - 1) s) ++ (drop i s ∷ []) =
+        ap components cut ∙ components-snoc (take (i - 1) s) (drop i s) (k .clear) in
+        let first : 1 - i ≡ 0 = omega arith in
+        record {
+          within = k .within;
+          name = rw (names, last-append);
+          before = rw (first, names, parent-snoc) (names-at (take (i - 1) s) 0 (omega arith));
+        }
 
 pub ruleset tail-laws = (tail-start, tail-none, tail-next, tail-dot)
 
--- ---- parent_of: the parent of the first `length s` bytes
+-- ---- a front of the text, as a slice
 pub front-length : (s : List ℕ) (r : ℕ) → r ≤ length s → r ≡ length (take r s)
 front-length s r h = sym (length-take-le r s h)
 
+-- ---- parent_end: the parent of the first `end` bytes ends at the dot before their last component
+module _ (s : List ℕ) (end r : ℕ) (k : LastAt (take end s) r) where
+  pub parent-none : r ≡ 0 → take 0 s ≡ spell (parent (components (take end s)))
+  unfolding spell
+  parent-none z = ap spell (sym (names-past [] 1 (omega arith)) ∙ (rw z at (k .before)))
+
+  module _ (w : end ≤ length s) where
+    pub parent-within : r - 1 ≤ end
+    parent-within = omega (arith, k .within, length-take-le end s w)
+
+    pub parent-dot : (r ≡ 0 → ⊥) → take (r - 1) s ≡ spell (parent (components (take end s)))
+    parent-dot n =
+        let first : 1 - r ≡ 0 = omega (arith, n) in
+        let names = rw (first, take-take (r - 1) end s parent-within, names-at (take (r - 1) s) 0 (omega arith)) at (k .before) in
+        sym (spell-split (take (r - 1) s)) ∙ ap spell names
+
+pub ruleset parent-end-laws = (front-length, parent-none, parent-within, parent-dot)
+
+-- ---- parent_of: the parent of the first `length s` bytes
 pub parent-whole : (s : List ℕ) (r : ℕ) → take r s ≡ spell (parent (components (take (length s) s)))
     → take r s ≡ spell (parent (components s))
 parent-whole s r p = p ∙ rw (take-length s)
 
 pub ruleset parent-laws = (front-length, parent-whole)
+
+-- ---- before: the text up to the byte before a place
+module _ (s : List ℕ) (at : ℕ) where
+  pub before-start : at ≡ 0 → take 0 s ≡ take (at - 1) s
+  before-start z = rw z
+
+  pub before-length : at ≤ suc (length s) → at - 1 ≡ length (take (at - 1) s)
+  before-length h = front-length s (at - 1) (omega arith)
+
+pub ruleset before-laws = (before-start, before-length)
 
 -- ---- ancestor: the first `end` bytes are the k-th ancestor
 pub record Climbed (s : List ℕ) (i end k : ℕ) : Type 0 where

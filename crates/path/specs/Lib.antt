@@ -1,3 +1,4 @@
 pub mod Ident
 pub mod Path
+pub mod Last
 pub mod Candidates

@@ -14,6 +14,8 @@
 --       rootless t ==  t without its leading dot
 --         isPath t <=> t is a path that may lead with a dot
 --         parent p ==  p without its last component
+--           last p ==  its last component, the empty name where there is none
+--   namesFrom t at ==  the pieces of t from the place `at` on; none where that is past the end
 --      ancestors p ==  p and its parents, the longest first, the empty one last
 --
 -- Assumes nothing.
@@ -21,7 +23,7 @@ use mathlib.Core.Bool.{Bool, true, false, _&&_}
 use mathlib.Core.List.{List, [], _∷_, _++_, map}
 use Prim.Native.Nat.{ℕ}
 use lib.Dec.{leb, eqb}
-use lib.ListN.{length}
+use lib.ListN.{length, drop}
 use Rattle.limits.specs.Figures.{mostPath}
 use Rattle.path.specs.Ident.{isIdent}
 
@@ -84,6 +86,14 @@ unfoldable pub parent : Path → Path
 parent [] = []
 parent (n ∷ []) = []
 parent (n ∷ m ∷ ns) = n ∷ parent (m ∷ ns)
+
+unfoldable pub last : Path → Name
+last [] = []
+last (n ∷ []) = n
+last (n ∷ m ∷ ns) = last (m ∷ ns)
+
+unfoldable pub namesFrom : List ℕ → ℕ → Path
+namesFrom t at = elim (leb at (length t)) [ true ↦ split (drop at t) | false ↦ [] ]
 
 unfoldable pub ancestors : Path → List Path
 ancestors [] = [] ∷ []

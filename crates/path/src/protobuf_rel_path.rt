@@ -1,10 +1,11 @@
 // Relative paths: identifiers joined by dots, with no leading dot.
 ghost use mathlib.Core.Path.{_≡_};
 ghost use mathlib.Core.List.{[], _++_};
-ghost use Prim.Native.Nat.{_+_, _≤_};
+ghost use Prim.Native.Nat.{suc, _+_, _-_, _≤_};
 ghost use lib.ListN.{length, drop, take, getD};
 ghost use Rattle.octets.specs.Octets.{Laid};
 ghost use Rattle.path.specs.Path.{untilDot, split, components, spell, allIdent, isRelPath, isRelOrEmpty, parent, ancestors};
+ghost use Rattle.path.specs.Last.{LastAt};
 use crate::protobuf_ident::is_ident;
 use limits::MOST_PATH;
 
@@ -80,19 +81,30 @@ pub fn count(s: &[u8]) -> usize
     }
 }
 
+// Where the last component starts: after the last dot, or at the start.
+pub fn last_at(s: &[u8]) -> usize
+    ensures { λ r. ⌜ LastAt (now (s .entry)) r ⌝ }
+{
+    let mut i = s.len();
+    while 0 < i {
+        if s[i - 1] == b'.' {
+            return i;
+        }
+        i -= 1;
+    }
+    0
+}
+
 // Where the parent of the first `end` bytes ends: their last dot, or the start.
 fn parent_end(s: &[u8], end: usize) -> usize
     requires { ⌜ end ≤ length (now s) ⌝ }
     ensures { λ r. ⌜ (r ≤ end) × (take r (now (s .entry)) ≡ spell (parent (components (take end (now (s .entry)))))) ⌝ }
 {
-    let mut i = end;
-    while 0 < i {
-        i -= 1;
-        if s[i] == b'.' {
-            return i;
-        }
+    let at = last_at(&s[..end]);
+    if at == 0 {
+        return 0;
     }
-    0
+    at - 1
 }
 
 // The path without its last component.
@@ -101,6 +113,17 @@ pub fn parent_of(s: &[u8]) -> &[u8]
 {
     let end = parent_end(s, s.len());
     &s[..end]
+}
+
+// The text before the dot that stands before the component at `at`, empty where there is none.
+pub fn before(s: &[u8], at: usize) -> &[u8]
+    requires { ⌜ at ≤ suc (length (now s)) ⌝ }
+    ensures { λ r. ⌜ now r ≡ take (at - 1) (now (s .entry)) ⌝ }
+{
+    if at == 0 {
+        return &s[..0];
+    }
+    &s[..at - 1]
 }
 
 // The path itself for 0, its parent for 1, and so on up to the empty one.

@@ -3,3 +3,4 @@ pub mod Spelling
 pub mod Outcomes
 pub mod VerdictLaws
 pub mod Controls
+pub mod Copying

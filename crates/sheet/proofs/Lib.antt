@@ -2,5 +2,7 @@ pub mod ShapeLaws
 pub mod DeclarationLaws
 pub mod PlaceLaws
 pub mod TreeLaws
+pub mod MemberLaws
+pub mod LyingLaws
 pub mod CountLaws
 pub mod Controls

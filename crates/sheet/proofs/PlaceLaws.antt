@@ -29,10 +29,10 @@ name-lies k s a e n m p =
       inside = leaf-inside k anyBytes s a e (At n m) (sym p) n m refl;
     }
 
-record Places (end : ℕ) (d : Declaration) : Type 0 where
-  name : Placed end (d .name .from) (d .name .to)
-  extendee : Placed end (d .extendee .from) (d .extendee .to)
-  path : Placed end (d .shape .path .from) (d .shape .path .to)
+pub record Places (end : ℕ) (d : Declaration) : Type 0 where
+  pub name : Placed end (d .name .from) (d .name .to)
+  pub extendee : Placed end (d .extendee .from) (d .extendee .to)
+  pub path : Placed end (d .shape .path .from) (d .shape .path .to)
 
 declared-places : (s : List ℕ) (at end : ℕ) (n x : Span) (d : Declaration) → Placed end (n .from) (n .to) → Placed end (x .from) (x .to)
     → (p : Shaped) → p ≡ shapeAt s at end → Declares d ≡ declared n x p → Places end d
@@ -44,7 +44,7 @@ declared-places s at end n x d i j (Shapes h) q p =
 none-declared : (d : Declaration) → Declares d ≡ NoDeclaration → ⊥
 none-declared d p = let z : _≡_ {A = ℕ} 0 1 = cc in omega arith
 
-extension-places : (s : List ℕ) (a e : ℕ) (d : Declaration) → Declares d ≡ extensionAt s a e → Places e d
+pub extension-places : (s : List ℕ) (a e : ℕ) (d : Declaration) → Declares d ≡ extensionAt s a e → Places e d
 unfolding extensionAt
 extension-places s a e d =
     on-leaf-some NoDeclaration (Declares d) (leafAt nameTag anyBytes s a e) _ (Places e d) (none-declared d) λ n extendees y.
@@ -52,7 +52,7 @@ extension-places s a e d =
     declared-places s shapes e (span n extendees) (span x shapes) d (name-lies nameTag s a e n extendees y)
     (name-lies extendeeTag s extendees e x shapes z) (shapeAt s shapes e) refl
 
-field-places : (s : List ℕ) (a e : ℕ) (d : Declaration) → Declares d ≡ messageFieldAt s a e → Places e d
+pub field-places : (s : List ℕ) (a e : ℕ) (d : Declaration) → Declares d ≡ messageFieldAt s a e → Places e d
 unfolding messageFieldAt
 field-places s a e d =
     on-leaf-some NoDeclaration (Declares d) (leafAt nameTag anyBytes s a e) _ (Places e d) (none-declared d) λ n shapes y.

@@ -2,3 +2,4 @@ pub mod Table
 pub mod Declaration
 pub mod Tree
 pub mod Count
+pub mod Members

@@ -15,8 +15,8 @@ use wire::types::TYPE_MESSAGE;
 // What an extension and a field have after their names.
 pub struct Shape {
     pub number: u32,
-    pub typ: usize,
-    pub label: usize,
+    pub typ: u8,
+    pub label: u8,
     // The path of the type; 0 and 0 where the type has none.
     pub path: Span,
 }
@@ -98,14 +98,14 @@ fn shape_at(s: &[u8], at: usize, end: usize) -> Shaped
     let Leaf::At { from: l, to: paths } = sized_at(s, labels, end, table::LABEL, 1) else {
         return Shaped::NoShape;
     };
-    let typ = octets::byte_at(s, t);
-    let Leaf::At { from, to } = type_path_at(s, paths, end, typ) else {
+    let typ = octets::octet_at(s, t);
+    let Leaf::At { from, to } = type_path_at(s, paths, end, typ as usize) else {
         return Shaped::NoShape;
     };
     Shaped::Shapes(Shape {
         number: octets::u32_at(s, n),
         typ: typ,
-        label: octets::byte_at(s, l),
+        label: octets::octet_at(s, l),
         path: Span { from: from, to: to },
     })
 }

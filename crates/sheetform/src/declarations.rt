@@ -23,13 +23,13 @@ fn good_shape(s: &[u8], h: Shape) -> bool
     if (h.number < 1) | (MOST_NUMBER < h.number as u64) {
         return false;
     }
-    if (h.typ < 1) | (MOST_TYPE < h.typ) {
+    if (h.typ < 1) | (MOST_TYPE < h.typ as usize) {
         return false;
     }
-    if (h.label < 1) | (MOST_LABEL < h.label) {
+    if (h.label < 1) | (MOST_LABEL < h.label as usize) {
         return false;
     }
-    if !has_type_path(h.typ) {
+    if !has_type_path(h.typ as usize) {
         return true;
     }
     let from = h.path.from;

@@ -21,6 +21,7 @@ shape-at-spec = tie.close (tie.spec
     (λ c. search (needs, shape-laws))
     (λ c. search (needs, shape-laws))
     (λ c κs. search (needs, size-laws))
+    (λ c. search (needs, shape-laws))
     (λ c κs. search (needs, shape-laws))
     (λ c. search (needs, shape-laws))
     (λ c. search (needs, shape-laws))

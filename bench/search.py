@@ -1,0 +1,114 @@
+#!/usr/bin/env python3
+"""Times the search beside the same walk in Rust, in one run, and prints the ratio.
+
+usage: search.py [ROUNDS]
+
+The input is a sheet of 200 extensions and 1,000 look-ups from nested scopes. benchfind is the program that `rt check` builds under
+target/bin; search.rs is built here with `rustc -O`. Both read the same input and have to print the same line. Time is the least of ROUNDS runs
+of either program, taken in turn, less that of a run that looks nothing up; where valgrind is there, instructions are counted as well.
+Run it from the root of the repository.
+"""
+import os
+import random
+import re
+import shutil
+import struct
+import subprocess
+import sys
+import tempfile
+import time
+
+TIMES = 20
+
+
+def f(tag, payload=b""):
+    return bytes([tag]) + struct.pack(">H", len(payload)) + payload
+
+
+def ext(name, number):
+    leaves = f(0x11, name) + f(0x12, b"google.protobuf.FieldOptions") + f(0x13, struct.pack(">I", number)) + f(0x14, b"\x0d") + f(0x15, b"\1")
+    return f(3, leaves)
+
+
+def sheet():
+    """Four files of 50 extensions: ten in the file, four messages with four each, a message in each of these with six."""
+    data, where, number = b"", [], 50000
+    for n in range(4):
+        package = b"plant.site%d" % n
+        items = b""
+
+        def some(count, path):
+            nonlocal number
+            out = b""
+            for _ in range(count):
+                number += 1
+                out += ext(b"setpoint%d" % number, number)
+                where.append((path, b"setpoint%d" % number))
+            return out
+
+        items += some(10, package)
+        for unit in range(4):
+            outer = package + b".Unit%d" % unit
+            inner = outer + b".Dispatch"
+            body = some(4, outer)
+            items += f(2, f(0x11, b"Unit%d" % unit) + body + f(2, f(0x11, b"Dispatch") + some(6, inner)))
+        data += f(1, f(0x10, package) + items)
+    assert len(where) == 200
+    return data, where
+
+
+def look_ups(where):
+    """A thousand: a name from the innermost scope of its file, so that some candidates miss; one in ten has a leading dot, one in ten misses."""
+    random.seed(1)
+    pairs = b""
+    for i in range(1000):
+        path, name = random.choice(where)
+        scope = b".".join(path.split(b".")[:2] + [b"Unit%d" % random.randrange(4), b"Dispatch"])
+        if path.count(b".") > 1:
+            scope = path + (b".Dispatch" if path.count(b".") == 2 else b"")
+        if i % 10 == 0:
+            name = b"." + path + b"." + name
+        if i % 10 == 1:
+            name = b"nothing"
+        pairs += f(0x42, scope) + f(0x43, name)
+    return pairs
+
+
+def timed(program, text):
+    start = time.perf_counter()
+    out = subprocess.run([program], input=text, stdout=subprocess.PIPE, check=True).stdout
+    return time.perf_counter() - start, out
+
+
+def instructions(program, text, folder):
+    out = os.path.join(folder, "callgrind.out")
+    run = subprocess.run(["valgrind", "--tool=callgrind", "--callgrind-out-file=" + out, program], input=text, capture_output=True, check=True)
+    return int(re.search(rb"Collected : (\d+)", run.stderr).group(1))
+
+
+def main():
+    rounds = int(sys.argv[1]) if len(sys.argv) > 1 else 20
+    data, where = sheet()
+    pairs = look_ups(where)
+    texts = {n: (f(0x40, data) + f(0x44, struct.pack(">I", n)) + pairs).hex().encode() for n in (0, 1, TIMES)}
+    print("sheet %d bytes, 200 extensions, 1000 look-ups, %d times" % (len(data), TIMES))
+    with tempfile.TemporaryDirectory() as folder:
+        rust = os.path.join(folder, "search")
+        subprocess.run(["rustc", "-O", "--edition", "2021", "-o", rust, "bench/search.rs"], check=True)
+        programs = [os.path.abspath("target/bin/benchfind"), rust]
+        lines = [timed(p, texts[TIMES])[1] for p in programs]
+        assert lines[0] == lines[1], lines
+        print(lines[0].decode().strip())
+        best = {(p, n): 1e9 for p in programs for n in (0, TIMES)}
+        for _ in range(rounds):
+            for p in programs:
+                for n in (0, TIMES):
+                    best[p, n] = min(best[p, n], timed(p, texts[n])[0])
+        spent = [(best[p, TIMES] - best[p, 0]) / (TIMES * 1000) * 1e6 for p in programs]
+        print("time a look-up: here %.2f us, Rust %.2f us, ratio %.2f" % (*spent, spent[0] / spent[1]))
+        if shutil.which("valgrind"):
+            counts = [(instructions(p, texts[1], folder) - instructions(p, texts[0], folder)) / 1000 for p in programs]
+            print("instructions a look-up: here %.0f, Rust %.0f, ratio %.2f" % (*counts, counts[0] / counts[1]))
+
+
+main()

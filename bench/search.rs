@@ -1,0 +1,296 @@
+// The search of optfind's bench in Rust: the same walk over the same bytes, function by function. Reads the same input as benchfind and
+// prints the same line. Names are those of the Rattle code.
+use std::io::Read;
+
+const FILE: u8 = 0x01;
+const MESSAGE: u8 = 0x02;
+const EXTENSION: u8 = 0x03;
+const PACKAGE: u8 = 0x10;
+const NAME: u8 = 0x11;
+const EXTENDEE: u8 = 0x12;
+const NUMBER: u8 = 0x13;
+const TYPE: u8 = 0x14;
+const LABEL: u8 = 0x15;
+const TYPE_PATH: u8 = 0x16;
+const MOST_MESSAGES: usize = 16;
+const MOST_CANDIDATE: usize = 511;
+
+#[derive(Clone, Copy)]
+struct Span {
+    from: usize,
+    to: usize,
+}
+
+#[derive(Clone, Copy)]
+struct LookupScope {
+    file: usize,
+    body: Span,
+    left: usize,
+}
+
+#[derive(Clone, Copy)]
+struct Cursor {
+    next: usize,
+    at: usize,
+    file: usize,
+}
+
+#[allow(dead_code)]
+#[derive(Clone, Copy)]
+struct Shape {
+    number: u32,
+    typ: u8,
+    label: u8,
+    path: Span,
+}
+
+#[allow(dead_code)]
+#[derive(Clone, Copy)]
+struct Declaration {
+    name: Span,
+    extendee: Span,
+    shape: Shape,
+}
+
+#[allow(dead_code)]
+struct Found {
+    file: usize,
+    declaration: Declaration,
+}
+
+// ---- fields
+fn field_at(s: &[u8], at: usize, end: usize) -> Option<(u8, usize, usize)> {
+    if end - at < 3 {
+        return None;
+    }
+    let n = s[at + 1] as usize * 256 + s[at + 2] as usize;
+    let from = at + 3;
+    if end - from < n {
+        return None;
+    }
+    Some((s[at], from, from + n))
+}
+
+fn leaf_at(s: &[u8], at: usize, end: usize, tag: u8) -> Option<Span> {
+    let (found, from, to) = field_at(s, at, end)?;
+    if found != tag {
+        return None;
+    }
+    Some(Span { from, to })
+}
+
+fn sized_at(s: &[u8], at: usize, end: usize, tag: u8, size: usize) -> Option<Span> {
+    leaf_at(s, at, end, tag).filter(|p| p.to - p.from == size)
+}
+
+fn shape_at(s: &[u8], at: usize, end: usize) -> Option<Shape> {
+    let n = sized_at(s, at, end, NUMBER, 4)?;
+    let t = sized_at(s, n.to, end, TYPE, 1)?;
+    let l = sized_at(s, t.to, end, LABEL, 1)?;
+    let typ = s[t.from];
+    let path = if matches!(typ, 10 | 11 | 14) {
+        leaf_at(s, l.to, end, TYPE_PATH)?
+    } else {
+        Span { from: 0, to: 0 }
+    };
+    let last = if matches!(typ, 10 | 11 | 14) { path.to } else { l.to };
+    if last != end {
+        return None;
+    }
+    let number = u32::from_be_bytes([s[n.from], s[n.from + 1], s[n.from + 2], s[n.from + 3]]);
+    Some(Shape { number, typ, label: s[l.from], path })
+}
+
+fn extension_at(s: &[u8], from: usize, to: usize) -> Option<Declaration> {
+    let name = leaf_at(s, from, to, NAME)?;
+    let extendee = leaf_at(s, name.to, to, EXTENDEE)?;
+    let shape = shape_at(s, extendee.to, to)?;
+    Some(Declaration { name, extendee, shape })
+}
+
+// ---- one scope
+fn named_at(s: &[u8], from: usize, to: usize, name: &[u8]) -> Option<Span> {
+    leaf_at(s, from, to, NAME).filter(|p| &s[p.from..p.to] == name)
+}
+
+fn down(s: &[u8], scope: LookupScope, name: &[u8]) -> Option<LookupScope> {
+    if scope.left == 0 {
+        return None;
+    }
+    let mut at = scope.body.from;
+    while at < scope.body.to {
+        let (tag, from, to) = field_at(s, at, scope.body.to)?;
+        if tag == MESSAGE {
+            if let Some(p) = named_at(s, from, to, name) {
+                return Some(LookupScope { file: scope.file, body: Span { from: p.to, to }, left: scope.left - 1 });
+            }
+        }
+        at = to;
+    }
+    None
+}
+
+fn extension_named(s: &[u8], scope: LookupScope, name: &[u8]) -> Option<Declaration> {
+    let mut at = scope.body.from;
+    while at < scope.body.to {
+        let (tag, from, to) = field_at(s, at, scope.body.to)?;
+        if tag == EXTENSION && named_at(s, from, to, name).is_some() {
+            if let Some(d) = extension_at(s, from, to) {
+                return Some(d);
+            }
+        }
+        at = to;
+    }
+    None
+}
+
+// ---- the scopes at a path
+fn component_end(s: &[u8], at: usize) -> usize {
+    let mut i = at;
+    while i < s.len() && s[i] != b'.' {
+        i += 1;
+    }
+    i
+}
+
+fn before(s: &[u8], at: usize) -> &[u8] {
+    if at == 0 {
+        return &s[..0];
+    }
+    &s[..at - 1]
+}
+
+fn follow(s: &[u8], names: &[u8], next: usize, scope: LookupScope) -> Option<LookupScope> {
+    let mut reached = scope;
+    let mut at = next;
+    while at <= names.len() {
+        let end = component_end(names, at);
+        reached = down(s, reached, &names[at..end])?;
+        at = end + 1;
+    }
+    Some(reached)
+}
+
+fn next_here(s: &[u8], names: &[u8], cursor: Cursor) -> Option<(LookupScope, Cursor)> {
+    let mut at = cursor.at;
+    let mut file = cursor.file;
+    while at < s.len() {
+        let (tag, from, to) = field_at(s, at, s.len())?;
+        at = to;
+        if tag != FILE {
+            continue;
+        }
+        let Some(p) = leaf_at(s, from, to, PACKAGE) else {
+            continue;
+        };
+        let index = file;
+        file += 1;
+        if &s[p.from..p.to] == before(names, cursor.next) {
+            let scope = LookupScope { file: index, body: Span { from: p.to, to }, left: MOST_MESSAGES };
+            if let Some(reached) = follow(s, names, cursor.next, scope) {
+                return Some((reached, Cursor { next: cursor.next, at, file }));
+            }
+        }
+    }
+    None
+}
+
+fn next_scope(s: &[u8], names: &[u8], cursor: Cursor) -> Option<(LookupScope, Cursor)> {
+    let mut c = cursor;
+    loop {
+        if let Some(next) = next_here(s, names, c) {
+            return Some(next);
+        }
+        if names.len() < c.next {
+            return None;
+        }
+        c = Cursor { next: component_end(names, c.next) + 1, at: 0, file: 0 };
+    }
+}
+
+// ---- extensions
+fn find_extension_by_abs_path(s: &[u8], path: &[u8]) -> Option<Found> {
+    if path.is_empty() {
+        return None;
+    }
+    let last = path.iter().rposition(|b| *b == b'.').map_or(0, |i| i + 1);
+    let names = before(path, last);
+    let mut c = Cursor { next: if last == 0 { 1 } else { 0 }, at: 0, file: 0 };
+    loop {
+        let (scope, rest) = next_scope(s, names, c)?;
+        c = rest;
+        if let Some(declaration) = extension_named(s, scope, &path[last..]) {
+            return Some(Found { file: scope.file, declaration });
+        }
+    }
+}
+
+fn candidate(scope: &[u8], path: &[u8], i: usize, room: &mut [u8]) -> usize {
+    let mut end = scope.len();
+    for _ in 0..i {
+        end = scope[..end].iter().rposition(|b| *b == b'.').unwrap_or(0);
+    }
+    let mut n = 0;
+    if end > 0 {
+        room[..end].copy_from_slice(&scope[..end]);
+        room[end] = b'.';
+        n = end + 1;
+    }
+    room[n..n + path.len()].copy_from_slice(path);
+    n + path.len()
+}
+
+fn find_extension_by_path(s: &[u8], scope: &[u8], path: &[u8], room: &mut [u8]) -> Option<Found> {
+    if path.first() == Some(&b'.') {
+        return find_extension_by_abs_path(s, &path[1..]);
+    }
+    let count = if scope.is_empty() { 1 } else { scope.iter().filter(|b| **b == b'.').count() + 2 };
+    for i in 0..count {
+        let n = candidate(scope, path, i, room);
+        if let Some(found) = find_extension_by_abs_path(s, &room[..n]) {
+            return Some(found);
+        }
+    }
+    None
+}
+
+// ---- the same tests of form as benchfind makes
+fn is_ident(s: &[u8]) -> bool {
+    !s.is_empty() && s.len() <= 64 && !s[0].is_ascii_digit() && s.iter().all(|b| b.is_ascii_alphanumeric() || *b == b'_')
+}
+
+fn is_rel_path(s: &[u8]) -> bool {
+    s.len() <= 255 && s.split(|b| *b == b'.').all(is_ident)
+}
+
+fn is_path(s: &[u8]) -> bool {
+    s.len() <= 255 && is_rel_path(s.strip_prefix(b".").unwrap_or(s))
+}
+
+fn main() {
+    let mut text = String::new();
+    std::io::stdin().read_to_string(&mut text).unwrap();
+    let digits: Vec<u8> = text.bytes().filter(|b| b.is_ascii_hexdigit()).collect();
+    let input: Vec<u8> = digits.chunks(2).map(|c| u8::from_str_radix(std::str::from_utf8(c).unwrap(), 16).unwrap()).collect();
+    let sheet = leaf_at(&input, 0, input.len(), 0x40).unwrap();
+    let times = sized_at(&input, sheet.to, input.len(), 0x44, 4).unwrap();
+    let count = u32::from_be_bytes([input[times.from], input[times.from + 1], input[times.from + 2], input[times.from + 3]]);
+    let mut room = [0u8; MOST_CANDIDATE];
+    let (mut found, mut sum) = (0u32, 0u32);
+    for _ in 0..count {
+        let mut at = times.to;
+        while at < input.len() {
+            let scope = leaf_at(&input, at, input.len(), 0x42).unwrap();
+            let path = leaf_at(&input, scope.to, input.len(), 0x43).unwrap();
+            let (a, b) = (&input[scope.from..scope.to], &input[path.from..path.to]);
+            if (a.is_empty() || is_rel_path(a)) && is_path(b) {
+                if let Some(f) = find_extension_by_path(&input[sheet.from..sheet.to], a, b, &mut room) {
+                    found = found.wrapping_add(1);
+                    sum = sum.wrapping_add(f.declaration.shape.number);
+                }
+            }
+            at = path.to;
+        }
+    }
+    println!("found {} sum {}", found, sum);
+}

@@ -1,0 +1,15 @@
+-- `benchfind::run` meets its contract.
+-- Assumes nothing.
+use Rattle.benchfind.proofs.CaseLaws.{case-laws}
+use borrow.Author.Needs.{needs}
+use Rattle.benchfind.proofs.run.Statement.{statement}
+use Rattle.benchfind.proofs.run.Tie as tie
+
+pub run-spec : {M : Type 1} → statement M
+run-spec = tie.close (tie.spec
+    (λ c κs. search (needs, case-laws))
+    (λ c. search (needs, case-laws))
+    (λ c. search (needs, case-laws))
+    (λ c. search (needs, case-laws))
+    (λ c κs. search (needs, case-laws))
+    (λ c. search (needs, case-laws)))

@@ -1,0 +1,57 @@
+-- A loop over sibling fields that looks for the first of them that answers something: what f answers of each, and `none` where that is
+-- nothing. `or` takes the first of two answers that is something.
+--
+--                seek none or f w ==  the first answer of the fields w
+--   Seeking none or f s from to i <-> at the place i, what is left of the fields between two places has their first answer
+--
+-- Assumes nothing.
+use mathlib.Core.Path.{_≡_, sym, ap, _∙_}
+use mathlib.Core.List.{List}
+use Prim.Native.Nat.{ℕ, _≤_, _<_}
+use lib.ListN.{length}
+use Rattle.field.specs.declared.Field.{Field}
+use Rattle.field.specs.declared.Field.the-variants.{Whole, Cut}
+use Rattle.field.specs.Field.{fieldAt}
+use Rattle.field.specs.Walk.{Walk, done, cut, step, walk}
+use Rattle.field.proofs.FieldLaws.{field-ordered}
+use Rattle.field.proofs.Rest.{Rest, rest-start, rest-end, rest-cut, rest-step, rest-next}
+use Rattle.field.proofs.EachLaws.{field-within, field-less}
+
+abbrev pub seek : {A : Type 0} → A → (A → A → A) → (ℕ → ℕ → ℕ → A) → Walk → A
+seek none or f done = none
+seek none or f cut = none
+seek none or f (step t a e w) = or (f t a e) (seek none or f w)
+
+-- what is said of a list of fields is what a loop finds there, if it is so field by field
+module _ {A : Type 0} (none : A) (or : A → A → A) (f : ℕ → ℕ → ℕ → A) (F : Walk → A) (atDone : F done ≡ none) (atCut : F cut ≡ none)
+    (atStep : (t a e : ℕ) (w : Walk) → F (step t a e w) ≡ or (f t a e) (F w)) where
+  pub seek-is : (w : Walk) → F w ≡ seek none or f w
+  seek-is done = atDone
+  seek-is cut = atCut
+  seek-is (step t a e w) = atStep t a e w ∙ ap (or (f t a e)) (seek-is w)
+
+-- ---- the loop
+pub record Seeking {A : Type 0} (none : A) (or : A → A → A) (f : ℕ → ℕ → ℕ → A) (s : List ℕ) (from to i : ℕ) : Type 0 where
+  pub left : Rest (seek none or f (walk s from to)) (seek none or f) s to i
+
+pub seek-start : {A : Type 0} (none : A) (or : A → A → A) (f : ℕ → ℕ → ℕ → A) (s : List ℕ) (from to : ℕ) → from ≤ to → to ≤ length s
+    → Seeking none or f s from to from
+seek-start none or f s from to h k = record { left = rest-start (seek none or f) s from to h k }
+
+-- `or` is by cases, so that what is asked of it holds by computation
+module _ {A : Type 0} {none : A} {or : A → A → A} {f : ℕ → ℕ → ℕ → A} {s : List ℕ} {from to i : ℕ} (k : Seeking none or f s from to i) where
+  pub seek-end : to ≤ i → none ≡ seek none or f (walk s from to)
+  seek-end h = sym (rest-end _ (seek none or f) s to i (k .left) h)
+
+  module _ (h : i < to) (r : Field) (q : r ≡ fieldAt s i to) where
+    pub seek-cut : r ≡ Cut → none ≡ seek none or f (walk s from to)
+    seek-cut g = sym (rest-cut _ (seek none or f) s to i (k .left) h r q g)
+
+    module _ (t a e : ℕ) (g : r ≡ Whole t a e) (u : A) (p : u ≡ f t a e) where
+      pub seek-hit : (x : A) → u ≡ x → ((y : A) → or x y ≡ x) → x ≡ seek none or f (walk s from to)
+      seek-hit x y l = sym (rest-step _ (seek none or f) s to i (k .left) h r q t a e g ∙ rw (← p, y) (l _))
+
+      pub seek-next : u ≡ none → ((y : A) → or none y ≡ y) → Seeking none or f s from to e
+      seek-next y l = record { left = rest-next _ (seek none or f) s to i (k .left) h r q t a e g (seek none or f) (rw (← p, y) (l _)) }
+
+pub ruleset seek-laws = (seek-start, seek-end, seek-cut, seek-hit, seek-next, field-ordered, field-within, field-less)

@@ -1,0 +1,205 @@
+-- The laws of `put_found`, `find` and `found_name`: what was found lies in the sheet, so its words fit; and the ways to the answers.
+-- Assumes nothing.
+use mathlib.Core.Path.{_≡_, refl, sym, ap, _∙_}
+use mathlib.Core.Bool.{Bool, true, false, _&&_}
+use mathlib.Core.List.{List, [], _∷_}
+use mathlib.Core.Option.{Option, none, some}
+use Prim.Native.Nat.{ℕ, _-_, _≤_, _<_}
+use native.Mathlib.Omega.{arith}
+use borrow.Author.Tests.{ltb-false, leb-true}
+use mir.Syntax.{w32}
+use mir.Val.{Fits}
+use lib.Dec.{ltb, leb}
+use lib.ListN.{length}
+use Rattle.limits.specs.Figures.{mostSheet}
+use Rattle.octets.specs.Octets.{part}
+use Rattle.reply.specs.declared.Refusal.{Refusal}
+use Rattle.reply.specs.declared.Refusal.the-variants.{BeyondLimit}
+use Rattle.reply.specs.declared.Verdict.{Verdict}
+use Rattle.reply.specs.declared.Verdict.the-variants.{Fine, Refused as Bad}
+use Rattle.reply.specs.declared.Answer.{Answer}
+use Rattle.reply.specs.Reply.{refusedBy}
+use Rattle.reply.specs.Outcome.{give, Answered}
+use Rattle.reply.proofs.Outcomes.{answered-refused}
+use Rattle.reply.proofs.VerdictLaws.{refused-fine, first-fine-front}
+use Rattle.field.specs.declared.Leaf.{Leaf}
+use Rattle.field.specs.declared.Leaf.the-variants.{At, Not}
+use Rattle.field.specs.declared.Span.{Span}
+use Rattle.field.specs.Leaf.{onlyIf}
+use Rattle.sheetform.specs.Form.{judgeSheet}
+use Rattle.search.specs.declared.extension.Found.{Found}
+use Rattle.search.specs.declared.extension.Resolved.{Resolved}
+use Rattle.search.specs.declared.extension.Resolved.the-variants.{Field, Refused}
+use Rattle.search.specs.Lookup.{findExtensionByPath}
+use Rattle.search.proofs.LiesLaws.{FoundLies, found-lies}
+use Rattle.find.specs.Find.{judgeAll, foundOr, unless, finding, wordsOf, worded, findWords, foundName, spanIn, nameFor}
+use Rattle.find.specs.Small.{wordBound, SmallSpan, Small}
+
+-- ---- what was found
+sheet-short : (s : List ℕ) → judgeSheet s ≡ Fine → length s ≤ mostSheet
+unfolding judgeSheet
+sheet-short s h = go (ltb mostSheet (length s)) refl
+  where
+    go : (b : Bool) → ltb mostSheet (length s) ≡ b → length s ≤ mostSheet
+    go false p = ltb-false mostSheet (length s) p
+    go true p = absurd (refused-fine BeyondLimit (sym (simp (judgeSheet, p)) ∙ h))
+
+record Finds (s c p : List ℕ) (f : Found) : Type 0 where
+  fine : judgeAll s c p ≡ Fine
+  is : findExtensionByPath s c p ≡ some f
+
+finds : (s c p : List ℕ) (f : Found) → finding s c p ≡ Field f → Finds s c p f
+unfolding finding
+finds s c p f h = go (judgeAll s c p) refl (findExtensionByPath s c p) refl h
+  where
+    go : (v : Verdict) → judgeAll s c p ≡ v → (o : Option Found) → findExtensionByPath s c p ≡ o
+        → unless v (foundOr o) ≡ Field f → Finds s c p f
+    go (Bad w) x o y e = absurd (let z : _≡_ {A = ℕ} 0 1 = cc in omega arith)
+    go Fine x none y e = absurd (let z : _≡_ {A = ℕ} 0 1 = cc in omega arith)
+    go Fine x (some g) y e = record { fine = x; is = y ∙ ap some (let z : g ≡ f = cc in z) }
+
+module _ (s c p : List ℕ) (r : Resolved) (q : r ≡ finding s c p) (f : Found) (g : r ≡ Field f) where
+  lies : FoundLies s f
+  lies = found-lies s f c p (finds s c p f (sym q ∙ g) .is)
+
+  short : length s ≤ mostSheet
+  unfolding judgeAll
+  short = sheet-short s (first-fine-front (judgeSheet s) _ (finds s c p f (sym q ∙ g) .fine))
+
+  pub finding-small : Small f
+  finding-small =
+      let file : f .file < wordBound = omega (arith, lies .counted, short) in
+      let name = lies .places .name in
+      let extendee = lies .places .extendee in
+      let path = lies .places .path in
+      record {
+        file = file;
+        name = record { ordered = name .ordered; below = omega (arith, name .inside, short) };
+        extendee = record { ordered = extendee .ordered; below = omega (arith, extendee .inside, short) };
+        path = record { ordered = path .ordered; below = omega (arith, path .inside, short) };
+      }
+
+  pub name-ordered : f .declaration .name .from ≤ f .declaration .name .to
+  name-ordered = lies .places .name .ordered
+
+  pub name-within : f .declaration .name .to ≤ length s
+  name-within = lies .places .name .inside
+
+-- ---- put_found
+module _ (p : Span) (k : SmallSpan p) where
+  pub place-fits : Fits w32 (p .from)
+  place-fits = record { fits = omega (arith, k .ordered, k .below) }
+
+  pub size-fits : Fits w32 (p .to - p .from)
+  size-fits = record { fits = omega (arith, k .ordered, k .below) }
+
+  pub size-ordered : p .from ≤ p .to
+  size-ordered = k .ordered
+
+module _ (f : Found) (k : Small f) where
+  pub file-fits : Fits w32 (f .file)
+  file-fits = record { fits = k .file }
+
+  pub small-name : SmallSpan (f .declaration .name)
+  small-name = k .name
+
+  pub small-extendee : SmallSpan (f .declaration .extendee)
+  small-extendee = k .extendee
+
+  pub small-path : SmallSpan (f .declaration .shape .path)
+  small-path = k .path
+
+module _ (f : Found) (name-at name-size extendee-at extendee-size path-at path-size : ℕ)
+    (a : name-at ≡ f .declaration .name .from) (b : name-size ≡ f .declaration .name .to - f .declaration .name .from)
+    (c : extendee-at ≡ f .declaration .extendee .from)
+    (d : extendee-size ≡ f .declaration .extendee .to - f .declaration .extendee .from)
+    (e : path-at ≡ f .declaration .shape .path .from)
+    (g : path-size ≡ f .declaration .shape .path .to - f .declaration .shape .path .from) (l l′ : List ℕ) (r : Answer) where
+  pub words-given :
+      Answered (give
+      (f .file ∷ name-at ∷ name-size ∷ extendee-at ∷ extendee-size ∷ f .declaration .shape .number ∷ f .declaration .shape .typ
+      ∷ f .declaration .shape .label ∷ path-at ∷ path-size ∷ [])) l l′ r
+      → Answered (give (wordsOf f)) l l′ r
+  unfolding wordsOf
+  words-given h = rw (← b, ← d, ← g, ← a, ← c, ← e) h
+
+-- ---- find
+module _ (s c p l : List ℕ) (r : Resolved) (q : r ≡ finding s c p) (a : Answer) where
+  pub find-refused : (w : Refusal) → r ≡ Refused w → a ≡ refusedBy w → Answered (findWords s c p) l l a
+  unfolding findWords
+  find-refused w g e = rw e (answered-refused (findWords s c p) l w (ap worded (sym q ∙ g)))
+
+  pub find-found : (f : Found) → r ≡ Field f → (l′ : List ℕ) → Answered (give (wordsOf f)) l l′ a → Answered (findWords s c p) l l′ a
+  unfolding findWords
+  find-found f g l′ h = rw (← q, g) h
+
+-- ---- span_in
+module _ (t : List ℕ) (p : Span) where
+  pub span-is : (leb (p .from) (p .to) && leb (p .to) (length t)) ≡ true → At (p .from) (p .to) ≡ spanIn t p
+  unfolding spanIn
+  span-is h = rw h
+
+  pub span-not : (leb (p .from) (p .to) && leb (p .to) (length t)) ≡ false → Not ≡ spanIn t p
+  unfolding spanIn
+  span-not h = rw h
+
+record Inside (t : List ℕ) (a e : ℕ) : Type 0 where
+  ordered : a ≤ e
+  within : e ≤ length t
+
+span-inside : (t : List ℕ) (p : Span) (a e : ℕ) → At a e ≡ spanIn t p → Inside t a e
+unfolding spanIn
+span-inside t p a e = go (leb (p .from) (p .to)) refl (leb (p .to) (length t)) refl
+  where
+    go : (b : Bool) → leb (p .from) (p .to) ≡ b → (b′ : Bool) → leb (p .to) (length t) ≡ b′
+        → At a e ≡ onlyIf (b && b′) (At (p .from) (p .to)) → Inside t a e
+    go false x b′ x′ q = absurd (let z : _≡_ {A = ℕ} 0 1 = cc in omega arith)
+    go true x false x′ q = absurd (let z : _≡_ {A = ℕ} 0 1 = cc in omega arith)
+    go true x true x′ q =
+        let u : a ≡ p .from = cc in
+        let v : e ≡ p .to = cc in
+        rw (u, v) record { ordered = leb-true (p .from) (p .to) x; within = leb-true (p .to) (length t) x′ }
+
+module _ (t : List ℕ) (p : Span) (r : Leaf) (q : r ≡ spanIn t p) (a e : ℕ) (g : r ≡ At a e) where
+  pub span-ordered : a ≤ e
+  span-ordered = span-inside t p a e (sym g ∙ q) .ordered
+
+  pub span-within : e ≤ length t
+  span-within = span-inside t p a e (sym g ∙ q) .within
+
+-- ---- found_name
+module _ (s t : List ℕ) (c p : Span) (r : Leaf) (q : r ≡ spanIn t c) where
+  pub name-no-scope : r ≡ Not → [] ≡ nameFor s t c p
+  unfolding nameFor
+  name-no-scope g = rw (← q, g)
+
+  module _ (a e : ℕ) (g : r ≡ At a e) (r′ : Leaf) (q′ : r′ ≡ spanIn t p) where
+    pub name-no-path : r′ ≡ Not → [] ≡ nameFor s t c p
+    unfolding nameFor
+    name-no-path g′ = rw (← q, g, ← q′, g′)
+
+    pub name-for : (n m : ℕ) → r′ ≡ At n m → (x : List ℕ) → x ≡ foundName s (part t a e) (part t n m) → x ≡ nameFor s t c p
+    unfolding nameFor
+    name-for n m g′ x h = rw (← q, g, ← q′, g′) h
+
+-- ---- name_in
+module _ (s c p : List ℕ) (r : Resolved) (q : r ≡ finding s c p) where
+  pub name-refused : (w : Refusal) → r ≡ Refused w → [] ≡ foundName s c p
+  unfolding foundName
+  name-refused w g = rw (← q, g)
+
+  pub name-found : (f : Found) → r ≡ Field f → part s (f .declaration .name .from) (f .declaration .name .to) ≡ foundName s c p
+  unfolding foundName
+  name-found f g = rw (← q, g)
+
+pub ruleset span-laws = (place-fits, size-fits, size-ordered)
+
+pub ruleset put-found-laws = (file-fits, small-name, small-extendee, small-path, words-given)
+
+pub ruleset find-laws = (finding-small, find-refused, find-found)
+
+pub ruleset name-in-laws = (name-ordered, name-within, name-refused, name-found)
+
+pub ruleset span-in-laws = (span-is, span-not)
+
+pub ruleset found-name-laws = (span-ordered, span-within, name-no-scope, name-no-path, name-for)

@@ -1,0 +1,22 @@
+-- `find::put_found` meets its contract.
+-- Assumes nothing.
+use Rattle.find.proofs.FindLaws.{put-found-laws}
+use borrow.Author.Needs.{needs}
+use Rattle.find.proofs.put_found.Statement.{statement}
+use Rattle.find.proofs.put_found.Tie as tie
+
+pub put-found-spec : {M : Type 1} → statement M
+put-found-spec = tie.close (tie.spec
+    (λ c. search (needs, put-found-laws))
+    (λ c κs. search (needs, put-found-laws))
+    (λ c κs. search (needs, put-found-laws))
+    (λ c κs. search (needs, put-found-laws))
+    (λ c κs. search (needs, put-found-laws))
+    (λ c. search (needs, put-found-laws))
+    (λ c. search (needs, put-found-laws))
+    (λ c κs. search (needs, put-found-laws))
+    (λ c κs. search (needs, put-found-laws))
+    (λ c. search (needs, put-found-laws))
+    (λ c κs. search (needs, put-found-laws))
+    (λ c. search (needs, put-found-laws))
+    (λ c. search (needs, put-found-laws)))

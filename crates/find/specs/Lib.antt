@@ -1,0 +1,2 @@
+pub mod Find
+pub mod Small

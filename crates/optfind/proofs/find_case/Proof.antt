@@ -1,0 +1,23 @@
+-- `optfind::find_case` meets its contract.
+-- Assumes nothing.
+use Rattle.optfind.proofs.CaseLaws.{case-laws}
+use borrow.Author.Needs.{needs}
+use Rattle.optfind.proofs.find_case.Statement.{statement}
+use Rattle.optfind.proofs.find_case.Tie as tie
+
+pub find-case-spec : {M : Type 1} → statement M
+find-case-spec = tie.close (tie.spec
+    (λ c κs. search (needs, case-laws))
+    (λ c. search (needs, case-laws))
+    (λ c. search (needs, case-laws))
+    (λ c. search (needs, case-laws))
+    (λ c κs. search (needs, case-laws))
+    (λ c. search (needs, case-laws))
+    (λ c. search (needs, case-laws))
+    (λ c. search (needs, case-laws))
+    (λ c κs. search (needs, case-laws))
+    (λ c. search (needs, case-laws))
+    (λ c. search (needs, case-laws))
+    (λ c. search (needs, case-laws))
+    (λ c κs. search (needs, case-laws))
+    (λ c. search (needs, case-laws)))

@@ -1,0 +1,23 @@
+-- `optfind::run` meets its contract.
+-- Assumes nothing.
+use Prim.Native.Nat.{_-_, _≤_}
+use lib.ListN.{length}
+use Rattle.optfind.proofs.CaseLaws.{case-laws}
+use borrow.Author.Needs.{needs}
+use Rattle.optfind.proofs.run.Statement.{statement}
+use Rattle.optfind.proofs.run.Tie as tie
+
+abbrev Inv-loop : tie.InvT-loop
+Inv-loop s at₀ at = at ≤ length s
+
+abbrev μ-loop : tie.MeasureT-loop
+μ-loop s at₀ at = length s - at
+
+pub run-spec : {M : Type 1} → statement M
+run-spec = tie.close (tie.spec Inv-loop μ-loop
+    (λ c. search (needs, case-laws))
+    (λ c κs. search (needs, case-laws))
+    (λ c. search (needs, case-laws))
+    (λ c. search (needs, case-laws))
+    (λ c. search (needs, case-laws))
+    (λ c. search (needs, case-laws)))

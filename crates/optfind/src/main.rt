@@ -1,0 +1,133 @@
+// Finds extensions. Input: 40 a sheet, 42 a scope, 43 a path; several of these one after the other are several cases, each answered in its
+// turn. On 0 it says which extension the path finds.
+ghost use mathlib.Core.Path.{_≡_};
+ghost use Prim.Native.Nat.{_≤_};
+ghost use lib.ListN.{length};
+ghost use Rattle.field.specs.Leaf.{Lies};
+use console::input::Input;
+use console::input::MOST_BYTES;
+use console::input::field_of;
+use console::output::number;
+use console::output::text;
+use field::Leaf;
+use field::Span;
+
+const SHEET: u8 = 0x40;
+
+const SCOPE: u8 = 0x42;
+
+const PATH: u8 = 0x43;
+
+// The words of an answer of `find`.
+const WORDS: usize = 10;
+
+// A line of a word and some bytes.
+fn line(what: &[u8], bytes: &[u8]) {
+    text(what);
+    text(bytes);
+    text(b"\n");
+}
+
+// A line of a word and a number.
+fn numbered(what: &[u8], n: u32) {
+    text(what);
+    number(n as u64);
+    text(b"\n");
+}
+
+// So many bytes from a place on, empty where they are not all there.
+fn part(s: &[u8], at: u32, n: u32) -> &[u8] {
+    let from = at as usize;
+    let size = n as usize;
+    if s.len() < from {
+        return &s[..0];
+    }
+    if s.len() - from < size {
+        return &s[..0];
+    }
+    &s[from..from + size]
+}
+
+// What the words of `find` say of the sheet.
+fn tell(sheet: &[u8], name: &[u8], words: &[u32])
+    requires { ⌜ length (now words) ≡ 10 ⌝ }
+{
+    line(b"name ", name);
+    numbered(b"number ", words[5]);
+    line(b"extendee ", part(sheet, words[3], words[4]));
+    numbered(b"type ", words[6]);
+    numbered(b"label ", words[7]);
+    if words[9] != 0 {
+        line(b"of ", part(sheet, words[8], words[9]));
+    }
+    numbered(b"file ", words[0]);
+    numbered(b"place ", words[1]);
+}
+
+// One case, of spans of the input.
+fn answer_case(s: &[u8], sheet: Span, scope: Span, path: Span)
+    requires { ⌜ Lies sheet (now s) × Lies scope (now s) × Lies path (now s) ⌝ }
+{
+    let from = sheet.from;
+    let to = sheet.to;
+    let a = scope.from;
+    let e = scope.to;
+    let n = path.from;
+    let m = path.to;
+    let mut words = [0u32; WORDS];
+    let answer = find::find(&s[from..to], &s[a..e], &s[n..m], &mut words);
+    console::output::answer(answer);
+    if answer.reply == 0 {
+        tell(
+            &s[from..to],
+            find::found_name(&s[from..to], s, scope, path),
+            &words,
+        );
+    }
+}
+
+// One case, and where the next one starts; 0 where the input is no such fields.
+fn find_case(s: &[u8], at: usize) -> usize
+    requires { ⌜ at ≤ length (now s) ⌝ }
+    ensures { λ r. ⌜ r ≤ length (now (s .entry)) ⌝ }
+{
+    let Leaf::At { from, to } = field_of(s, at, SHEET) else {
+        return 0;
+    };
+    let Leaf::At { from: a, to: e } = field_of(s, to, SCOPE) else {
+        return 0;
+    };
+    let Leaf::At { from: n, to: m } = field_of(s, e, PATH) else {
+        return 0;
+    };
+    answer_case(
+        s,
+        Span { from: from, to: to },
+        Span { from: a, to: e },
+        Span { from: n, to: m },
+    );
+    m
+}
+
+// All cases, of which there has to be one.
+fn run(s: &[u8]) {
+    let mut at = 0;
+    loop {
+        let next = find_case(s, at);
+        if next <= at {
+            return;
+        }
+        if next == s.len() {
+            return;
+        }
+        at = next;
+    }
+}
+
+fn main() {
+    let mut bytes = [0u8; MOST_BYTES];
+    let Input::Bytes(n) = console::input::read(&mut bytes) else {
+        return;
+    };
+    run(&bytes[..n]);
+}

@@ -1,0 +1,14 @@
+-- `protobuf_rel_path::before` meets its contract.
+-- Assumes nothing.
+use Rattle.path.proofs.Scans.{before-laws}
+use borrow.Author.Needs.{needs}
+use Rattle.path.proofs.protobuf_rel_path.before.Statement.{statement}
+use Rattle.path.proofs.protobuf_rel_path.before.Tie as tie
+
+pub before-spec : {M : Type 1} → statement M
+before-spec = tie.close (tie.spec
+    (λ c. search (needs, before-laws))
+    (λ c. search (needs, before-laws))
+    (λ c. search (needs, before-laws))
+    (λ c. search (needs, before-laws))
+    (λ c. search (needs, before-laws)))

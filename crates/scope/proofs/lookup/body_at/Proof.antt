@@ -1,0 +1,15 @@
+-- `lookup::body_at` meets its contract.
+-- Assumes nothing.
+use Rattle.scope.proofs.LookupLaws.{body-at-laws}
+use borrow.Author.Needs.{needs}
+use Rattle.scope.proofs.lookup.body_at.Statement.{statement}
+use Rattle.scope.proofs.lookup.body_at.Tie as tie
+
+pub body-at-spec : {M : Type 1} → statement M
+body-at-spec = tie.close (tie.spec
+    (λ c. search (needs, body-at-laws))
+    (λ c κs. search (needs, body-at-laws))
+    (λ c. search (needs, body-at-laws))
+    (λ c. search (needs, body-at-laws))
+    (λ c. search (needs, body-at-laws))
+    (λ c. search (needs, body-at-laws)))

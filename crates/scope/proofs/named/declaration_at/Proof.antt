@@ -1,0 +1,15 @@
+-- `named::declaration_at` meets its contract.
+-- Assumes nothing.
+use Rattle.scope.proofs.NamedLaws.{declaration-at-laws}
+use borrow.Author.Needs.{needs}
+use Rattle.scope.proofs.named.declaration_at.Statement.{statement}
+use Rattle.scope.proofs.named.declaration_at.Tie as tie
+
+pub declaration-at-spec : {M : Type 1} → statement M
+declaration-at-spec = tie.close (tie.spec
+    (λ c. search (needs, declaration-at-laws))
+    (λ c κs. search (needs, declaration-at-laws))
+    (λ c. search (needs, declaration-at-laws))
+    (λ c. search (needs, declaration-at-laws))
+    (λ c κs. search (needs, declaration-at-laws))
+    (λ c. search (needs, declaration-at-laws)))

@@ -1,0 +1,32 @@
+-- `named::value_named` meets its contract.
+-- Assumes nothing.
+use Prim.Native.Nat.{_-_}
+use Rattle.sheet.specs.declared.declaration.Valued.the-variants.{NoValue}
+use Rattle.scope.specs.Steps.{valueNamedAt}
+use Rattle.field.proofs.Seek.{Seeking}
+use Rattle.scope.proofs.Answers.{orValued}
+use Rattle.scope.proofs.NamedLaws.{value-named-laws}
+use borrow.Author.Needs.{needs}
+use Rattle.scope.proofs.named.value_named.Statement.{statement}
+use Rattle.scope.proofs.named.value_named.Tie as tie
+
+abbrev Inv-loop : tie.InvT-loop
+Inv-loop s name end at₀ at = Seeking NoValue orValued (valueNamedAt name s) s at₀ end at
+
+abbrev μ-loop : tie.MeasureT-loop
+μ-loop s name end at₀ at = end - at
+
+pub value-named-spec : {M : Type 1} → statement M
+value-named-spec = tie.close (tie.spec Inv-loop μ-loop
+    (λ c. search (needs, value-named-laws))
+    (λ c κs. search (needs, value-named-laws))
+    (λ c. search (needs, value-named-laws))
+    (λ c. search (needs, value-named-laws))
+    (λ c. search (needs, value-named-laws))
+    (λ c κs. search (needs, value-named-laws))
+    (λ c. search (needs, value-named-laws))
+    (λ c. search (needs, value-named-laws))
+    (λ c. search (needs, value-named-laws))
+    (λ c. search (needs, value-named-laws))
+    (λ c. search (needs, value-named-laws))
+    (λ c. search (needs, value-named-laws)))

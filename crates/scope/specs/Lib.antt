@@ -1,0 +1,4 @@
+pub mod First
+pub mod Scope
+pub mod Steps
+pub mod Number

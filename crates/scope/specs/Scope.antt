@@ -1,0 +1,86 @@
+-- Scopes: a file or a message, with what it declares; and the first declaration of a name in one. 01, The search: "the first of that name
+-- at each level", "first declared extension with the last component as its name", "Of equal field or value names the first counts".
+--
+--                    Scope == a scope: where it stands, as the code keeps it, and what it holds
+--              holding s p == the scope that stands at the place p of the sheet s
+--            fileScope i f == the scope that the i-th file is, counted from 0
+--         messageScope c m == the scope that the message m of the scope c is
+--              isNamed s n p <=> the name at the span p is n
+--               down s n c == the scope of the first message of the name n in the scope c
+-- declarationNamed x s n c == the first extension of that name that the scope declares, where x holds; else the first field
+--          enumNamed s n c == the first enum, likewise
+--        valueNamed s n vs == the first value of that name
+--
+--   placed, declared, valued, bodied == what the code answers, of what there is or is not
+--
+-- Assumes nothing.
+use mathlib.Core.Bool.{Bool, true, false}
+use mathlib.Core.List.{List}
+use mathlib.Core.Option.{Option, none, some}
+use Prim.Native.Nat.{ℕ, _-_}
+use Rattle.limits.specs.Figures.{mostMessages}
+use Rattle.octets.specs.Octets.{sameBytes}
+use Rattle.field.specs.declared.Leaf.{Leaf}
+use Rattle.field.specs.declared.Leaf.the-variants.{At, Not}
+use Rattle.field.specs.declared.Span.{Span}
+use Rattle.field.specs.Leaf.{text}
+use Rattle.field.specs.Walk.{walk}
+use Rattle.sheet.specs.declared.declaration.Declaration.{Declaration}
+use Rattle.sheet.specs.declared.declaration.Declared.{Declared}
+use Rattle.sheet.specs.declared.declaration.Declared.the-variants.{Declares, NoDeclaration}
+use Rattle.sheet.specs.declared.declaration.Value.{Value}
+use Rattle.sheet.specs.declared.declaration.Valued.{Valued}
+use Rattle.sheet.specs.declared.declaration.Valued.the-variants.{Values, NoValue}
+use Rattle.sheet.specs.Tree.{Items, File, itemsIn}
+use Rattle.sheet.specs.Members.{Message, Enumeration, messagesOf, enumsOf, declarationsOf}
+use Rattle.scope.specs.declared.lookup.LookupScope.{LookupScope}
+use Rattle.scope.specs.declared.lookup.Reached.{Reached}
+use Rattle.scope.specs.declared.lookup.Reached.the-variants.{To, Nowhere}
+use Rattle.scope.specs.First.{first, given}
+
+pub record Scope : Type 0 where
+  pub place : LookupScope
+  pub items : Items
+
+abbrev pub holding : List ℕ → LookupScope → Scope
+holding s p = record { place = p; items = itemsIn (p .left) s (walk s (p .body .from) (p .body .to)) }
+
+abbrev pub fileScope : ℕ → File → Scope
+fileScope i f = record { place = record { file = i; message = false; body = f .body; left = mostMessages }; items = f .items }
+
+abbrev pub messageScope : Scope → Message → Scope
+messageScope c m = record {
+  place = record { file = c .place .file; message = true; body = m .body; left = c .place .left - 1 };
+  items = m .inside;
+}
+
+abbrev pub isNamed : List ℕ → List ℕ → Span → Bool
+isNamed s n p = sameBytes (text s p) n
+
+abbrev pub down : List ℕ → List ℕ → Scope → Option Scope
+down s n c = given (first (λ m. isNamed s n (m .name)) (messagesOf (c .items))) λ m. some (messageScope c m)
+
+abbrev pub declarationNamed : Bool → List ℕ → List ℕ → Scope → Option Declaration
+declarationNamed x s n c = first (λ d. isNamed s n (d .name)) (declarationsOf x (c .items))
+
+abbrev pub enumNamed : List ℕ → List ℕ → Scope → Option Enumeration
+enumNamed s n c = first (λ e. isNamed s n (e .name)) (enumsOf (c .items))
+
+abbrev pub valueNamed : List ℕ → List ℕ → List Value → Option Value
+valueNamed s n vs = first (λ v. isNamed s n (v .name)) vs
+
+abbrev pub placed : Option Scope → Reached
+placed none = Nowhere
+placed (some c) = To (c .place)
+
+abbrev pub declared : Option Declaration → Declared
+declared none = NoDeclaration
+declared (some d) = Declares d
+
+abbrev pub valued : Option Value → Valued
+valued none = NoValue
+valued (some v) = Values v
+
+abbrev pub bodied : Option Enumeration → Leaf
+bodied none = Not
+bodied (some e) = At (e .body .from) (e .body .to)

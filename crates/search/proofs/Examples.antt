@@ -1,0 +1,102 @@
+-- 01's examples P2 to P7, as one table under one statement, which the checker computes.
+-- Assumes nothing.
+use mathlib.Core.Path.{_≡_, refl}
+use mathlib.Core.List.{List, [], _∷_, _++_, map}
+use Prim.Native.Nat.{ℕ, _/_, _%_}
+use Prim.Native.String.{String}
+use lib.ListN.{length}
+use Rattle.octets.specs.Octets.{bigAt, sameBytes}
+use Rattle.reply.specs.Reply.{number, ascii}
+use Rattle.field.specs.Field.{fieldAt}
+use Rattle.field.specs.Leaf.{leafAt}
+use Rattle.field.specs.Walk.{walk}
+use Rattle.path.specs.Path.{onFirst, split, components, spell, isAbs, rootless, parent, last, ancestors}
+use Rattle.path.specs.Candidates.{candidates}
+use Rattle.sheet.specs.Table.{fileTag, messageTag, extensionTag, packageTag, nameTag, extendeeTag, numberTag, typeTag, labelTag}
+use Rattle.sheet.specs.Declaration.{hasTypePath, typePathAt, shapeAt, extensionAt, messageFieldAt, valueAt}
+use Rattle.sheet.specs.Tree.{valueIn, itemIn, itemsIn, fileIn, treeOf}
+use Rattle.search.specs.declared.extension.Resolved.{Resolved}
+use Rattle.search.specs.declared.extension.Resolved.the-variants.{Field, Refused}
+use Rattle.search.specs.Scopes.{scopes}
+use Rattle.search.specs.Lookup.{findExtensionByAbsPath, findExtensionByPath, extResolveField}
+
+-- ---- sheets, written as 01's table has them
+abbrev tagged : ℕ → List ℕ → List ℕ
+tagged t p = t ∷ length p / 256 ∷ length p % 256 ∷ p
+
+abbrev file : String → List ℕ → List ℕ
+file name body = tagged fileTag (tagged packageTag (ascii name) ++ body)
+
+abbrev message : String → List ℕ → List ℕ
+message name body = tagged messageTag (tagged nameTag (ascii name) ++ body)
+
+-- an optional uint32
+abbrev extension : String → String → ℕ → List ℕ
+extension name extendee n =
+    tagged extensionTag
+    (tagged nameTag (ascii name) ++ tagged extendeeTag (ascii extendee)
+    ++ tagged numberTag (n / 16777216 ∷ n / 65536 % 256 ∷ n / 256 % 256 ∷ n % 256 ∷ [])
+    ++ tagged typeTag (13 ∷ []) ++ tagged labelTag (1 ∷ []))
+
+abbrev options : String
+options = "google.protobuf.FieldOptions"
+
+abbrev google : List ℕ
+google = file "google.protobuf" (message "FieldOptions" [] ++ message "MessageOptions" [])
+
+-- "Package plant has `rank` 50001 (uint32) and message Dispatch with its own `rank` 50002, both on FieldOptions."
+abbrev ranks : List ℕ
+ranks = file "plant" (extension "rank" options 50001 ++ message "Dispatch" (extension "rank" options 50002)) ++ google
+
+-- "Inner `rank` on MessageOptions"
+abbrev otherwise : List ℕ
+otherwise =
+    file "plant" (extension "rank" options 50001 ++ message "Dispatch" (extension "rank" "google.protobuf.MessageOptions" 50002)) ++ google
+
+-- "No `rank`"
+abbrev rankless : List ℕ
+rankless = file "plant" (message "Dispatch" []) ++ google
+
+-- "File 1, package a.b, `x` 101; file 2, package a, message b with `x` 102"
+abbrev crossed : List ℕ
+crossed = file "a.b" (extension "x" options 101) ++ file "a" (message "b" (extension "x" options 102)) ++ google
+
+-- ---- what the search for an option on FieldOptions answers: the extension's number, or the reply's
+data Reply : Type 0 where
+  found : ℕ → Reply
+  refused : ℕ → Reply
+
+abbrev reply : Resolved → Reply
+reply (Field f) = found (f .declaration .shape .number)
+reply (Refused w) = refused (number w)
+
+record Example : Type 0 where
+  sheet : List ℕ
+  scope : String
+  name : String
+  says : Reply
+
+abbrev example : List ℕ → String → String → Reply → Example
+example s scope name says = record { sheet = s; scope = scope; name = name; says = says }
+
+answer : Example → Reply
+unfolding extResolveField findExtensionByPath findExtensionByAbsPath scopes candidates ancestors components split onFirst spell isAbs rootless
+    parent last sameBytes treeOf fileIn itemsIn itemIn valueIn extensionAt messageFieldAt valueAt shapeAt typePathAt hasTypePath walk leafAt
+    fieldAt bigAt
+answer x = reply (extResolveField (x .sheet) (ascii (x .scope)) (ascii options) (ascii (x .name)))
+
+-- P2 the inner rank; P3 the leading dot; P4 an undeclared scope; P5 a wrong extendee ends the search; P6 no rank; P7 fewest package
+-- components first
+abbrev p2-to-p7 : List Example
+p2-to-p7 =
+    example ranks "plant.Dispatch" "rank" (found 50002)
+    ∷ example ranks "plant.Dispatch" ".plant.rank" (found 50001)
+    ∷ example ranks "plant.Other" "rank" (found 50001)
+    ∷ example otherwise "plant.Dispatch" "rank" (refused 5)
+    ∷ example rankless "plant.Dispatch" "rank" (refused 4)
+    ∷ example crossed "" ".a.b.x" (found 102)
+    ∷ []
+
+table : map answer p2-to-p7 ≡ map (λ x. x .says) p2-to-p7
+unfolding answer
+table = refl

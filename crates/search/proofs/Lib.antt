@@ -1,0 +1,15 @@
+pub mod ScopesLaws
+pub mod CursorLaws
+pub mod StartLaws
+pub mod Left
+pub mod LiesLaws
+pub mod ExtensionLaws
+pub mod FullNameLaws
+pub mod AmongLaws
+pub mod AmongFirsts
+pub mod CandidateOrder
+pub mod FoundLaws
+pub mod ScopeFiles
+pub mod ScopeOrder
+pub mod Theorems
+pub mod Examples

@@ -1,0 +1,144 @@
+-- The theorems about the search, each below the sentence that it says. The words are in specs/Among.antt; what they are about is defined in
+-- specs/Lookup.antt, specs/Scopes.antt and, of the crate path, specs/Candidates.antt. `s` is the sheet, whatever its bytes.
+-- Assumes nothing.
+use mathlib.Core.Path.{_≡_, refl, sym, _∙_}
+use mathlib.Core.Bool.{true, false}
+use mathlib.Core.List.{List, [], _∷_, _++_}
+use mathlib.Core.Option.{none, some}
+use Prim.Native.Nat.{ℕ, suc, _-_, _≤_, _<_}
+use lib.ListN.{length, take}
+use Rattle.reply.specs.declared.Refusal.the-variants.{ExtensionNotFound, WrongExtensionType}
+use Rattle.octets.specs.Octets.{sameBytes}
+use Rattle.path.specs.Path.{Path, dot, components, spell, allIdent, isRelOrEmpty, isAbs, rootless, isPath, parent, ancestors}
+use Rattle.path.specs.Candidates.{candidates, candidate}
+use Rattle.path.proofs.PathLaws.{candidates-abs, candidates-length-rel, candidate-rel}
+use Rattle.search.specs.declared.extension.Found.{Found}
+use Rattle.search.specs.declared.extension.Resolved.the-variants.{Field, Refused}
+use Rattle.scope.specs.Scope.{Scope}
+use Rattle.search.specs.Scopes.{scopes}
+use Rattle.scope.specs.Number.{extends}
+use Rattle.search.specs.Lookup.{findExtensionByAbsPath, findExtensionByPath, extResolveField}
+use Rattle.search.specs.Among.{Among, Ordered, Undeclared, Answers, Gives, Earlier}
+use Rattle.search.proofs.AmongLaws.{ordered-mono}
+use Rattle.search.proofs.AmongFirsts.{firsts-none, none-firsts, firsts-one}
+use Rattle.search.proofs.CandidateOrder.{candidates-fall, candidates-some, candidates-idents, parent-idents}
+use Rattle.search.proofs.FoundLaws as found
+use Rattle.search.proofs.ScopeFiles as files
+use Rattle.search.proofs.ScopeOrder.{from-ordered, earlier-apart, from-gives, gives-from}
+
+-- ---- when nothing is found
+
+-- Nothing is found exactly when of no candidate a scope at the path before its last name declares an extension of that name.
+pub nowhere-none : (s scope name : List ℕ) → isPath name ≡ true → findExtensionByPath s scope name ≡ none
+    → (p : Path) → Among p (candidates scope name) → Undeclared s p
+unfolding findExtensionByPath
+nowhere-none s scope name h e p m =
+    found.find-none s p (candidates-some scope name h p m) (firsts-none (findExtensionByAbsPath s) e m)
+
+pub none-nowhere : (s scope name : List ℕ) → ((p : Path) → Among p (candidates scope name) → Undeclared s p)
+    → findExtensionByPath s scope name ≡ none
+unfolding findExtensionByPath
+none-nowhere s scope name h = none-firsts (findExtensionByAbsPath s) (candidates scope name) λ p m. found.none-find s p (h p m)
+
+-- The mission, demand 2: "An extension part that is reached gets ExtensionNotFound exactly when none of 01's scopes at its candidate paths
+-- declares that name."
+pub not-found-none : (s scope m name : List ℕ) → isPath name ≡ true → extResolveField s scope m name ≡ Refused ExtensionNotFound
+    → (p : Path) → Among p (candidates scope name) → Undeclared s p
+unfolding extResolveField
+not-found-none s scope m name h e = nowhere-none s scope name h (found.compared-none s m (findExtensionByPath s scope name) e)
+
+pub none-not-found : (s scope m name : List ℕ) → ((p : Path) → Among p (candidates scope name) → Undeclared s p)
+    → extResolveField s scope m name ≡ Refused ExtensionNotFound
+unfolding extResolveField
+none-not-found s scope m name h = rw (none-nowhere s scope name h)
+
+-- ---- what is found
+
+-- 01: "The answer is the first candidate, then first scope, then first declared extension with the last component as its name." That scope
+-- declares it under that candidate. Under no candidate before it is anything declared; of the scopes there, none before it declares that
+-- name; and in the scope no extension before it has that name.
+pub found-answers : (s scope name : List ℕ) (f : Found) → findExtensionByPath s scope name ≡ some f → Answers s scope name f
+found-answers = found.found-answers
+
+-- And what this can be said of is found: it can be said of one thing only.
+pub answers-found : (s scope name : List ℕ) (f : Found) → isPath name ≡ true → Answers s scope name f
+    → findExtensionByPath s scope name ≡ some f
+answers-found = found.answers-found
+
+-- 01: "Only then is the extendee compared; a mismatch ends the search." Found first, tested second: what was found is the answer, or its
+-- extendee the reason for none.
+pub extendee-same : (s scope m name : List ℕ) (f : Found) → findExtensionByPath s scope name ≡ some f
+    → extends s m (f .declaration) ≡ true → extResolveField s scope m name ≡ Field f
+unfolding extResolveField
+extendee-same s scope m name f e h = rw (e, h)
+
+pub extendee-other : (s scope m name : List ℕ) (f : Found) → findExtensionByPath s scope name ≡ some f
+    → extends s m (f .declaration) ≡ false → extResolveField s scope m name ≡ Refused WrongExtensionType
+unfolding extResolveField
+extendee-other s scope m name f e h = rw (e, h)
+
+-- ---- candidates
+
+-- 01: "An absolute name has one candidate, itself."
+pub absolute-one : (scope name : List ℕ) → isAbs name ≡ true → candidates scope name ≡ components (rootless name) ∷ []
+absolute-one = candidates-abs
+
+-- 01: "A relative name has scope plus name, then each parent of the scope plus name, last the name alone." There are as many as the scope
+-- has components, and one; the i-th, counted from 0, is the scope without its last i components, plus the name.
+pub relative-count : (scope name : List ℕ) → isAbs name ≡ false → length (candidates scope name) ≡ suc (length (components scope))
+relative-count = candidates-length-rel
+
+pub relative-at : (scope name : List ℕ) → isAbs name ≡ false → (i : ℕ) → i ≤ length (components scope)
+    → candidate scope name i ≡ take (length (components scope) - i) (components scope) ++ components name
+relative-at = candidate-rel
+
+-- The innermost path comes first: each candidate is longer than all that follow it.
+pub innermost-first : (scope name : List ℕ) → Ordered (λ p q. length q < length p) (candidates scope name)
+innermost-first = candidates-fall
+
+-- In the empty scope a relative name has one candidate, itself.
+pub unscoped-one : (name : List ℕ) → isAbs name ≡ false → candidates [] name ≡ components name ∷ []
+unfolding candidates components ancestors
+unscoped-one name h = simp (candidates, h)
+
+-- A leading dot never walks outward: whatever the scope, the search is for that one path.
+pub rooted-is : (s scope name : List ℕ) → findExtensionByPath s scope (dot ∷ name) ≡ findExtensionByAbsPath s (components name)
+unfolding findExtensionByPath isAbs rootless
+rooted-is s scope name = rw (candidates-abs scope (dot ∷ name) refl) (firsts-one (findExtensionByAbsPath s) (components name))
+
+pub rooted-same : (s scope scope′ name : List ℕ) → findExtensionByPath s scope (dot ∷ name) ≡ findExtensionByPath s scope′ (dot ∷ name)
+rooted-same s scope scope′ name = rooted-is s scope name ∙ sym (rooted-is s scope′ name)
+
+-- ---- the scopes at a path
+
+-- What is said here of paths of identifiers holds of all paths at which the search looks for scopes.
+pub searched-idents : (scope name : List ℕ) → isRelOrEmpty scope ≡ true → isPath name ≡ true
+    → (p : Path) → Among p (candidates scope name) → allIdent (parent p) ≡ true
+searched-idents scope name h k p m = parent-idents p (candidates-idents scope name h k p m)
+
+-- 01: "Scopes at a path: each file whose package (empty included) leads the path's components follows the rest as message names, the first
+-- of that name at each level; if all are found, it gives one scope." The scopes are those that files give;
+pub scope-given : (s : List ℕ) (p : Path) → allIdent p ≡ true → (c : Scope) → Among c (scopes s p) → Gives s p (c .place .file) c
+unfolding scopes allIdent
+scope-given s p h c = from-gives s [] p refl h c
+
+pub given-scope : (s : List ℕ) (p : Path) (i : ℕ) (c : Scope) → Gives s p i c → Among c (scopes s p)
+unfolding scopes
+given-scope s p i c = gives-from s p i c
+
+-- a file gives at most one of them;
+pub scopes-apart : (s : List ℕ) (p : Path) → allIdent p ≡ true → Ordered (λ c d. c .place .file ≡ d .place .file → ⊥) (scopes s p)
+unfolding scopes allIdent
+scopes-apart s p h = ordered-mono (λ c d m k. earlier-apart s c d) (from-ordered s [] p refl h)
+
+-- and they stand in "Order: fewest package components, then file order."
+pub scopes-ordered : (s : List ℕ) (p : Path) → allIdent p ≡ true → Ordered (Earlier s) (scopes s p)
+unfolding scopes allIdent
+scopes-ordered s p h = from-ordered s [] p refl h
+
+-- 01, Changed shape: "strings paths compared by component". Of a path of identifiers the text is compared, and that is the same.
+pub same-components : (t : List ℕ) (p : Path) → allIdent p ≡ true → sameBytes t (spell p) ≡ true → components t ≡ p
+same-components = files.same-components
+
+pub components-same : (t : List ℕ) (p : Path) → components t ≡ p → sameBytes t (spell p) ≡ true
+components-same = files.components-same

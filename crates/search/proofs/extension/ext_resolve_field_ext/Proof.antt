@@ -1,0 +1,22 @@
+-- `extension::ext_resolve_field_ext` meets its contract.
+-- Assumes nothing.
+use Rattle.search.proofs.ExtensionLaws.{resolve-laws}
+use borrow.Author.Needs.{needs}
+use Rattle.search.proofs.extension.ext_resolve_field_ext.Statement.{statement}
+use Rattle.search.proofs.extension.ext_resolve_field_ext.Tie as tie
+
+pub ext-resolve-field-ext-spec : {M : Type 1} → statement M
+ext-resolve-field-ext-spec = tie.close (tie.spec
+    (λ c κs. search (needs, resolve-laws))
+    (λ c. search (needs, resolve-laws))
+    (λ c. search (needs, resolve-laws))
+    (λ c. search (needs, resolve-laws))
+    (λ c. search (needs, resolve-laws))
+    (λ c. search (needs, resolve-laws))
+    (λ c. search (needs, resolve-laws))
+    (λ c. search (needs, resolve-laws))
+    (λ c κs. search (needs, resolve-laws))
+    (λ c. search (needs, resolve-laws))
+    (λ c. search (needs, resolve-laws))
+    (λ c. search (needs, resolve-laws))
+    (λ c. search (needs, resolve-laws)))

@@ -1,0 +1,18 @@
+-- `extension::find_extension_by_abs_path` meets its contract.
+-- Assumes nothing.
+use Rattle.search.proofs.ExtensionLaws.{abs-extension-laws}
+use borrow.Author.Needs.{needs}
+use Rattle.search.proofs.extension.find_extension_by_abs_path.Statement.{statement}
+use Rattle.search.proofs.extension.find_extension_by_abs_path.Tie as tie
+
+pub find-extension-by-abs-path-spec : {M : Type 1} → statement M
+find-extension-by-abs-path-spec = tie.close (tie.spec
+    (λ c. search (needs, abs-extension-laws))
+    (λ c κs. search (needs, abs-extension-laws))
+    (λ c κs. search (needs, abs-extension-laws))
+    (λ c κs. search (needs, abs-extension-laws))
+    (λ c. search (needs, abs-extension-laws))
+    (λ c. search (needs, abs-extension-laws))
+    (λ c. search (needs, abs-extension-laws))
+    (λ c κs. search (needs, abs-extension-laws))
+    (λ c. search (needs, abs-extension-laws)))

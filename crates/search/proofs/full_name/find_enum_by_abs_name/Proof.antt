@@ -1,0 +1,28 @@
+-- `full_name::find_enum_by_abs_name` meets its contract.
+-- Assumes nothing.
+use Rattle.search.proofs.FullNameLaws.{enum-by-name-laws}
+use borrow.Author.Needs.{needs}
+use Rattle.search.proofs.full_name.find_enum_by_abs_name.Statement.{statement}
+use Rattle.search.proofs.full_name.find_enum_by_abs_name.Tie as tie
+
+pub find-enum-by-abs-name-spec : {M : Type 1} → statement M
+find-enum-by-abs-name-spec = tie.close (tie.spec
+    (λ c. search (needs, enum-by-name-laws))
+    (λ c κs. search (needs, enum-by-name-laws))
+    (λ c κs. search (needs, enum-by-name-laws))
+    (λ c κs. search (needs, enum-by-name-laws))
+    (λ c. search (needs, enum-by-name-laws))
+    (λ c. search (needs, enum-by-name-laws))
+    (λ c. search (needs, enum-by-name-laws))
+    (λ c κs. search (needs, enum-by-name-laws))
+    (λ c. search (needs, enum-by-name-laws))
+    (λ c. search (needs, enum-by-name-laws))
+    (λ c. search (needs, enum-by-name-laws))
+    (λ c. search (needs, enum-by-name-laws))
+    (λ c. search (needs, enum-by-name-laws))
+    (λ c. search (needs, enum-by-name-laws))
+    (λ c κs. search (needs, enum-by-name-laws))
+    (λ c. search (needs, enum-by-name-laws))
+    (λ c. search (needs, enum-by-name-laws))
+    (λ c. search (needs, enum-by-name-laws))
+    (λ c. search (needs, enum-by-name-laws)))

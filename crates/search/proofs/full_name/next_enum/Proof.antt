@@ -1,0 +1,32 @@
+-- `full_name::next_enum` meets its contract.
+-- Assumes nothing.
+use lib.ListN.{length}
+use Rattle.scope.specs.First.{collect}
+use Rattle.scope.specs.Scope.{enumNamed}
+use Rattle.search.specs.Cursor.{ahead}
+use Rattle.search.specs.Ahead.{enumsAhead}
+use Rattle.search.proofs.Left.{Left}
+use Rattle.search.proofs.FullNameLaws.{next-enum-laws}
+use borrow.Author.Needs.{needs}
+use Rattle.search.proofs.full_name.next_enum.Statement.{statement}
+use Rattle.search.proofs.full_name.next_enum.Tie as tie
+
+abbrev Inv-loop : tie.InvT-loop
+Inv-loop s names name c₀ c = Left (enumsAhead s names name c₀) (collect (enumNamed s name)) s names c
+
+abbrev μ-loop : tie.MeasureT-loop
+μ-loop s names name c₀ c = length (ahead s names c)
+
+pub next-enum-spec : {M : Type 1} → statement M
+next-enum-spec = tie.close (tie.spec Inv-loop μ-loop
+    (λ c. search (needs, next-enum-laws))
+    (λ c κs. search (needs, next-enum-laws))
+    (λ c. search (needs, next-enum-laws))
+    (λ c. search (needs, next-enum-laws))
+    (λ c. search (needs, next-enum-laws))
+    (λ c κs. search (needs, next-enum-laws))
+    (λ c. search (needs, next-enum-laws))
+    (λ c. search (needs, next-enum-laws))
+    (λ c. search (needs, next-enum-laws))
+    (λ c. search (needs, next-enum-laws))
+    (λ c. search (needs, next-enum-laws)))

@@ -1,0 +1,29 @@
+-- `full_name::next_message` meets its contract.
+-- Assumes nothing.
+use lib.ListN.{length}
+use Rattle.scope.specs.First.{collect}
+use Rattle.search.specs.Cursor.{ahead}
+use Rattle.search.specs.Lookup.{messageOf}
+use Rattle.search.specs.Ahead.{messagesAhead}
+use Rattle.search.proofs.Left.{Left}
+use Rattle.search.proofs.FullNameLaws.{next-message-laws}
+use borrow.Author.Needs.{needs}
+use Rattle.search.proofs.full_name.next_message.Statement.{statement}
+use Rattle.search.proofs.full_name.next_message.Tie as tie
+
+abbrev Inv-loop : tie.InvT-loop
+Inv-loop s names c₀ c = Left (messagesAhead s names c₀) (collect messageOf) s names c
+
+abbrev μ-loop : tie.MeasureT-loop
+μ-loop s names c₀ c = length (ahead s names c)
+
+pub next-message-spec : {M : Type 1} → statement M
+next-message-spec = tie.close (tie.spec Inv-loop μ-loop
+    (λ c. search (needs, next-message-laws))
+    (λ c κs. search (needs, next-message-laws))
+    (λ c. search (needs, next-message-laws))
+    (λ c. search (needs, next-message-laws))
+    (λ c. search (needs, next-message-laws))
+    (λ c. search (needs, next-message-laws))
+    (λ c. search (needs, next-message-laws))
+    (λ c. search (needs, next-message-laws)))

@@ -1,0 +1,33 @@
+-- `scopes::follow` meets its contract.
+-- Assumes nothing.
+use Prim.Native.Nat.{suc, _-_}
+use lib.ListN.{length}
+use Rattle.path.specs.Path.{namesFrom}
+use Rattle.scope.specs.Scope.{holding}
+use Rattle.search.specs.Scopes.{follow}
+use Rattle.search.proofs.ScopesLaws.{Following, follow-laws}
+use borrow.Author.Needs.{needs}
+use Rattle.search.proofs.scopes.follow.Statement.{statement}
+use Rattle.search.proofs.scopes.follow.Tie as tie
+
+abbrev Inv-loop : tie.InvT-loop
+Inv-loop s names next reached₀ at₀ reached at = Following (follow s (namesFrom names next) (holding s reached₀)) s names at reached
+
+abbrev μ-loop : tie.MeasureT-loop
+μ-loop s names next reached₀ at₀ reached at = suc (length names) - at
+
+pub follow-spec : {M : Type 1} → statement M
+follow-spec = tie.close (tie.spec Inv-loop μ-loop
+    (λ c. search (needs, follow-laws))
+    (λ c κs. search (needs, follow-laws))
+    (λ c. search (needs, follow-laws))
+    (λ c. search (needs, follow-laws))
+    (λ c. search (needs, follow-laws))
+    (λ c κs. search (needs, follow-laws))
+    (λ c. search (needs, follow-laws))
+    (λ c. search (needs, follow-laws))
+    (λ c. search (needs, follow-laws))
+    (λ c. search (needs, follow-laws))
+    (λ c. search (needs, follow-laws))
+    (λ c. search (needs, follow-laws))
+    (λ c. search (needs, follow-laws)))

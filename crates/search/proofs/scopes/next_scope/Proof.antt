@@ -1,0 +1,28 @@
+-- `scopes::next_scope` meets its contract.
+-- Assumes nothing.
+use Prim.Native.Nat.{suc, _-_}
+use lib.ListN.{length}
+use Rattle.search.specs.Cursor.{ahead}
+use Rattle.search.proofs.CursorLaws.{Onward, scopes-laws}
+use borrow.Author.Needs.{needs}
+use Rattle.search.proofs.scopes.next_scope.Statement.{statement}
+use Rattle.search.proofs.scopes.next_scope.Tie as tie
+
+abbrev Inv-loop : tie.InvT-loop
+Inv-loop s names c₀ c = Onward (ahead s names) s names c₀ c
+
+abbrev μ-loop : tie.MeasureT-loop
+μ-loop s names c₀ c = suc (length names) - c .next
+
+pub next-scope-spec : {M : Type 1} → statement M
+next-scope-spec = tie.close (tie.spec Inv-loop μ-loop
+    (λ c. search (needs, scopes-laws))
+    (λ c κs. search (needs, scopes-laws))
+    (λ c. search (needs, scopes-laws))
+    (λ c. search (needs, scopes-laws))
+    (λ c. search (needs, scopes-laws))
+    (λ c. search (needs, scopes-laws))
+    (λ c κs. search (needs, scopes-laws))
+    (λ c. search (needs, scopes-laws))
+    (λ c. search (needs, scopes-laws))
+    (λ c. search (needs, scopes-laws)))

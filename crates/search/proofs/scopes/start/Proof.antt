@@ -1,0 +1,11 @@
+-- `scopes::start` meets its contract.
+-- Assumes nothing.
+use Rattle.search.proofs.ScopesLaws.{start-laws}
+use borrow.Author.Needs.{needs}
+use Rattle.search.proofs.scopes.start.Statement.{statement}
+use Rattle.search.proofs.scopes.start.Tie as tie
+
+pub start-spec : {M : Type 1} → statement M
+start-spec = tie.close (tie.spec
+    (λ c. search (needs, start-laws))
+    (λ c. search (needs, start-laws)))

@@ -1,0 +1,67 @@
+-- A walk through the scopes at a path, one after the other: what a cursor has still before it.
+--
+--        frontAt t at ==  the components of t that stand before the place `at`, where one starts
+--      wider s front ns ==  the scopes of the files whose package has more components of the path than `front`
+--           here s t c ==  the scopes still to come at the cursor c of the path t, of the packages that are tried now
+--          ahead s t c ==  all scopes still to come
+--           startOf b  ==  the cursor before the first scope, of a path with no names where b holds
+--     scopeAt s t next i tag a e ==  the scope that a field of the sheet gives, as the i-th file
+--         Stands s t c <-> the cursor's places are within the sheet and the text, and a component of the text starts at its `next`
+--   Steps L s t c p c′ <-> of L, the scopes to come, the next is at the place p, and c′ is the cursor behind it
+--      Nexts L s t c r <-> r is the next of L, or that there is none
+--
+-- Assumes nothing.
+use mathlib.Core.Path.{_≡_}
+use mathlib.Core.Bool.{Bool, true, false}
+use mathlib.Core.List.{List, [], _∷_, _++_}
+use mathlib.Core.Option.{Option}
+use Prim.Native.Nat.{ℕ, suc, _-_, _≤_, _<_}
+use lib.Dec.{eqb}
+use lib.ListN.{length, getD, take}
+use Rattle.field.specs.Leaf.{Lies}
+use Rattle.field.specs.Walk.{walk}
+use Rattle.path.specs.Path.{Path, dot, split, namesFrom}
+use Rattle.sheet.specs.Tree.{fileIn, filesIn}
+use Rattle.scope.specs.declared.lookup.LookupScope.{LookupScope}
+use Rattle.scope.specs.First.{firstSome}
+use Rattle.scope.specs.Scope.{Scope, holding}
+use Rattle.search.specs.declared.scopes.Cursor.{Cursor}
+use Rattle.search.specs.declared.scopes.Next.{Next}
+use Rattle.search.specs.declared.scopes.Next.the-variants.{At, NoMore}
+use Rattle.search.specs.Scopes.{scopeIn, scopesIn, scopesFrom}
+
+unfoldable pub frontAt : List ℕ → ℕ → Path
+frontAt t at = elim (eqb at 0) [ true ↦ [] | false ↦ split (take (at - 1) t) ]
+
+abbrev pub wider : List ℕ → Path → Path → List Scope
+wider s front [] = []
+wider s front (n ∷ ns) = scopesFrom s (front ++ n ∷ []) ns
+
+-- those of the packages that are tried now
+abbrev pub here : List ℕ → List ℕ → Cursor → List Scope
+here s t c = scopesIn s (take (c .next - 1) t) (namesFrom t (c .next)) (c .file) (filesIn s (walk s (c .at) (length s)))
+
+unfoldable pub ahead : List ℕ → List ℕ → Cursor → List Scope
+ahead s t c = here s t c ++ wider s (frontAt t (c .next)) (namesFrom t (c .next))
+
+abbrev pub startOf : Bool → Cursor
+startOf true = record { next = 1; at = 0; file = 0 }
+startOf false = record { next = 0; at = 0; file = 0 }
+
+abbrev pub scopeAt : List ℕ → List ℕ → ℕ → ℕ → ℕ → ℕ → ℕ → Option Scope
+scopeAt s t next i tag a e = firstSome (scopeIn s (take (next - 1) t) (namesFrom t next) i) (fileIn s tag a e [])
+
+pub record Stands (s t : List ℕ) (c : Cursor) : Type 0 where
+  pub within : c .at ≤ length s
+  pub counted : c .file ≤ c .at
+  pub reached : c .next ≤ suc (length t)
+  pub starts : 0 < c .next → c .next ≤ length t → getD t (c .next - 1) 0 ≡ dot
+
+pub record Steps (L : Cursor → List Scope) (s t : List ℕ) (c : Cursor) (p : LookupScope) (c′ : Cursor) : Type 0 where
+  pub lies : Lies (p .body) s
+  pub stands : Stands s t c′
+  pub is : L c ≡ holding s p ∷ L c′
+
+pub record Nexts (L : Cursor → List Scope) (s t : List ℕ) (c : Cursor) (r : Next) : Type 0 where
+  pub some : (p : LookupScope) (c′ : Cursor) → r ≡ At p c′ → Steps L s t c p c′
+  pub none : r ≡ NoMore → L c ≡ []

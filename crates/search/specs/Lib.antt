@@ -1,0 +1,5 @@
+pub mod Scopes
+pub mod Cursor
+pub mod Lookup
+pub mod Ahead
+pub mod Among

@@ -1,0 +1,45 @@
+-- The scopes at a path, from 01's "The search".
+--
+--           follow s ns c == the scope that the message names ns lead to from the scope c
+--           onlyWhere b o == o where b holds
+--      scopeIn s p ns i f == the scope that the i-th file gives: its package is the text p, and the names ns are followed
+--    scopesIn s p ns i fs == the scopes that files give, the i-th file first
+--   scopesFrom s front ns == the scopes at the path `front ++ ns`, of the files whose package has these components `front`, or more
+--              scopes s p == the scopes at the path p, in order
+--
+-- Assumes nothing.
+use mathlib.Core.Bool.{Bool, true, false}
+use mathlib.Core.List.{List, [], _∷_, _++_}
+use mathlib.Core.Option.{Option, none, some}
+use Prim.Native.Nat.{ℕ, _+_}
+use Rattle.octets.specs.Octets.{sameBytes}
+use Rattle.field.specs.Leaf.{text}
+use Rattle.path.specs.Path.{Path, spell}
+use Rattle.sheet.specs.Tree.{File, treeOf}
+use Rattle.scope.specs.First.{given, onto}
+use Rattle.scope.specs.Scope.{Scope, fileScope, down}
+
+-- "follows the rest as message names, the first of that name at each level; if all are found, it gives one scope"
+abbrev pub follow : List ℕ → Path → Scope → Option Scope
+follow s [] c = some c
+follow s (n ∷ ns) c = given (down s n c) (follow s ns)
+
+abbrev pub onlyWhere : {A : Type 0} → Bool → Option A → Option A
+onlyWhere true o = o
+onlyWhere false o = none
+
+-- paths are compared as they are written: two paths of identifiers are the same where their texts are
+abbrev pub scopeIn : List ℕ → List ℕ → Path → ℕ → File → Option Scope
+scopeIn s p ns i f = onlyWhere (sameBytes (text s (f .packageName)) p) (follow s ns (fileScope i f))
+
+abbrev pub scopesIn : List ℕ → List ℕ → Path → ℕ → List File → List Scope
+scopesIn s p ns i [] = []
+scopesIn s p ns i (f ∷ fs) = onto (scopeIn s p ns i f) (scopesIn s p ns (i + 1) fs)
+
+-- "each file whose package (empty included) leads the path's components"; "Order: fewest package components, then file order"
+abbrev pub scopesFrom : List ℕ → Path → Path → List Scope
+scopesFrom s front [] = scopesIn s (spell front) [] 0 (treeOf s)
+scopesFrom s front (n ∷ ns) = scopesIn s (spell front) (n ∷ ns) 0 (treeOf s) ++ scopesFrom s (front ++ n ∷ []) ns
+
+unfoldable pub scopes : List ℕ → Path → List Scope
+scopes s p = scopesFrom s [] p

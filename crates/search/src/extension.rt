@@ -1,0 +1,111 @@
+// An extension by its path: the first candidate, the first scope, the first of that name; only then is its extendee compared.
+ghost use mathlib.Core.Path.{_≡_};
+ghost use mathlib.Core.Bool.{true};
+ghost use Prim.Native.Nat.{_≤_};
+ghost use lib.ListN.{length};
+ghost use Rattle.limits.specs.Figures.{mostCandidate};
+ghost use Rattle.path.specs.Path.{components, isRelOrEmpty, isPath};
+ghost use Rattle.scope.specs.First.{firstSome};
+ghost use Rattle.search.specs.Cursor.{ahead, Stands};
+ghost use Rattle.search.specs.Lookup.{foundIn, findExtensionByAbsPath, findExtensionByPath, extResolveField, searched};
+use crate::scopes::Cursor;
+use crate::scopes::Next;
+use crate::scopes::next_scope;
+use crate::scopes::start;
+use path::protobuf_path::candidate;
+use path::protobuf_path::candidates;
+use path::protobuf_rel_path::before;
+use path::protobuf_rel_path::last_at;
+use reply::Refusal;
+use scope::named::declaration_named;
+use sheet::declaration::Declaration;
+use sheet::declaration::Declared;
+
+// An extension that was found, and the index of its file.
+pub struct Found {
+    pub file: usize,
+    pub declaration: Declaration,
+}
+
+// What a search comes to.
+pub enum Search {
+    Is(Found),
+    Nowhere,
+}
+
+// What a search that compares the extendee comes to.
+pub enum Resolved {
+    Field(Found),
+    Refused(Refusal),
+}
+
+// The first extension of that name in the scopes that are still to come.
+fn first_extension(s: &[u8], names: &[u8], cursor: Cursor, name: &[u8]) -> Search
+    requires { ⌜ Stands (now s) (now names) cursor ⌝ }
+    ensures { λ r. ⌜ r ≡ searched (firstSome (foundIn (now (s .entry)) (now (name .entry)))
+        (ahead (now (s .entry)) (now (names .entry)) cursor)) ⌝ }
+{
+    let mut c = cursor;
+    loop {
+        let Next::At { scope, rest } = next_scope(s, names, c) else {
+            return Search::Nowhere;
+        };
+        c = rest;
+        if let Declared::Declares(d) = declaration_named(s, scope, true, name) {
+            return Search::Is(Found {
+                file: scope.file,
+                declaration: d,
+            });
+        }
+    }
+}
+
+// The extension of a full name.
+pub fn find_extension_by_abs_path(s: &[u8], path: &[u8]) -> Search
+    ensures { λ r. ⌜ r ≡ searched (findExtensionByAbsPath (now (s .entry)) (components (now (path .entry)))) ⌝ }
+{
+    if path.len() == 0 {
+        return Search::Nowhere;
+    }
+    let last = last_at(path);
+    first_extension(s, before(path, last), start(last == 0), &path[last..])
+}
+
+// The extension that a name finds in a scope: the candidates are put together in lent room, one after the other.
+pub fn find_extension_by_path(s: &[u8], scope: &[u8], path: &[u8], room: &mut [u8]) -> Search
+    requires { ⌜ (isRelOrEmpty (now scope) ≡ true) × (isPath (now path) ≡ true) × (mostCandidate ≤ length (now room)) ⌝ }
+    ensures { λ r. ⌜ r ≡ searched (findExtensionByPath (now (s .entry)) (now (scope .entry)) (now (path .entry))) ⌝ }
+{
+    let count = candidates(scope, path);
+    let mut i = 0;
+    while i < count {
+        let n = candidate(scope, path, i, room);
+        if let Search::Is(found) = find_extension_by_abs_path(s, &room[..n]) {
+            return Search::Is(found);
+        }
+        i += 1;
+    }
+    Search::Nowhere
+}
+
+// The same, where it extends the message of that full name. A mismatch ends the search.
+pub fn ext_resolve_field_ext(
+    s: &[u8],
+    scope: &[u8],
+    message: &[u8],
+    path: &[u8],
+    room: &mut [u8],
+) -> Resolved
+    requires { ⌜ (isRelOrEmpty (now scope) ≡ true) × (isPath (now path) ≡ true) × (mostCandidate ≤ length (now room)) ⌝ }
+    ensures { λ r. ⌜ r ≡ extResolveField (now (s .entry)) (now (scope .entry)) (now (message .entry)) (now (path .entry)) ⌝ }
+{
+    let Search::Is(found) = find_extension_by_path(s, scope, path, room) else {
+        return Resolved::Refused(Refusal::ExtensionNotFound);
+    };
+    let from = found.declaration.extendee.from;
+    let to = found.declaration.extendee.to;
+    if !octets::same(&s[from..to], message) {
+        return Resolved::Refused(Refusal::WrongExtensionType);
+    }
+    Resolved::Field(found)
+}

@@ -1,0 +1,108 @@
+// Messages and enums by full name: there has to be exactly one.
+ghost use mathlib.Core.Path.{_≡_};
+ghost use Rattle.path.specs.Path.{components};
+ghost use Rattle.search.specs.Cursor.{Stands};
+ghost use Rattle.search.specs.Lookup.{messagesAt, enumsAt, lookedUp, lookedUpEnum};
+ghost use Rattle.search.specs.Ahead.{messagesAhead, enumsAhead, NextsEnum};
+ghost use Rattle.search.specs.Cursor.{Nexts};
+use crate::scopes::Cursor;
+use crate::scopes::Next;
+use crate::scopes::next_scope;
+use crate::scopes::start;
+use field::Leaf;
+use field::Span;
+use path::protobuf_rel_path::before;
+use path::protobuf_rel_path::last_at;
+use reply::Refusal;
+use scope::lookup::LookupScope;
+use scope::lookup::enum_named;
+
+// What looking up a message comes to.
+pub enum LookedUp {
+    Message(LookupScope),
+    NoMessage(Refusal),
+}
+
+// What looking up an enum comes to: where its values stand.
+pub enum LookedUpEnum {
+    Values(Span),
+    NoEnum(Refusal),
+}
+
+// What the next step of a walk through the enums of a full name comes to.
+pub enum NextEnum {
+    At { values: Span, rest: Cursor },
+    NoMore,
+}
+
+// The next message among the scopes that are still to come.
+fn next_message(s: &[u8], names: &[u8], cursor: Cursor) -> Next
+    requires { ⌜ Stands (now s) (now names) cursor ⌝ }
+    ensures { λ r. ⌜ Nexts (messagesAhead (now (s .entry)) (now (names .entry))) (now (s .entry)) (now (names .entry)) cursor r ⌝ }
+{
+    let mut c = cursor;
+    loop {
+        let Next::At { scope, rest } = next_scope(s, names, c) else {
+            return Next::NoMore;
+        };
+        c = rest;
+        if scope.message {
+            return Next::At {
+                scope: scope,
+                rest: rest,
+            };
+        }
+    }
+}
+
+// The message of a full name.
+pub fn find_message_by_abs_name(s: &[u8], path: &[u8]) -> LookedUp
+    ensures { λ r. ⌜ r ≡ lookedUp (messagesAt (now (s .entry)) (components (now (path .entry)))) ⌝ }
+{
+    let Next::At { scope, rest } = next_message(s, path, start(path.len() == 0)) else {
+        return LookedUp::NoMessage(Refusal::MessageNotFound);
+    };
+    if let Next::At { scope: _, rest: _ } = next_message(s, path, rest) {
+        return LookedUp::NoMessage(Refusal::MessageFoundMoreThanOnce);
+    }
+    LookedUp::Message(scope)
+}
+
+// The next enum of that name in the scopes that are still to come.
+fn next_enum(s: &[u8], names: &[u8], cursor: Cursor, name: &[u8]) -> NextEnum
+    requires { ⌜ Stands (now s) (now names) cursor ⌝ }
+    ensures { λ r. ⌜ NextsEnum (enumsAhead (now (s .entry)) (now (names .entry)) (now (name .entry)))
+        (now (s .entry)) (now (names .entry)) cursor r ⌝ }
+{
+    let mut c = cursor;
+    loop {
+        let Next::At { scope, rest } = next_scope(s, names, c) else {
+            return NextEnum::NoMore;
+        };
+        c = rest;
+        if let Leaf::At { from, to } = enum_named(s, scope, name) {
+            return NextEnum::At {
+                values: Span { from: from, to: to },
+                rest: rest,
+            };
+        }
+    }
+}
+
+// The enum of a full name.
+pub fn find_enum_by_abs_name(s: &[u8], path: &[u8]) -> LookedUpEnum
+    ensures { λ r. ⌜ r ≡ lookedUpEnum (enumsAt (now (s .entry)) (components (now (path .entry)))) ⌝ }
+{
+    if path.len() == 0 {
+        return LookedUpEnum::NoEnum(Refusal::MessageNotFound);
+    }
+    let last = last_at(path);
+    let names = before(path, last);
+    let NextEnum::At { values, rest } = next_enum(s, names, start(last == 0), &path[last..]) else {
+        return LookedUpEnum::NoEnum(Refusal::MessageNotFound);
+    };
+    if let NextEnum::At { values: _, rest: _ } = next_enum(s, names, rest, &path[last..]) {
+        return LookedUpEnum::NoEnum(Refusal::MessageFoundMoreThanOnce);
+    }
+    LookedUpEnum::Values(values)
+}

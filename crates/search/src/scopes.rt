@@ -1,0 +1,179 @@
+// The scopes at a path, one after the other: fewest package components first, then file order. A path is the text of its names, and
+// a place in it where a name starts; past the end there are no names left.
+ghost use mathlib.Core.Path.{_≡_};
+ghost use mathlib.Core.List.{[]};
+ghost use Prim.Native.Nat.{suc, _≤_};
+ghost use lib.ListN.{length};
+ghost use Rattle.field.specs.Leaf.{Lies};
+ghost use Rattle.path.specs.Path.{namesFrom};
+ghost use Rattle.sheet.specs.Tree.{fileIn};
+ghost use Rattle.scope.specs.Scope.{holding, placed};
+ghost use Rattle.search.specs.Scopes.{follow as followOf};
+ghost use Rattle.search.specs.declared.scopes.Next.the-variants.{At};
+ghost use Rattle.search.specs.Cursor.{here, ahead, startOf, scopeAt, Stands, Nexts};
+use field::Field;
+use field::Leaf;
+use field::Span;
+use limits::MOST_MESSAGES;
+use path::protobuf_rel_path::before;
+use path::protobuf_rel_path::component_end;
+use scope::lookup::LookupScope;
+use scope::lookup::Reached;
+use scope::lookup::down;
+use sheet::table;
+
+// How far a walk through the scopes at a path has come.
+pub struct Cursor {
+    // The packages tried now are the names before this place; the names from here on are followed as messages.
+    pub next: usize,
+    // The file tried next: its place, and its index.
+    pub at: usize,
+    pub file: usize,
+}
+
+// What the next step of such a walk comes to.
+pub enum Next {
+    At { scope: LookupScope, rest: Cursor },
+    NoMore,
+}
+
+// Before the first scope. A path with no names starts past its end.
+pub fn start(bare: bool) -> Cursor
+    ensures { λ r. ⌜ r ≡ startOf bare ⌝ }
+{
+    if bare {
+        return Cursor {
+            next: 1,
+            at: 0,
+            file: 0,
+        };
+    }
+    Cursor {
+        next: 0,
+        at: 0,
+        file: 0,
+    }
+}
+
+// The scope that the names from a place on lead to, each the first message of its name.
+fn follow(s: &[u8], names: &[u8], next: usize, scope: LookupScope) -> Reached
+    requires { ⌜ Lies (scope .body) (now s) × (next ≤ suc (length (now names))) ⌝ }
+    ensures { λ r. ⌜ r ≡ placed (followOf (now (s .entry)) (namesFrom (now (names .entry)) next) (holding (now (s .entry)) scope)) ⌝ }
+{
+    let mut reached = scope;
+    let mut at = next;
+    while at <= names.len() {
+        let end = component_end(names, at);
+        let Reached::To(inner) = down(s, reached, &names[at..end]) else {
+            return Reached::Nowhere;
+        };
+        reached = inner;
+        at = end + 1;
+    }
+    Reached::To(reached)
+}
+
+// The scope that a field of the sheet gives, as the file of this index: its package is the names before the place, and the others are
+// followed.
+fn scope_at(
+    s: &[u8],
+    tag: u8,
+    from: usize,
+    to: usize,
+    names: &[u8],
+    next: usize,
+    file: usize,
+) -> Reached
+    requires { ⌜ (from ≤ to) × (to ≤ length (now s)) × (next ≤ suc (length (now names))) ⌝ }
+    ensures { λ r. ⌜ r ≡ placed (scopeAt (now (s .entry)) (now (names .entry)) next file tag from to) ⌝ }
+{
+    if tag != table::FILE {
+        return Reached::Nowhere;
+    }
+    let Leaf::At { from: n, to: body } = field::leaf_at(s, from, to, table::PACKAGE) else {
+        return Reached::Nowhere;
+    };
+    if !octets::same(&s[n..body], before(names, next)) {
+        return Reached::Nowhere;
+    }
+    follow(
+        s,
+        names,
+        next,
+        LookupScope {
+            file: file,
+            message: false,
+            body: Span { from: body, to: to },
+            left: MOST_MESSAGES,
+        },
+    )
+}
+
+// How many files a field of the sheet is: one, or none.
+fn files_at(s: &[u8], tag: u8, from: usize, to: usize) -> usize
+    requires { ⌜ (from ≤ to) × (to ≤ length (now s)) ⌝ }
+    ensures { λ r. ⌜ (r ≡ length (fileIn (now (s .entry)) tag from to [])) × (r ≤ 1) ⌝ }
+{
+    if tag != table::FILE {
+        return 0;
+    }
+    let Leaf::At { from: _, to: _ } = field::leaf_at(s, from, to, table::PACKAGE) else {
+        return 0;
+    };
+    1
+}
+
+// The next scope of a file whose package is the names before the cursor's place.
+fn next_here(s: &[u8], names: &[u8], cursor: Cursor) -> Next
+    requires { ⌜ Stands (now s) (now names) cursor ⌝ }
+    ensures next { λ r. ⌜ Nexts (here (now (s .entry)) (now (names .entry))) (now (s .entry)) (now (names .entry)) cursor r ⌝ }
+    ensures level { λ r. ⌜ ((p : LookupScope) (c : Cursor) → r ≡ At p c → c .next ≡ cursor .next) ⌝ }
+{
+    let end = s.len();
+    let mut at = cursor.at;
+    let mut file = cursor.file;
+    while at < end {
+        let Field::Whole { tag, from, to } = field::field_at(s, at, end) else {
+            return Next::NoMore;
+        };
+        let index = file;
+        file = index + files_at(s, tag, from, to);
+        at = to;
+        if let Reached::To(scope) = scope_at(s, tag, from, to, names, cursor.next, index) {
+            return Next::At {
+                scope: scope,
+                rest: Cursor {
+                    next: cursor.next,
+                    at: at,
+                    file: file,
+                },
+            };
+        }
+    }
+    Next::NoMore
+}
+
+// The next scope at the path.
+pub fn next_scope(s: &[u8], names: &[u8], cursor: Cursor) -> Next
+    requires { ⌜ Stands (now s) (now names) cursor ⌝ }
+    ensures { λ r. ⌜ Nexts (ahead (now (s .entry)) (now (names .entry))) (now (s .entry)) (now (names .entry)) cursor r ⌝ }
+{
+    let mut c = cursor;
+    loop {
+        if let Next::At { scope, rest } = next_here(s, names, c) {
+            return Next::At {
+                scope: scope,
+                rest: rest,
+            };
+        }
+        if names.len() < c.next {
+            return Next::NoMore;
+        }
+        let end = component_end(names, c.next);
+        c = Cursor {
+            next: end + 1,
+            at: 0,
+            file: 0,
+        };
+    }
+}
