@@ -2,6 +2,9 @@
 """Times the search beside the same walk in Rust, in one run, and prints the ratio.
 
 usage: search.py [ROUNDS]
+       search.py input
+
+The second prints benchfind's stored input: the sheet, and the look-ups once.
 
 The input is a sheet of 200 extensions and 1,000 look-ups from nested scopes. benchfind is the program that `rt check` builds under
 target/bin; search.rs is built here with `rustc -O`. Both read the same input and have to print the same line. Time is the least of ROUNDS runs
@@ -87,9 +90,13 @@ def instructions(program, text, folder):
 
 
 def main():
-    rounds = int(sys.argv[1]) if len(sys.argv) > 1 else 20
     data, where = sheet()
     pairs = look_ups(where)
+    if sys.argv[1:] == ["input"]:
+        text = (f(0x40, data) + f(0x44, struct.pack(">I", 1)) + pairs).hex()
+        print("\n".join(text[i : i + 120] for i in range(0, len(text), 120)))
+        return
+    rounds = int(sys.argv[1]) if len(sys.argv) > 1 else 20
     texts = {n: (f(0x40, data) + f(0x44, struct.pack(">I", n)) + pairs).hex().encode() for n in (0, 1, TIMES)}
     print("sheet %d bytes, 200 extensions, 1000 look-ups, %d times" % (len(data), TIMES))
     with tempfile.TemporaryDirectory() as folder:
@@ -111,4 +118,5 @@ def main():
             print("instructions a look-up: here %.0f, Rust %.0f, ratio %.2f" % (*counts, counts[0] / counts[1]))
 
 
-main()
+if __name__ == "__main__":
+    main()

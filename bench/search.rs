@@ -1,5 +1,5 @@
-// The search of optfind's bench in Rust: the same walk over the same bytes, function by function. Reads the same input as benchfind and
-// prints the same line. Names are those of the Rattle code.
+// The search in Rust: the same walk over the same bytes, function by function, in the order of the Rattle code and by its names. Reads the
+// same input as benchfind and prints the same line. Bytes are compared and copied by the standard library's functions.
 use std::io::Read;
 
 const FILE: u8 = 0x01;
@@ -134,7 +134,7 @@ fn extension_named(s: &[u8], scope: LookupScope, name: &[u8]) -> Option<Declarat
     let mut at = scope.body.from;
     while at < scope.body.to {
         let (tag, from, to) = field_at(s, at, scope.body.to)?;
-        if tag == EXTENSION && named_at(s, from, to, name).is_some() {
+        if named_at(s, from, to, name).is_some() && tag == EXTENSION {
             if let Some(d) = extension_at(s, from, to) {
                 return Some(d);
             }
@@ -225,27 +225,43 @@ fn find_extension_by_abs_path(s: &[u8], path: &[u8]) -> Option<Found> {
     }
 }
 
+fn count(s: &[u8]) -> usize {
+    if s.is_empty() {
+        return 0;
+    }
+    s.iter().filter(|b| **b == b'.').count() + 1
+}
+
+fn put_all(room: &mut [u8], at: usize, bytes: &[u8]) -> usize {
+    room[at..at + bytes.len()].copy_from_slice(bytes);
+    at + bytes.len()
+}
+
 fn candidate(scope: &[u8], path: &[u8], i: usize, room: &mut [u8]) -> usize {
-    let mut end = scope.len();
-    for _ in 0..i {
-        end = scope[..end].iter().rposition(|b| *b == b'.').unwrap_or(0);
+    if path.first() == Some(&b'.') {
+        return put_all(room, 0, &path[1..]);
     }
-    let mut n = 0;
-    if end > 0 {
-        room[..end].copy_from_slice(&scope[..end]);
-        room[end] = b'.';
-        n = end + 1;
+    if i < count(scope) {
+        let mut end = scope.len();
+        for _ in 0..i {
+            end = scope[..end].iter().rposition(|b| *b == b'.').unwrap_or(0);
+        }
+        let n = put_all(room, 0, &scope[..end]);
+        room[n] = b'.';
+        return put_all(room, n + 1, path);
     }
-    room[n..n + path.len()].copy_from_slice(path);
-    n + path.len()
+    put_all(room, 0, path)
+}
+
+fn candidates(scope: &[u8], path: &[u8]) -> usize {
+    if path.first() == Some(&b'.') {
+        return 1;
+    }
+    count(scope) + 1
 }
 
 fn find_extension_by_path(s: &[u8], scope: &[u8], path: &[u8], room: &mut [u8]) -> Option<Found> {
-    if path.first() == Some(&b'.') {
-        return find_extension_by_abs_path(s, &path[1..]);
-    }
-    let count = if scope.is_empty() { 1 } else { scope.iter().filter(|b| **b == b'.').count() + 2 };
-    for i in 0..count {
+    for i in 0..candidates(scope, path) {
         let n = candidate(scope, path, i, room);
         if let Some(found) = find_extension_by_abs_path(s, &room[..n]) {
             return Some(found);
@@ -275,7 +291,6 @@ fn main() {
     let sheet = leaf_at(&input, 0, input.len(), 0x40).unwrap();
     let times = sized_at(&input, sheet.to, input.len(), 0x44, 4).unwrap();
     let count = u32::from_be_bytes([input[times.from], input[times.from + 1], input[times.from + 2], input[times.from + 3]]);
-    let mut room = [0u8; MOST_CANDIDATE];
     let (mut found, mut sum) = (0u32, 0u32);
     for _ in 0..count {
         let mut at = times.to;
@@ -284,6 +299,7 @@ fn main() {
             let path = leaf_at(&input, scope.to, input.len(), 0x43).unwrap();
             let (a, b) = (&input[scope.from..scope.to], &input[path.from..path.to]);
             if (a.is_empty() || is_rel_path(a)) && is_path(b) {
+                let mut room = [0u8; MOST_CANDIDATE];
                 if let Some(f) = find_extension_by_path(&input[sheet.from..sheet.to], a, b, &mut room) {
                     found = found.wrapping_add(1);
                     sum = sum.wrapping_add(f.declaration.shape.number);

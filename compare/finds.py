@@ -4,7 +4,7 @@ docs/DECISIONS.md.
 
 usage: finds.py [write]
 
-Shows where crates/optfind/stdin and stdout are not these cases, or writes them. The other lines of a case that finds an extension (its
+Says whether crates/optfind/stdin and stdout are these cases, or writes them; run it from the root of the repository. The other lines of a case that finds an extension (its
 name, its places) are taken from search.py, which has to find the number that stands here.
 """
 import struct
@@ -52,7 +52,9 @@ CROSSED = file(b"a.b", ext(b"x", 101)) + file(b"a", message(b"b", ext(b"x", 102)
 LONG = b".".join([b"a" * 63] * 4)
 LETTERS = [b"a", b"b", b"c", b"d", b"e", b"f", b"g", b"h", b"i", b"j", b"k", b"l", b"m", b"n", b"o", b"p"]
 
-# (the answer's number, or the number of the extension where that is found), sheet, scope, path
+DEEP = file(LONG, deep([b"a" * 63] * 3, ext(b"a" * 63, 77)))
+
+# the answer's number, sheet, scope, path
 REFUSED = [
     (1, b"\1", b"", b"x"), (3, bytes(32769), b"", b"x"), (1, b"\1", b".", b"."), (2, b"", b".", b"x"), (2, b"", b"", b""),
     (2, b"", b"", b"."), (2, b"", b"", b"..x"), (2, b"", b"", b"x."), (2, b"", b"a..b", b"x"), (2, RANKS, b".plant", b"rank"),
@@ -61,8 +63,9 @@ REFUSED = [
     (4, RANKS, b"plant.Dispatch", b".plant"), (4, RANKS, b"", b"plant.Dispatch"), (4, RANKS, b"", b"rank"),
     (4, RANKS, b"plant.Dispatch", b".Dispatch.rank"), (4, RANKS, b"plan", b"rank"), (4, RANKS, b"", b"plant.Dispatch.rank.rank"),
     (4, file(b"", message(b"M", field(b"x", 1))), b"M", b"x"), (4, file(b"", enum(b"x")), b"", b"x"),
-    (4, file(b"a.b", ext(b"x", 1)), b"", b"a.x"), (4, file(b"ab", ext(b"x", 1)), b"", b"a.b.x"),
+    (3, file(b"", deep(LETTERS + [b"q"], ext(b"x", 1))), b"", b"x"), (4, file(b"a.b", ext(b"x", 1)), b"", b"a.x"), (4, file(b"ab", ext(b"x", 1)), b"", b"a.b.x"),
 ]
+# the number of the extension that is found, sheet, scope, path
 FOUND = [
     (5, P1, b"p", b"x"), (5, P1, b"", b".p.x"), (5, P1, b"", b"p.x"), (5, P1, b"p.q.r", b"x"), (5, P1, b"q", b"p.x"),
     (50002, RANKS, b"plant.Dispatch", b"rank"), (50001, RANKS, b"plant.Dispatch", b".plant.rank"), (50001, RANKS, b"plant.Other", b"rank"),
@@ -91,6 +94,13 @@ FOUND = [
     (7, file(b"p", ext(b"x", 7, FIELD, 11, 3, b"o.F")), b"p", b"x"), (7, file(b"p", ext(b"x", 7, FIELD, 14, 2, b"o.E")), b"p", b"x"),
     (536870911, file(b"", deep(LETTERS, ext(b"x", 536870911))), b".".join(LETTERS), b"x"),
     (4, file(b"", deep(LETTERS, ext(b"y", 3)), ext(b"x", 4)), b".".join(LETTERS), b"x"),
+    # the longest candidate, 511 bytes
+    (77, DEEP, LONG, LONG),
+]
+# the index of the file, by hand too: sheet, scope, path, index
+FILES = [
+    (CROSSED, b"", b".a.b.x", 1), (P1, b"p", b"x", 0), (file(b"") + file(b"a") + file(b"a", ext(b"x", 2)), b"a", b"x", 2),
+    (file(b"b", ext(b"x", 1)) + file(b"", ext(b"x", 2)), b"", b"x", 1),
 ]
 
 
@@ -99,13 +109,16 @@ def cases():
         yield "answer %d" % answer, 0, case
     for number, *case in FOUND:
         yield "number %d" % number, 2, case
+    for *case, index in FILES:
+        yield "file %d" % index, -2, case
 
 
 def texts():
     digits, lines = [], []
     for want, row, (s, scope, path) in cases():
         told = search.expected(s, scope, path)
-        assert told[min(row, len(told) - 1)] == want, (want, told, s.hex(), scope, path)
+        assert len(told) > 2 or row == 0, (want, told)
+        assert told[row] == want, (want, told, s.hex(), scope, path)
         lines += told
         text = (f(0x40, s) + f(0x42, scope) + f(0x43, path)).hex()
         digits += [text[i : i + 120] for i in range(0, len(text), 120)]
@@ -113,12 +126,16 @@ def texts():
 
 
 def main():
+    other = False
     for name, text in zip(("stdin", "stdout"), texts()):
         path = "crates/optfind/" + name
         if sys.argv[1:] == ["write"]:
             open(path, "w").write(text)
-        print("%s: %s" % (path, "these cases" if open(path).read() == text else "OTHER CASES"))
+        same = open(path).read() == text
+        other = other or not same
+        print("%s: %s" % (path, "these cases" if same else "OTHER CASES"))
     print("%d cases" % len(list(cases())))
+    sys.exit(1 if other else 0)
 
 
 if __name__ == "__main__":

@@ -9,8 +9,8 @@ and a path, drawn from few names so that they meet; some sheets are broken in a 
 target/bin; it takes many cases in one run.
 
 ORACLE is a program over protobuf-parse 3.7.2 that reads a line of hexadecimal digits, tags 40 and 41, in its mode `sheet --raw` and prints
-what the option resolver answers. It is asked for the option `(path) = 7` on the message that the found extension extends: what it writes
-begins with the number of the extension that it took. Then it is asked on another message, where it has to answer 5.
+what the option resolver answers. It is asked for the option `(path) = 7` on each of two messages: what it writes begins with the number of
+the extension that it took. optfind compares no extendee, so where the extendee that it prints is the other message, 5 is expected.
 """
 import random
 import struct
@@ -232,24 +232,27 @@ def against(oracle, total):
                 files += f(1, f(0x10, some_path(0, 3)) + plain_items(3))
             batch.append((files + OPTIONS, *some_names(files + OPTIONS)))
         ours = answers(batch)
+        if len(ours) != len(batch):
+            sys.exit("%d answers to %d cases" % (len(ours), len(batch)))
         theirs = {m: original(oracle, [(s, c, p, m) for s, c, p in batch]) for m in (b"o.F", b"o.G")}
         for i, (case, got) in enumerate(zip(batch, ours)):
             for message in (b"o.F", b"o.G"):
                 want = theirs[message][i].split()
                 if got[0] == "answer 4":
-                    told = "4"
+                    told = "refused 4"
                 else:
                     number, extendee = got[2].split()[1], got[3].split()[1]
-                    told = number if extendee.encode() == message else "5"
-                said = str(tag_number(want[3])) if want[1] == "0" else want[1].lstrip("~")
-                seen[told if told in "45" else "found"] = seen.get(told if told in "45" else "found", 0) + 1
+                    told = "found " + number if extendee.encode() == message else "refused 5"
+                said = "found %d" % tag_number(want[3]) if want[1] == "0" else "refused " + want[1]
+                kind = told if told.startswith("refused") else "found"
+                seen[kind] = seen.get(kind, 0) + 1
                 if told != said:
                     differ += 1
                     print("sheet %s scope %s path %s message %s\n  here: %s  original: %s" % (case[0].hex(), case[1], case[2], message, told, want))
                     if differ == 5:
                         sys.exit(1)
         done += 2 * len(batch)
-    print("original: %d look-ups compared (%s), %d differ" % (done, ", ".join("%s: %d" % x for x in sorted(seen.items())), differ))
+    print("original: %d answers compared (%s), %d differ" % (done, ", ".join("%s: %d" % x for x in sorted(seen.items())), differ))
     return differ
 
 

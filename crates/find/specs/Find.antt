@@ -1,14 +1,16 @@
 -- The call `find`: an extension by its path in a scope, of any sheet.
 --
---                judgeAll s c p ==  the first fault of the sheet s, the scope c and the path p, in this order
---                     foundOr o ==  the extension, or that there is none
---                   unless v r  ==  r, or the refusal of the verdict v
---                 finding s c p ==  the extension that the path p finds in the scope c, or why there is none
---                     wordsOf f ==  the ten words of an extension
---                 findWords s c p ==  what `find` comes to
---             foundName s c p ==  the found extension's name, as the sheet has it; empty where there is none
---                  spanIn t p ==  the two places of the span, where it is one of t
---             nameFor s t c p ==  the same, of a scope and a path that are spans of the request t; empty where they are not
+--    judgeAll s c p == the first fault of the sheet s, the scope c and the path p, in this order
+--         foundOr o == the extension, or that there is none
+--        unless v r == r, or the refusal of the verdict v
+--     finding s c p == the extension that the path p finds in the scope c, or why there is none
+--         wordsOf f == the ten words of an extension
+--          worded r == these words for the lent memory, or the refusal
+--   findWords s c p == what `find` comes to
+--        nameIn s r == the found extension's name, as the sheet has it; empty where there is none
+--   foundName s c p == the name of what the path p finds in the scope c
+--        spanIn t p == the two places of the span, where it is one of t
+--   nameFor s t c p == the same, of a scope and a path that are spans of the request t; empty where they are not
 --
 -- Assumes nothing.
 use mathlib.Core.Bool.{_&&_}

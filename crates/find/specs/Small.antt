@@ -1,7 +1,8 @@
 -- What the words of an extension need: its places are ordered, and each fits a word.
 --
---   wordBound == what a word is below
---   Small f  <-> every place of the extension and its file's index is below that, and each span ends no earlier than it starts
+--     wordBound ==  what a word is below
+--   SmallSpan p <-> the span ends no earlier than it starts, and below that
+--       Small f <-> so do all spans of the extension, and its file's index is below that
 --
 -- Assumes nothing.
 use Prim.Native.Nat.{ℕ, _≤_, _<_, _^_}

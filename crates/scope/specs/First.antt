@@ -1,12 +1,12 @@
 -- The first of a list, with regard to a test or to what comes of its elements.
 --
---      pick b x o == x where b holds, else o
---   first good xs == the first of xs that passes the test
---      given o f  == what f makes of that which o holds, none where o holds nothing
---     orElse o p  == o, or p where o holds nothing
+--       pick b x o == x where b holds, else o
+--    first good xs == the first of xs that passes the test
+--        given o f == what f makes of that which o holds, none where o holds nothing
+--       orElse o p == o, or p where o holds nothing
 --   firstSome f xs == the first thing that f makes of xs, in their order
---     onto o xs   == what o holds, in front of xs
---   collect f xs  == all that f makes of xs, in their order
+--        onto o xs == what o holds, in front of xs
+--     collect f xs == all that f makes of xs, in their order
 --
 -- Assumes nothing.
 use mathlib.Core.Bool.{Bool, true, false}

@@ -1,11 +1,13 @@
 -- The declaration of a number at a message, from 01's "Listing and lowering": "A number is known if the message, or an extension of it,
 -- declares it; fields first, then sheet order."
 --
---         hasNumber k d <=> the declaration is of the number k
---         extends s m d <=> the extension is of the message whose full name is m
---      fieldNumbered k c ==  the first field of the number k in the scope c
+--             hasNumber k d <=> the declaration is of the number k
+--             extends s m d <=> the extension is of the message whose full name is m
+--       isExtension s m k d <=> it is of that message and that number
+--         fieldNumbered k c ==  the first field of the number k in the scope c
 --   extensionNumbered s m k ==  the first extension of the message m, wherever the sheet declares it, of the number k
---   declarationOf s c m k ==  what declares the number k at the message that the scope c is and whose full name is m
+--     declarationOf s c m k ==  what declares the number k at the message that the scope c is and whose full name is m; the caller hands on
+--                               the name by which it reached that scope
 --
 -- Assumes nothing.
 use mathlib.Core.Bool.{Bool, _&&_}

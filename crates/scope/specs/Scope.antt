@@ -1,15 +1,15 @@
 -- Scopes: a file or a message, with what it declares; and the first declaration of a name in one. 01, The search: "the first of that name
 -- at each level", "first declared extension with the last component as its name", "Of equal field or value names the first counts".
 --
---                    Scope == a scope: where it stands, as the code keeps it, and what it holds
---              holding s p == the scope that stands at the place p of the sheet s
---            fileScope i f == the scope that the i-th file is, counted from 0
---         messageScope c m == the scope that the message m of the scope c is
+--                      Scope ==  a scope: where it stands, as the code keeps it, and what it holds
+--                holding s p ==  the scope that stands at the place p of the sheet s
+--              fileScope i f ==  the scope that the i-th file is, counted from 0
+--           messageScope c m ==  the scope that the message m of the scope c is
 --              isNamed s n p <=> the name at the span p is n
---               down s n c == the scope of the first message of the name n in the scope c
--- declarationNamed x s n c == the first extension of that name that the scope declares, where x holds; else the first field
---          enumNamed s n c == the first enum, likewise
---        valueNamed s n vs == the first value of that name
+--                 down s n c ==  the scope of the first message of the name n in the scope c
+--   declarationNamed x s n c ==  the first extension of that name that the scope declares, where x holds; else the first field
+--            enumNamed s n c ==  the first enum, likewise
+--          valueNamed s n vs ==  the first value of that name
 --
 --   placed, declared, valued, bodied == what the code answers, of what there is or is not
 --

@@ -1,10 +1,14 @@
 -- What one field of a scope says, for the contracts of the functions that look at one field.
 --
---              named n bs <=> the bytes are the name n
---     bodyAt k n s t a e ==  what stands after the name in a field of the tag k and of the name n
+--                named n bs <=> the bytes are the name n
+--        bodyAt k n s t a e ==  what stands after the name in a field of the tag k and of the name n
 --   declarationAt x s t a e ==  the extension that a field of a scope is, where x holds; else the message's field
---          whose good d ==  the declaration d, where it passes the test
---   valueNamedAt n s t a e ==  the enum value that a field is, where its name is n
+--         kept, keptValue b ==  the declaration, the value, where b holds
+--              whose good d ==  the declaration d, where it passes the test; whoseValue likewise
+--    valueNamedAt n s t a e ==  the enum value that a field is, where its name is n
+--          itemAt d s t a e ==  what a field of a scope holds, with d levels of messages left
+--         messageAt d s a e ==  what the payload of a message is, likewise
+--            fileAt s t a e ==  the file that a field of a sheet is
 --
 -- Assumes nothing.
 use mathlib.Core.Bool.{Bool, true, false}
@@ -55,7 +59,6 @@ whoseValue good (Values v) = keptValue (good v) v
 unfoldable pub valueNamedAt : List ℕ → List ℕ → ℕ → ℕ → ℕ → Valued
 valueNamedAt n s t a e = elim (eqb t valueTag) [ true ↦ whoseValue (λ v. isNamed s n (v .name)) (valueAt s a e) | false ↦ NoValue ]
 
--- what a field of a scope, the payload of a message and a field of a sheet hold, with d levels of messages left
 abbrev pub itemAt : ℕ → List ℕ → ℕ → ℕ → ℕ → Items
 itemAt d s t a e = itemIn (messageIn d s) s t a e none
 

@@ -7,13 +7,13 @@ use mathlib.Core.Option.{Option, none, some}
 use Prim.Native.Nat.{ℕ}
 use native.Mathlib.Omega.{arith}
 use Rattle.scope.specs.First.{pick, first, given, orElse, firstSome}
+use Rattle.scope.proofs.FirstLaws.{given-holds, or-else-last}
 use Rattle.search.specs.Among.{Among, here, there, Behind}
 use Rattle.search.proofs.AmongLaws.{behind-here, behind-next}
 
 -- ---- what is made of an option
 pub given-some : {A B : Type 0} (o : Option A) (f : A → Option B) (y : B) → given o f ≡ some y → (a : A) × (o ≡ some a) × (f a ≡ some y)
-given-some none f y e = absurd (let z : _≡_ {A = ℕ} 0 1 = cc in omega arith)
-given-some (some a) f y e = (a, refl, e)
+given-some {A} o f y = given-holds o f y ((a : A) × (o ≡ some a) × (f a ≡ some y)) λ a p q. (a, p, q)
 
 -- ---- the first thing that is made of a list
 else-none : {B : Type 0} (o p : Option B) → orElse o p ≡ none → (o ≡ none) × (p ≡ none)
@@ -30,11 +30,7 @@ module _ {A B : Type 0} (f : A → Option B) where
   none-firsts (x ∷ xs) h = rw (h x here) (none-firsts xs λ y m. h y (there m))
 
   pub firsts-one : (x : A) → firstSome f (x ∷ []) ≡ f x
-  firsts-one x = go (f x)
-    where
-      go : (o : Option B) → orElse o none ≡ o
-      go none = refl
-      go (some b) = refl
+  firsts-one x = or-else-last (f x)
 
   -- the element of which it is made, and nothing is made of those before it
   pub record Makes (y : B) (xs : List A) : Type 0 where

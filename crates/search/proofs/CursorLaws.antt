@@ -16,14 +16,15 @@ use Rattle.octets.specs.Octets.{part}
 use Rattle.field.specs.declared.Field.{Field}
 use Rattle.field.specs.declared.Field.the-variants.{Whole, Cut}
 use Rattle.field.specs.Field.{fieldAt}
-use Rattle.field.specs.Leaf.{Lies}
+use Rattle.field.specs.declared.Leaf.{Leaf}
+use Rattle.field.specs.Leaf.{Lies, onLeaf}
 use Rattle.field.specs.Walk.{walk}
 use Rattle.field.proofs.FieldLaws.{field-bounds, field-ordered, field-inside}
 use Rattle.field.proofs.EachLaws.{field-within, field-less}
 use Rattle.path.specs.Path.{Path, dot, untilDot, spell, split, namesFrom}
 use Rattle.path.proofs.PathLaws.{spell-split}
 use Rattle.path.proofs.Names.{end-within, end-dot, names-past, names-next, front-first, front-more}
-use Rattle.sheet.specs.Tree.{fileIn, filesIn, treeOf}
+use Rattle.sheet.specs.Tree.{filesIn, treeOf}
 use Rattle.sheet.proofs.TreeLaws.{tree-files, files-end, files-cut, files-step}
 use Rattle.scope.specs.declared.lookup.LookupScope.{LookupScope}
 use Rattle.scope.specs.declared.lookup.Reached.{Reached}
@@ -34,9 +35,9 @@ use Rattle.search.specs.declared.scopes.Next.the-variants.{At, NoMore}
 use Rattle.scope.specs.First.{onto}
 use Rattle.scope.specs.Scope.{Scope, holding, placed}
 use Rattle.search.specs.Scopes.{scopesIn, scopesFrom, scopes}
-use Rattle.search.specs.Cursor.{frontAt, wider, here, ahead, startOf, scopeAt, Stands, Steps, Nexts}
+use Rattle.search.specs.Cursor.{frontAt, wider, here, ahead, startOf, packageAt, scopeAt, Within, Stands, Steps, Nexts}
 use Rattle.scope.proofs.FirstLaws.{onto-none, onto-some}
-use Rattle.search.proofs.ScopesLaws.{end-fits, scopes-step, scope-nowhere, scope-to, scope-lies}
+use Rattle.search.proofs.ScopesLaws.{end-fits, package-within, scopes-step, scope-nowhere, scope-to, scope-lies}
 
 -- ---- what a step tells
 module _ (L : Cursor → List Scope) (s t : List ℕ) (c : Cursor) (r : Next) (n : Nexts L s t c r) where
@@ -173,19 +174,19 @@ module _ (s t : List ℕ) (c : Cursor) (at file : ℕ)
     pub here-cut : r ≡ Cut → Nexts (here s t) s t c NoMore
     here-cut g = onward-none (here s t) s t c _ k (rw (files-cut s at (length s) (rw (← l) h) r (rw (← l) q) g))
 
-    module _ (tag a e : ℕ) (g : r ≡ Whole tag a e) (n : ℕ) (f : n ≡ length (fileIn s tag a e []))
-        (o : Reached) (u : o ≡ placed (scopeAt s t (c .next) file tag a e)) where
+    module _ (tag a e : ℕ) (g : r ≡ Whole tag a e) (pk : Leaf) (j : pk ≡ packageAt s tag a e)
+        (n : ℕ) (f : n ≡ onLeaf 0 pk (λ n m. 1)) (o : Reached) (u : o ≡ placed (scopeAt s t (c .next) file pk e)) where
       here-open : here s t (record { next = c .next; at = at; file = file })
-          ≡ onto (scopeAt s t (c .next) file tag a e) (here s t (record { next = c .next; at = e; file = file + n }))
+          ≡ onto (scopeAt s t (c .next) file pk e) (here s t (record { next = c .next; at = e; file = file + n }))
       here-open =
           rw (
             files-step s at (length s) (rw (← l) h) r (rw (← l) q) tag a e g,
-            scopes-step s (take (c .next - 1) t) (namesFrom t (c .next)) file tag a e (filesIn s (walk s e (length s))),
+            scopes-step s t (c .next) file tag a e (filesIn s (walk s e (length s))) pk j,
             ← f,
           )
 
       here-stands : n ≤ 1 → Stands s t (record { next = c .next; at = e; file = file + n })
-      here-stands j =
+      here-stands one =
           let b = field-bounds s at end r q tag a e g in
           record {
             within = omega (arith, b .inside);
@@ -194,20 +195,23 @@ module _ (s t : List ℕ) (c : Cursor) (at file : ℕ)
             starts = k .stands .starts;
           }
 
+      here-within : Within pk e
+      here-within = package-within s tag a e pk j
+
       here-inside : e ≤ length s
       here-inside = omega (arith, field-inside s at end r q tag a e g)
 
       pub here-next : n ≤ 1 → o ≡ Nowhere → Onward (here s t) s t c (record { next = c .next; at = e; file = file + n })
-      here-next j x = record {
-        stands = here-stands j;
-        rest = k .rest ∙ here-open ∙ onto-none _ _ (scope-nowhere s t (c .next) file tag a e here-inside o u x);
+      here-next one x = record {
+        stands = here-stands one;
+        rest = k .rest ∙ here-open ∙ onto-none _ _ (scope-nowhere s t (c .next) file pk e here-within here-inside o u x);
       }
 
       pub here-at : n ≤ 1 → (p : LookupScope) → o ≡ To p
           → Nexts (here s t) s t c (At p (record { next = c .next; at = e; file = file + n }))
-      here-at j p x =
-          onward-at (here s t) s t c _ k p _ (scope-lies s t (c .next) file tag a e here-inside o u p x) (here-stands j)
-          (here-open ∙ onto-some _ _ _ (scope-to s t (c .next) file tag a e here-inside o u p x))
+      here-at one p x =
+          onward-at (here s t) s t c _ k p _ (scope-lies s t (c .next) file pk e here-within here-inside o u p x) (here-stands one)
+          (here-open ∙ onto-some _ _ _ (scope-to s t (c .next) file pk e here-within here-inside o u p x))
 
 -- it stays at its packages
 pub level-none : (next : ℕ) (p : LookupScope) (c : Cursor) → NoMore ≡ At p c → c .next ≡ next
@@ -218,7 +222,7 @@ pub level-at : (p : LookupScope) (c : Cursor) (next : ℕ) → c .next ≡ next
 level-at p c next h p′ c′ g = let u : c′ ≡ c = cc in rw u h
 
 pub ruleset here-laws =
-    (onward-start, here-end, here-cut, here-next, here-at, level-none, level-at, field-ordered, field-within, field-less)
+    (onward-start, here-end, here-cut, here-next, here-at, level-none, level-at, package-within, field-ordered, field-within, field-less)
 
 -- ---- next_scope
 module _ (s t : List ℕ) (c₀ c : Cursor) (k : Onward (ahead s t) s t c₀ c) (r : Next) (n : Nexts (here s t) s t c r) where

@@ -2,9 +2,8 @@
 -- Assumes nothing.
 use mathlib.Core.Path.{_≡_, refl}
 use mathlib.Core.List.{List, [], _∷_, _++_, map}
-use Prim.Native.Nat.{ℕ, _/_, _%_}
+use Prim.Native.Nat.{ℕ}
 use Prim.Native.String.{String}
-use lib.ListN.{length}
 use Rattle.octets.specs.Octets.{bigAt, sameBytes}
 use Rattle.reply.specs.Reply.{number, ascii}
 use Rattle.field.specs.Field.{fieldAt}
@@ -12,32 +11,15 @@ use Rattle.field.specs.Leaf.{leafAt}
 use Rattle.field.specs.Walk.{walk}
 use Rattle.path.specs.Path.{onFirst, split, components, spell, isAbs, rootless, parent, last, ancestors}
 use Rattle.path.specs.Candidates.{candidates}
-use Rattle.sheet.specs.Table.{fileTag, messageTag, extensionTag, packageTag, nameTag, extendeeTag, numberTag, typeTag, labelTag}
 use Rattle.sheet.specs.Declaration.{hasTypePath, typePathAt, shapeAt, extensionAt, messageFieldAt, valueAt}
 use Rattle.sheet.specs.Tree.{valueIn, itemIn, itemsIn, fileIn, treeOf}
 use Rattle.search.specs.declared.extension.Resolved.{Resolved}
 use Rattle.search.specs.declared.extension.Resolved.the-variants.{Field, Refused}
 use Rattle.search.specs.Scopes.{scopes}
 use Rattle.search.specs.Lookup.{findExtensionByAbsPath, findExtensionByPath, extResolveField}
+use Rattle.search.proofs.Sheets.{file, message, extension}
 
--- ---- sheets, written as 01's table has them
-abbrev tagged : ℕ → List ℕ → List ℕ
-tagged t p = t ∷ length p / 256 ∷ length p % 256 ∷ p
-
-abbrev file : String → List ℕ → List ℕ
-file name body = tagged fileTag (tagged packageTag (ascii name) ++ body)
-
-abbrev message : String → List ℕ → List ℕ
-message name body = tagged messageTag (tagged nameTag (ascii name) ++ body)
-
--- an optional uint32
-abbrev extension : String → String → ℕ → List ℕ
-extension name extendee n =
-    tagged extensionTag
-    (tagged nameTag (ascii name) ++ tagged extendeeTag (ascii extendee)
-    ++ tagged numberTag (n / 16777216 ∷ n / 65536 % 256 ∷ n / 256 % 256 ∷ n % 256 ∷ [])
-    ++ tagged typeTag (13 ∷ []) ++ tagged labelTag (1 ∷ []))
-
+-- ---- the sheets
 abbrev options : String
 options = "google.protobuf.FieldOptions"
 
@@ -80,9 +62,9 @@ abbrev example : List ℕ → String → String → Reply → Example
 example s scope name says = record { sheet = s; scope = scope; name = name; says = says }
 
 answer : Example → Reply
-unfolding extResolveField findExtensionByPath findExtensionByAbsPath scopes candidates ancestors components split onFirst spell isAbs rootless
-    parent last sameBytes treeOf fileIn itemsIn itemIn valueIn extensionAt messageFieldAt valueAt shapeAt typePathAt hasTypePath walk leafAt
-    fieldAt bigAt
+unfolding extResolveField findExtensionByPath findExtensionByAbsPath scopes candidates ancestors components split onFirst
+    spell isAbs rootless parent last sameBytes treeOf fileIn itemsIn itemIn valueIn extensionAt messageFieldAt valueAt
+    shapeAt typePathAt hasTypePath walk leafAt fieldAt bigAt
 answer x = reply (extResolveField (x .sheet) (ascii (x .scope)) (ascii options) (ascii (x .name)))
 
 -- P2 the inner rank; P3 the leading dot; P4 an undeclared scope; P5 a wrong extendee ends the search; P6 no rank; P7 fewest package

@@ -24,7 +24,7 @@ use Rattle.sheet.specs.declared.declaration.Declaration.{Declaration}
 use Rattle.sheet.specs.declared.declaration.Declared.{Declared}
 use Rattle.sheet.specs.declared.declaration.Declared.the-variants.{Declares}
 use Rattle.sheet.specs.Tree.{Items, File, valuesIn, treeOf}
-use Rattle.sheet.specs.Members.{Enumeration, messagesOf, extensionsOf, fieldsOf, declarationsOf, everyExtensionOf, everyExtension}
+use Rattle.sheet.specs.Members.{Enumeration, extensionsOf, fieldsOf, declarationsOf, everyExtensionOf, everyExtension}
 use Rattle.sheet.proofs.PlaceLaws.{Places}
 use Rattle.sheet.proofs.LyingLaws.{Lying, lying-none, lying-message, lying-extension, lying-enum, lying-field, items-lie}
 use Rattle.sheet.proofs.LyingLaws.{FileLies, Filed, filed-none, filed-one, tree-lies, tree-few}
@@ -38,14 +38,15 @@ use Rattle.search.specs.declared.full_name.LookedUp.{LookedUp}
 use Rattle.search.specs.declared.full_name.LookedUp.the-variants as looked
 use Rattle.search.specs.declared.full_name.LookedUpEnum.{LookedUpEnum}
 use Rattle.search.specs.declared.full_name.LookedUpEnum.the-variants.{Values}
-use Rattle.scope.specs.First.{first, orElse, firstSome, onto, collect}
-use Rattle.scope.specs.Scope.{Scope, holding, fileScope, messageScope, isNamed, down, declarationNamed, enumNamed, declared}
+use Rattle.scope.specs.First.{orElse, firstSome, onto, collect}
+use Rattle.scope.specs.Scope.{Scope, holding, fileScope, isNamed, down, declarationNamed, enumNamed, declared}
 use Rattle.scope.specs.Number.{hasNumber, extends, isExtension, fieldNumbered, extensionNumbered, declarationOf}
-use Rattle.search.specs.Scopes.{follow, onlyWhere, scopeIn, scopesIn, scopesFrom, scopes}
+use Rattle.search.specs.Scopes.{follow, scopeIn, scopesIn, scopesFrom, scopes}
 use Rattle.search.specs.Lookup.{foundIn, findExtensionByAbsPath, findExtensionByPath, searched, extended, compared, extResolveField}
 use Rattle.search.specs.Lookup.{messageOf, messagesAt, enumsAt, lookedUp, lookedUpEnum}
 use Rattle.scope.proofs.FirstLaws.{given-holds, Every, none-of, one-of, first-holds}
 use Rattle.scope.proofs.Answers.{declared-some}
+use Rattle.search.proofs.ScopeFiles.{only-some, down-file}
 use Rattle.scope.proofs.Held.{HeldEnum, down-held, down-lies-ordered, down-lies-within}
 use Rattle.scope.proofs.Held.{enum-held, enum-lies-ordered, enum-lies-within}
 
@@ -76,10 +77,6 @@ module _ {A B : Type 0} (P : A → Type 0) (f : A → Option B) where
       go none p r q = r q
       go (some c) p r q = h x k (p ∙ q)
 
-only-where-some : {A : Type 0} (b : Bool) (o : Option A) (x : A) → onlyWhere b o ≡ some x → o ≡ some x
-only-where-some true o x q = q
-only-where-some false o x q = absurd (let z : _≡_ {A = ℕ} 0 1 = cc in omega arith)
-
 -- ---- the scopes at a path
 pub record Standing (s : List ℕ) (c : Scope) : Type 0 where
   pub held : c ≡ holding s (c .place)
@@ -88,11 +85,6 @@ pub record Standing (s : List ℕ) (c : Scope) : Type 0 where
   pub counted : c .place .file ≤ length s
 
 module _ (s : List ℕ) where
-  down-file : (n : List ℕ) (c c′ : Scope) → down s n c ≡ some c′ → c′ .place .file ≡ c .place .file
-  down-file n c c′ =
-      given-holds (first (λ m. isNamed s n (m .name)) (messagesOf (c .items))) (λ m. some (messageScope c m)) c′
-      (c′ .place .file ≡ c .place .file) λ m p q. let u : c′ ≡ messageScope c m = cc in rw u
-
   down-stands : (n : List ℕ) (c c′ : Scope) → Standing s c → down s n c ≡ some c′ → Standing s c′
   down-stands n c c′ k q =
       let q′ : down s n (holding s (c .place)) ≡ some c′ = ap (down s n) (sym (k .held)) ∙ q in
@@ -100,7 +92,7 @@ module _ (s : List ℕ) where
         held = down-held s n (c .place) c′ q′;
         ordered = down-lies-ordered s n (c .place) c′ q′;
         within = down-lies-within s n (c .place) c′ q′ (k .within);
-        counted = rw (down-file n c c′ q) (k .counted);
+        counted = rw (down-file s n c c′ q) (k .counted);
       }
 
   pub follow-stands : (ns : Path) (c c′ : Scope) → Standing s c → follow s ns c ≡ some c′ → Standing s c′
@@ -121,7 +113,7 @@ module _ (s : List ℕ) where
       → (c : Scope) → scopeIn s p ns i f ≡ some c → Standing s c
   scope-in-stands p ns i f k h c q =
       follow-stands ns (fileScope i f) c (file-stands i f k h)
-      (only-where-some (sameBytes (text s (f .packageName)) p) (follow s ns (fileScope i f)) c q)
+      (only-some (sameBytes (text s (f .packageName)) p) (follow s ns (fileScope i f)) c q .1)
 
   scopes-in-stand : (p : List ℕ) (ns : Path) (i : ℕ) {fs : List File} → Filed s fs → i + length fs ≤ length s
       → Every (Standing s) (scopesIn s p ns i fs)
@@ -388,7 +380,7 @@ module _ (s : List ℕ) (p : Path) where
   unfolding messagesAt
   messages-stand =
       every-collect (Standing s) messageOf (Standing s)
-      (λ c k x q. let u : some c ≡ some x = only-where-some (c .place .message) (some c) x q in let v : x ≡ c = cc in rw v k)
+      (λ c k x q. let u : some c ≡ some x = only-some (c .place .message) (some c) x q .1 in let v : x ≡ c = cc in rw v k)
       (scopes-stand s p)
 
   module _ (r : LookedUp) (q : r ≡ lookedUp (messagesAt s p)) (x : LookupScope) (g : r ≡ looked.Message x) where

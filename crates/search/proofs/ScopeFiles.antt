@@ -29,13 +29,13 @@ pub components-same : (t : List ℕ) (p : Path) → components t ≡ p → sameB
 components-same t p e = rw (← e, spell-components t) (same-refl t)
 
 -- ---- the scope that a file gives
-only-some : {A : Type 0} (b : Bool) (o : Option A) (x : A) → onlyWhere b o ≡ some x → (b ≡ true) × (o ≡ some x)
+pub only-some : {A : Type 0} (b : Bool) (o : Option A) (x : A) → onlyWhere b o ≡ some x → (b ≡ true) × (o ≡ some x)
 only-some true o x e = (refl, e)
 only-some false o x e = absurd (let z : _≡_ {A = ℕ} 0 1 = cc in omega arith)
 
 module _ (s : List ℕ) where
   -- a message is in the file of the scope that it stands in
-  down-file : (n : Name) (c d : Scope) → down s n c ≡ some d → d .place .file ≡ c .place .file
+  pub down-file : (n : Name) (c d : Scope) → down s n c ≡ some d → d .place .file ≡ c .place .file
   down-file n c d e =
       let r = given-some (first (λ m. isNamed s n (m .name)) (messagesOf (c .items))) (λ m. some (messageScope c m)) d e in
       let q : messageScope c (r .0) ≡ d = cc in

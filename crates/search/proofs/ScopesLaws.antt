@@ -1,5 +1,5 @@
--- The laws of the scopes that the files of a sheet give: the ways through `start`, `files_at`, `follow` and `scope_at`, what one field of
--- the sheet adds to the scopes at a path, and that a scope that was found is what stands at its place.
+-- The laws of the scopes that the files of a sheet give: the ways through `start`, `package_at`, `follow` and
+-- `scope_at`, what one field of the sheet adds to the scopes at a path, and that a scope that was found is what stands at its place.
 --
 --            Placed s c <-> the scope c holds what stands at its place, which is one of the sheet
 --  Following v s t at p <-> v is the scope that the names of t from the place `at` on lead to from the one at p
@@ -13,7 +13,8 @@ use mathlib.Core.Option.{Option, none, some}
 use Prim.Native.Nat.{ℕ, suc, _+_, _-_, _*_, _^_, _≤_, _<_}
 use native.Mathlib.Nat.{add-zero}
 use native.Mathlib.Omega.{arith}
-use borrow.Author.Tests.{not-true, not-false}
+use borrow.Author.Tests.{not-true, not-false, ne-eqb}
+use lib.Dec.{eqb}
 use mir.Syntax.{w64}
 use mir.Val.{Fits}
 use lib.ListN.{length, take, drop}
@@ -21,24 +22,23 @@ use Rattle.limits.specs.Figures.{mostMessages}
 use Rattle.octets.specs.Octets.{part, sameBytes}
 use Rattle.field.specs.declared.Leaf.{Leaf}
 use Rattle.field.specs.declared.Leaf.the-variants.{At, Not}
-use Rattle.field.specs.Leaf.{span, anyBytes, leafAt, Lies}
-use Rattle.field.proofs.LeafLaws.{leaf-ordered, leaf-inside, leaf-within}
+use Rattle.field.specs.Leaf.{span, anyBytes, leafAt, onLeaf, Lies}
+use Rattle.field.specs.Walk.{walk}
+use Rattle.field.proofs.LeafLaws.{leaf-ordered, leaf-inside}
 use Rattle.path.specs.Path.{Path, untilDot, namesFrom}
 use Rattle.path.proofs.Names.{end-after, end-within, names-past, names-next}
 use Rattle.sheet.specs.Table.{fileTag, packageTag}
-use Rattle.sheet.specs.Tree.{File, fileIn}
-use Rattle.sheet.proofs.TreeLaws.{file-other, file-unnamed, file-named}
+use Rattle.sheet.specs.Tree.{File, fileWith, itemsIn, fileIn}
 use Rattle.scope.specs.declared.lookup.LookupScope.{LookupScope}
 use Rattle.scope.specs.declared.lookup.Reached.{Reached}
 use Rattle.scope.specs.declared.lookup.Reached.the-variants.{To, Nowhere}
 use Rattle.search.specs.declared.scopes.Cursor.{Cursor}
-use Rattle.scope.specs.First.{firstSome, onto, orElse}
+use Rattle.scope.specs.First.{onto}
 use Rattle.scope.specs.Scope.{Scope, holding, down, placed}
-use Rattle.search.specs.Scopes.{follow, onlyWhere, scopeIn, scopesIn}
-use Rattle.search.specs.Cursor.{startOf, scopeAt}
-use Rattle.scope.proofs.FirstLaws.{given-holds, or-else-last}
+use Rattle.search.specs.Scopes.{follow, onlyWhere, scopesIn}
+use Rattle.search.specs.Cursor.{startOf, packageAt, scopeAt, Within}
+use Rattle.scope.proofs.FirstLaws.{given-holds}
 use Rattle.scope.proofs.Answers.{placed-nowhere}
-use Rattle.sheet.proofs.MemberLaws.{file-cases}
 use Rattle.scope.proofs.Held.{down-held, down-lies, down-nowhere, down-to, down-to-ordered, down-to-within}
 
 -- ---- start
@@ -50,27 +50,55 @@ start-named b h = rw h
 
 pub ruleset start-laws = (start-bare, start-named)
 
--- ---- the file that a field of the sheet is: one, or none
-module _ (s : List ℕ) (t a e : ℕ) where
-  pub files-other : (t ≡ fileTag → ⊥) → 0 ≡ length (fileIn s t a e [])
-  files-other h = rw (file-other s t a e [] h)
+-- ---- package_at
+module _ (s : List ℕ) (tag a e : ℕ) where
+  pub package-other : (tag ≡ fileTag → ⊥) → Not ≡ packageAt s tag a e
+  unfolding packageAt
+  package-other h = simp (packageAt, ne-eqb tag fileTag h)
 
-  module _ (h : t ≡ fileTag) (r : Leaf) (q : r ≡ leafAt packageTag anyBytes s a e) where
-    pub files-none : r ≡ Not → 0 ≡ length (fileIn s t a e [])
-    files-none g = rw (file-unnamed s t a e [] h r q g)
+  pub package-file : tag ≡ fileTag → (l : Leaf) → l ≡ leafAt packageTag anyBytes s a e → l ≡ packageAt s tag a e
+  unfolding packageAt
+  package-file h l q = rw (q, h)
 
-    pub files-one : (n m : ℕ) → r ≡ At n m → 1 ≡ length (fileIn s t a e [])
-    files-one n m g = rw (file-named s t a e [] h r q n m g)
+  pub package-within : (l : Leaf) → l ≡ packageAt s tag a e → Within l e
+  unfolding packageAt
+  package-within l q = go (eqb tag fileTag) q
+    where
+      go : (b : Bool) → l ≡ elim b [ true ↦ leafAt packageTag anyBytes s a e | false ↦ Not ] → Within l e
+      go true q = record { ordered = leaf-ordered packageTag anyBytes s a e l q; inside = leaf-inside packageTag anyBytes s a e l q }
+      go false q = record {
+        ordered = λ n m g. absurd (let z : _≡_ {A = ℕ} 0 1 = cc in omega arith);
+        inside = λ n m g. absurd (let z : _≡_ {A = ℕ} 0 1 = cc in omega arith);
+      }
 
-pub ruleset files-laws = (files-other, files-none, files-one)
+  -- it says whether the field is a file, and which
+  file-package : (rest : List File) → fileIn s tag a e rest
+      ≡ onLeaf rest (packageAt s tag a e) λ n m. fileWith (span n m) (span m e) (itemsIn mostMessages s (walk s m e)) ∷ rest
+  unfolding fileIn packageAt
+  file-package rest = go (eqb tag fileTag)
+    where
+      file : ℕ → ℕ → List File
+      file n m = fileWith (span n m) (span m e) (itemsIn mostMessages s (walk s m e)) ∷ rest
+
+      go : (b : Bool) → elim b [ true ↦ onLeaf rest (leafAt packageTag anyBytes s a e) file | false ↦ rest ]
+          ≡ onLeaf rest (elim b [ true ↦ leafAt packageTag anyBytes s a e | false ↦ Not ]) file
+      go true = refl
+      go false = refl
+
+pub ruleset package-laws = (package-other, package-file)
 
 -- what a field adds to the scopes
-pub scopes-step : (s p : List ℕ) (ns : Path) (i t a e : ℕ) (rest : List File)
-    → scopesIn s p ns i (fileIn s t a e rest)
-    ≡ onto (firstSome (scopeIn s p ns i) (fileIn s t a e [])) (scopesIn s p ns (i + length (fileIn s t a e [])) rest)
-scopes-step s p ns i t a e rest =
-    file-cases (λ f. scopesIn s p ns i (f rest) ≡ onto (firstSome (scopeIn s p ns i) (f [])) (scopesIn s p ns (i + length (f [])) rest))
-    s t a e (rw (add-zero i)) (λ n m _. rw or-else-last)
+pub scopes-step : (s t : List ℕ) (next i tag a e : ℕ) (rest : List File) (l : Leaf) → l ≡ packageAt s tag a e
+    → scopesIn s (take (next - 1) t) (namesFrom t next) i (fileIn s tag a e rest)
+    ≡ onto (scopeAt s t next i l e) (scopesIn s (take (next - 1) t) (namesFrom t next) (i + onLeaf 0 l (λ n m. 1)) rest)
+scopes-step s t next i tag a e rest l q = rw (file-package s tag a e rest, ← q) (go l)
+  where
+    go : (l : Leaf)
+        → scopesIn s (take (next - 1) t) (namesFrom t next) i
+        (onLeaf rest l λ n m. fileWith (span n m) (span m e) (itemsIn mostMessages s (walk s m e)) ∷ rest)
+        ≡ onto (scopeAt s t next i l e) (scopesIn s (take (next - 1) t) (namesFrom t next) (i + onLeaf 0 l (λ n m. 1)) rest)
+    go Not = rw (add-zero i)
+    go (At n m) = refl
 
 -- ---- a scope that names lead to
 record Placed (s : List ℕ) (c : Scope) : Type 0 where
@@ -134,50 +162,56 @@ pub ruleset follow-laws = (following-start, following-end, following-none, follo
 abbrev pub filePlace : ℕ → ℕ → ℕ → LookupScope
 filePlace i m e = record { file = i; message = false; body = span m e; left = mostMessages }
 
-module _ (s t : List ℕ) (next i tag a e : ℕ) where
-  pub scope-other : (tag ≡ fileTag → ⊥) → Nowhere ≡ placed (scopeAt s t next i tag a e)
-  scope-other h = rw (file-other s tag a e [] h)
+module _ (s t : List ℕ) (next i : ℕ) (l : Leaf) (e : ℕ) where
+  pub scope-none : l ≡ Not → Nowhere ≡ placed (scopeAt s t next i l e)
+  scope-none g = rw g
 
-  module _ (h : tag ≡ fileTag) (r : Leaf) (q : r ≡ leafAt packageTag anyBytes s a e) where
-    pub scope-none : r ≡ Not → Nowhere ≡ placed (scopeAt s t next i tag a e)
-    scope-none g = rw (file-unnamed s tag a e [] h r q g)
+  module _ (n m : ℕ) (g : l ≡ At n m) (x : List ℕ) (f : x ≡ take (next - 1) t) (b : Bool) (y : b ≡ sameBytes (part s n m) x) where
+    scope-open : scopeAt s t next i l e ≡ onlyWhere b (follow s (namesFrom t next) (holding s (filePlace i m e)))
+    scope-open = rw (g, ← f, ← y)
 
-    module _ (n m : ℕ) (g : r ≡ At n m) (x : List ℕ) (f : x ≡ take (next - 1) t) (b : Bool) (y : b ≡ sameBytes (part s n m) x) where
-      scope-open : scopeAt s t next i tag a e ≡ onlyWhere b (follow s (namesFrom t next) (holding s (filePlace i m e)))
-      scope-open = rw (file-named s tag a e [] h r q n m g, ← f, ← y, or-else-last)
+    pub scope-elsewhere : b ≡ false → Nowhere ≡ placed (scopeAt s t next i l e)
+    scope-elsewhere z = rw (scope-open, z)
 
-      pub scope-elsewhere : b ≡ false → Nowhere ≡ placed (scopeAt s t next i tag a e)
-      scope-elsewhere z = rw (scope-open, z)
+    pub scope-followed : b ≡ true → (o : Reached) → o ≡ placed (follow s (namesFrom t next) (holding s (filePlace i m e)))
+        → o ≡ placed (scopeAt s t next i l e)
+    scope-followed z o p = p ∙ rw (scope-open, z)
 
-      pub scope-followed : b ≡ true → (o : Reached) → o ≡ placed (follow s (namesFrom t next) (holding s (filePlace i m e)))
-          → o ≡ placed (scopeAt s t next i tag a e)
-      scope-followed z o p = p ∙ rw (scope-open, z)
+-- where the package lies
+module _ (l : Leaf) (e : ℕ) (w : Within l e) (n m : ℕ) (g : l ≡ At n m) where
+  pub within-ordered : n ≤ m
+  within-ordered = w .ordered n m g
 
-  scope-placed : e ≤ length s → (c : Scope) → scopeAt s t next i tag a e ≡ some c → Placed s c
-  scope-placed h c =
-      file-cases (λ f. firstSome (scopeIn s (take (next - 1) t) (namesFrom t next) i) (f []) ≡ some c → Placed s c) s tag a e
-      (λ q. absurd (let z : _≡_ {A = ℕ} 0 1 = cc in omega arith))
-      (λ n m p. at n m p (sameBytes (part s n m) (take (next - 1) t)))
+  pub within-inside : m ≤ e
+  within-inside = w .inside n m g
+
+  pub within-sheet : (s : List ℕ) → e ≤ length s → m ≤ length s
+  within-sheet s h = omega (arith, w .inside n m g)
+
+module _ (s t : List ℕ) (next i : ℕ) (l : Leaf) (e : ℕ) (w : Within l e) (h : e ≤ length s) where
+  scope-placed : (c : Scope) → scopeAt s t next i l e ≡ some c → Placed s c
+  scope-placed c = go l w
     where
-      at : (n m : ℕ) → leafAt packageTag anyBytes s a e ≡ At n m → (b : Bool)
-          → orElse (onlyWhere b (follow s (namesFrom t next) (holding s (filePlace i m e)))) none ≡ some c → Placed s c
-      at n m p false q = absurd (let z : _≡_ {A = ℕ} 0 1 = cc in omega arith)
-      at n m p true q =
-          followed-placed s (namesFrom t next) (holding s (filePlace i m e))
-          (record { held = refl; lies = (leaf-inside packageTag anyBytes s a e (At n m) (sym p) n m refl, h) }) c
-          (rw or-else-last at q)
+      at : (m : ℕ) → m ≤ e → (b : Bool) → onlyWhere b (follow s (namesFrom t next) (holding s (filePlace i m e))) ≡ some c → Placed s c
+      at m k false q = absurd (let z : _≡_ {A = ℕ} 0 1 = cc in omega arith)
+      at m k true q =
+          followed-placed s (namesFrom t next) (holding s (filePlace i m e)) (record { held = refl; lies = (k, h) }) c q
+
+      go : (l : Leaf) → Within l e → scopeAt s t next i l e ≡ some c → Placed s c
+      go Not w q = absurd (let z : _≡_ {A = ℕ} 0 1 = cc in omega arith)
+      go (At n m) w q = at m (w .inside n m refl) (sameBytes (part s n m) (take (next - 1) t)) q
 
   -- what `scope_at` answers, to its caller
-  module _ (h : e ≤ length s) (r : Reached) (q : r ≡ placed (scopeAt s t next i tag a e)) where
-    pub scope-nowhere : r ≡ Nowhere → scopeAt s t next i tag a e ≡ none
-    scope-nowhere = placed-nowhere r (scopeAt s t next i tag a e) q
+  module _ (r : Reached) (q : r ≡ placed (scopeAt s t next i l e)) where
+    pub scope-nowhere : r ≡ Nowhere → scopeAt s t next i l e ≡ none
+    scope-nowhere = placed-nowhere r (scopeAt s t next i l e) q
 
     module _ (p : LookupScope) (g : r ≡ To p) where
-      pub scope-to : scopeAt s t next i tag a e ≡ some (holding s p)
-      scope-to = placed-to s (scopeAt s t next i tag a e) (scope-placed h) r q p g
+      pub scope-to : scopeAt s t next i l e ≡ some (holding s p)
+      scope-to = placed-to s (scopeAt s t next i l e) scope-placed r q p g
 
       pub scope-lies : Lies (p .body) s
-      scope-lies = scope-placed h (holding s p) scope-to .lies
+      scope-lies = scope-placed (holding s p) scope-to .lies
 
 pub ruleset scope-laws =
-    (scope-other, scope-none, scope-elsewhere, scope-followed, leaf-ordered, leaf-inside, leaf-within, not-true, not-false)
+    (scope-none, scope-elsewhere, scope-followed, within-ordered, within-inside, within-sheet, not-true, not-false)

@@ -40,8 +40,7 @@ pub none-nowhere : (s scope name : List ℕ) → ((p : Path) → Among p (candid
 unfolding findExtensionByPath
 none-nowhere s scope name h = none-firsts (findExtensionByAbsPath s) (candidates scope name) λ p m. found.none-find s p (h p m)
 
--- The mission, demand 2: "An extension part that is reached gets ExtensionNotFound exactly when none of 01's scopes at its candidate paths
--- declares that name."
+-- So an extension part that is reached gets ExtensionNotFound exactly when none of 01's scopes at its candidate paths declares that name.
 pub not-found-none : (s scope m name : List ℕ) → isPath name ≡ true → extResolveField s scope m name ≡ Refused ExtensionNotFound
     → (p : Path) → Among p (candidates scope name) → Undeclared s p
 unfolding extResolveField

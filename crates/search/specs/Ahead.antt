@@ -1,9 +1,8 @@
 -- The messages and the enums of a full name that a cursor has still before it.
 --
---       messageOf c ==  the scope, where it is a message
---   messagesAhead s t c ==  the messages among the scopes to come
---     enumsAhead s t n c ==  the enums of the name n in the scopes to come, each the first of its scope
---   StepsEnum, NextsEnum <-> as Steps and Nexts, of enums and where their values stand
+--     messagesAhead s t c ==  the messages among the scopes to come
+--      enumsAhead s t n c ==  the enums of the name n in the scopes to come, each the first of its scope
+--    StepsEnum, NextsEnum <-> as Steps and Nexts, of enums and where their values stand
 --
 -- Assumes nothing.
 use mathlib.Core.Path.{_≡_}

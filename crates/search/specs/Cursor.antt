@@ -1,29 +1,34 @@
 -- A walk through the scopes at a path, one after the other: what a cursor has still before it.
 --
---        frontAt t at ==  the components of t that stand before the place `at`, where one starts
---      wider s front ns ==  the scopes of the files whose package has more components of the path than `front`
---           here s t c ==  the scopes still to come at the cursor c of the path t, of the packages that are tried now
---          ahead s t c ==  all scopes still to come
---           startOf b  ==  the cursor before the first scope, of a path with no names where b holds
---     scopeAt s t next i tag a e ==  the scope that a field of the sheet gives, as the i-th file
---         Stands s t c <-> the cursor's places are within the sheet and the text, and a component of the text starts at its `next`
---   Steps L s t c p c′ <-> of L, the scopes to come, the next is at the place p, and c′ is the cursor behind it
---      Nexts L s t c r <-> r is the next of L, or that there is none
+--             frontAt t at ==  the components of t that stand before the place `at`, where one starts
+--         wider s front ns ==  the scopes of the files whose package has more components of the path than `front`
+--               here s t c ==  the scopes still to come at the cursor c of the path t, of the packages that are tried now
+--              ahead s t c ==  all scopes still to come
+--                startOf b ==  the cursor before the first scope, of a path with no names where b holds
+--      packageAt s tag a e ==  the package of a field of the sheet, where that is a file
+--   scopeAt s t next i l e ==  the scope that a field of the package l and the end e gives, as the i-th file
+--               Within l e <-> a leaf's places are in order, and not behind the place e
+--             Stands s t c <-> the cursor's places are within the sheet and the text, and a component of the text starts at its `next`
+--       Steps L s t c p c′ <-> of L, the scopes to come, the next is at the place p, and c′ is the cursor behind it
+--          Nexts L s t c r <-> r is the next of L, or that there is none
 --
 -- Assumes nothing.
 use mathlib.Core.Path.{_≡_}
 use mathlib.Core.Bool.{Bool, true, false}
 use mathlib.Core.List.{List, [], _∷_, _++_}
-use mathlib.Core.Option.{Option}
+use mathlib.Core.Option.{Option, none}
 use Prim.Native.Nat.{ℕ, suc, _-_, _≤_, _<_}
 use lib.Dec.{eqb}
 use lib.ListN.{length, getD, take}
-use Rattle.field.specs.Leaf.{Lies}
+use Rattle.limits.specs.Figures.{mostMessages}
+use Rattle.field.specs.declared.Leaf.{Leaf}
+use Rattle.field.specs.declared.Leaf.the-variants.{At as LeafAt, Not}
+use Rattle.field.specs.Leaf.{span, anyBytes, leafAt, onLeaf, Lies}
 use Rattle.field.specs.Walk.{walk}
 use Rattle.path.specs.Path.{Path, dot, split, namesFrom}
-use Rattle.sheet.specs.Tree.{fileIn, filesIn}
+use Rattle.sheet.specs.Table.{fileTag, packageTag}
+use Rattle.sheet.specs.Tree.{fileWith, itemsIn, filesIn}
 use Rattle.scope.specs.declared.lookup.LookupScope.{LookupScope}
-use Rattle.scope.specs.First.{firstSome}
 use Rattle.scope.specs.Scope.{Scope, holding}
 use Rattle.search.specs.declared.scopes.Cursor.{Cursor}
 use Rattle.search.specs.declared.scopes.Next.{Next}
@@ -48,8 +53,16 @@ abbrev pub startOf : Bool → Cursor
 startOf true = record { next = 1; at = 0; file = 0 }
 startOf false = record { next = 0; at = 0; file = 0 }
 
-abbrev pub scopeAt : List ℕ → List ℕ → ℕ → ℕ → ℕ → ℕ → ℕ → Option Scope
-scopeAt s t next i tag a e = firstSome (scopeIn s (take (next - 1) t) (namesFrom t next) i) (fileIn s tag a e [])
+unfoldable pub packageAt : List ℕ → ℕ → ℕ → ℕ → Leaf
+packageAt s tag a e = elim (eqb tag fileTag) [ true ↦ leafAt packageTag anyBytes s a e | false ↦ Not ]
+
+abbrev pub scopeAt : List ℕ → List ℕ → ℕ → ℕ → Leaf → ℕ → Option Scope
+scopeAt s t next i l e = onLeaf none l λ n m.
+    scopeIn s (take (next - 1) t) (namesFrom t next) i (fileWith (span n m) (span m e) (itemsIn mostMessages s (walk s m e)))
+
+pub record Within (l : Leaf) (e : ℕ) : Type 0 where
+  pub ordered : (n m : ℕ) → l ≡ LeafAt n m → n ≤ m
+  pub inside : (n m : ℕ) → l ≡ LeafAt n m → m ≤ e
 
 pub record Stands (s t : List ℕ) (c : Cursor) : Type 0 where
   pub within : c .at ≤ length s

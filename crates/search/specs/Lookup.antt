@@ -3,12 +3,14 @@
 --                      foundIn s n c == the first extension of the name n that the scope c declares, with the index of its file
 --         findExtensionByAbsPath s p == the first scope's first extension of the path p
 --   findExtensionByPath s scope name == the first candidate's, of a name in a scope
+--                         searched o == what the code answers, of what there is or is not
+--                       extended b f == the extension f where b holds, else that its extendee is another
+--                     compared s m o == the extension, where there is one and it is one of the message m
+--     extResolveField s scope m name == the extension that a name finds in a scope, where it is one of the message m
 --                        messageOf c == the scope c, where it is a message
 --                     messagesAt s p == the messages of the full name p
 --                        enumsAt s p == the enums of the full name p
---   extResolveField s scope m name   == the extension that a name finds in a scope, where it is one of the message m
---
---   searched, lookedUp, lookedUpEnum == what the code answers: of none MessageNotFound, of more than one MessageFoundMoreThanOnce
+--             lookedUp, lookedUpEnum == the one that there is; of none MessageNotFound, of more than one MessageFoundMoreThanOnce
 --
 -- Assumes nothing.
 use mathlib.Core.Bool.{Bool, true, false}

@@ -1,10 +1,9 @@
 // Messages and enums by full name: there has to be exactly one.
 ghost use mathlib.Core.Path.{_≡_};
 ghost use Rattle.path.specs.Path.{components};
-ghost use Rattle.search.specs.Cursor.{Stands};
+ghost use Rattle.search.specs.Cursor.{Stands, Nexts};
 ghost use Rattle.search.specs.Lookup.{messagesAt, enumsAt, lookedUp, lookedUpEnum};
 ghost use Rattle.search.specs.Ahead.{messagesAhead, enumsAhead, NextsEnum};
-ghost use Rattle.search.specs.Cursor.{Nexts};
 use crate::scopes::Cursor;
 use crate::scopes::Next;
 use crate::scopes::next_scope;

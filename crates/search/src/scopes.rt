@@ -1,16 +1,14 @@
 // The scopes at a path, one after the other: fewest package components first, then file order. A path is the text of its names, and
 // a place in it where a name starts; past the end there are no names left.
 ghost use mathlib.Core.Path.{_≡_};
-ghost use mathlib.Core.List.{[]};
 ghost use Prim.Native.Nat.{suc, _≤_};
 ghost use lib.ListN.{length};
-ghost use Rattle.field.specs.Leaf.{Lies};
+ghost use Rattle.field.specs.Leaf.{Lies, onLeaf};
 ghost use Rattle.path.specs.Path.{namesFrom};
-ghost use Rattle.sheet.specs.Tree.{fileIn};
 ghost use Rattle.scope.specs.Scope.{holding, placed};
 ghost use Rattle.search.specs.Scopes.{follow as followOf};
 ghost use Rattle.search.specs.declared.scopes.Next.the-variants.{At};
-ghost use Rattle.search.specs.Cursor.{here, ahead, startOf, scopeAt, Stands, Nexts};
+ghost use Rattle.search.specs.Cursor.{here, ahead, startOf, packageAt, scopeAt, Within, Stands, Nexts};
 use field::Field;
 use field::Leaf;
 use field::Span;
@@ -73,27 +71,44 @@ fn follow(s: &[u8], names: &[u8], next: usize, scope: LookupScope) -> Reached
     Reached::To(reached)
 }
 
-// The scope that a field of the sheet gives, as the file of this index: its package is the names before the place, and the others are
-// followed.
+// The package of a field of the sheet that is a file.
+fn package_at(s: &[u8], tag: u8, from: usize, to: usize) -> Leaf
+    requires { ⌜ (from ≤ to) × (to ≤ length (now s)) ⌝ }
+    ensures { λ r. ⌜ r ≡ packageAt (now (s .entry)) tag from to ⌝ }
+{
+    if tag != table::FILE {
+        return Leaf::Not;
+    }
+    field::leaf_at(s, from, to, table::PACKAGE)
+}
+
+// How many files a field of this package is: one, or none.
+fn files_in(package_name: Leaf) -> usize
+    ensures { λ r. ⌜ (r ≡ onLeaf 0 package_name (λ n m. 1)) × (r ≤ 1) ⌝ }
+{
+    let Leaf::At { from: _, to: _ } = package_name else {
+        return 0;
+    };
+    1
+}
+
+// The scope that a field of this package and this end gives, as the file of this index: the package is the names before the place, and
+// the others are followed.
 fn scope_at(
     s: &[u8],
-    tag: u8,
-    from: usize,
+    package_name: Leaf,
     to: usize,
     names: &[u8],
     next: usize,
     file: usize,
 ) -> Reached
-    requires { ⌜ (from ≤ to) × (to ≤ length (now s)) × (next ≤ suc (length (now names))) ⌝ }
-    ensures { λ r. ⌜ r ≡ placed (scopeAt (now (s .entry)) (now (names .entry)) next file tag from to) ⌝ }
+    requires { ⌜ Within package_name to × (to ≤ length (now s)) × (next ≤ suc (length (now names))) ⌝ }
+    ensures { λ r. ⌜ r ≡ placed (scopeAt (now (s .entry)) (now (names .entry)) next file package_name to) ⌝ }
 {
-    if tag != table::FILE {
-        return Reached::Nowhere;
-    }
-    let Leaf::At { from: n, to: body } = field::leaf_at(s, from, to, table::PACKAGE) else {
+    let Leaf::At { from, to: body } = package_name else {
         return Reached::Nowhere;
     };
-    if !octets::same(&s[n..body], before(names, next)) {
+    if !octets::same(&s[from..body], before(names, next)) {
         return Reached::Nowhere;
     }
     follow(
@@ -109,20 +124,6 @@ fn scope_at(
     )
 }
 
-// How many files a field of the sheet is: one, or none.
-fn files_at(s: &[u8], tag: u8, from: usize, to: usize) -> usize
-    requires { ⌜ (from ≤ to) × (to ≤ length (now s)) ⌝ }
-    ensures { λ r. ⌜ (r ≡ length (fileIn (now (s .entry)) tag from to [])) × (r ≤ 1) ⌝ }
-{
-    if tag != table::FILE {
-        return 0;
-    }
-    let Leaf::At { from: _, to: _ } = field::leaf_at(s, from, to, table::PACKAGE) else {
-        return 0;
-    };
-    1
-}
-
 // The next scope of a file whose package is the names before the cursor's place.
 fn next_here(s: &[u8], names: &[u8], cursor: Cursor) -> Next
     requires { ⌜ Stands (now s) (now names) cursor ⌝ }
@@ -136,10 +137,11 @@ fn next_here(s: &[u8], names: &[u8], cursor: Cursor) -> Next
         let Field::Whole { tag, from, to } = field::field_at(s, at, end) else {
             return Next::NoMore;
         };
+        let package_name = package_at(s, tag, from, to);
         let index = file;
-        file = index + files_at(s, tag, from, to);
+        file = index + files_in(package_name);
         at = to;
-        if let Reached::To(scope) = scope_at(s, tag, from, to, names, cursor.next, index) {
+        if let Reached::To(scope) = scope_at(s, package_name, to, names, cursor.next, index) {
             return Next::At {
                 scope: scope,
                 rest: Cursor {

@@ -21,6 +21,7 @@ next-here-spec = tie.close (tie.spec Inv-loop μ-loop
     (λ c. search (needs, here-laws))
     (λ c. search (needs, here-laws))
     (λ c κs. search (needs, here-laws))
+    (λ c κs. search (needs, here-laws))
     (λ c. search (needs, here-laws))
     (λ c κs. search (needs, here-laws))
     (λ c. search (needs, here-laws))

@@ -8,8 +8,6 @@ use Rattle.search.proofs.scopes.scope_at.Tie as tie
 pub scope-at-spec : {M : Type 1} → statement M
 scope-at-spec = tie.close (tie.spec
     (λ c. search (needs, scope-laws))
-    (λ c κs. search (needs, scope-laws))
-    (λ c. search (needs, scope-laws))
     (λ c. search (needs, scope-laws))
     (λ c. search (needs, scope-laws))
     (λ c. search (needs, scope-laws))

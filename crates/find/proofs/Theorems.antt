@@ -1,0 +1,59 @@
+-- What `find` answers, each statement below its sentence. `s` is the sheet, `c` the scope, `p` the path; what is fine has passed the form.
+-- Assumes nothing.
+use mathlib.Core.Path.{_≡_, refl, sym, ap, _∙_}
+use mathlib.Core.Bool.{true}
+use mathlib.Core.List.{List}
+use mathlib.Core.Option.{Option, none, some}
+use Prim.Native.Nat.{ℕ}
+use native.Mathlib.Omega.{arith}
+use Rattle.path.specs.Path.{Path, isPath}
+use Rattle.path.specs.Candidates.{candidates}
+use Rattle.reply.specs.declared.Refusal.{Refusal}
+use Rattle.reply.specs.declared.Refusal.the-variants.{BadRequest, ExtensionNotFound}
+use Rattle.reply.specs.declared.Verdict.the-variants.{Fine, Refused as Bad}
+use Rattle.reply.specs.Verdicts.{first}
+use Rattle.reply.specs.Outcome.{refuse, give}
+use Rattle.reply.proofs.VerdictLaws.{first-fine-rest, judged-fine}
+use Rattle.sheetform.specs.Form.{judgeSheet}
+use Rattle.modelform.specs.Form.{judgeScope, judgePath}
+use Rattle.search.specs.declared.extension.Found.{Found}
+use Rattle.search.specs.Lookup.{findExtensionByPath}
+use Rattle.search.specs.Among.{Among, Undeclared, Answers}
+use Rattle.search.proofs.Theorems.{nowhere-none, none-nowhere, found-answers}
+use Rattle.find.specs.Find.{judgeAll, foundOr, finding, wordsOf, worded, findWords}
+
+-- ---- what a fine input comes to
+module _ (s c p : List ℕ) (h : judgeAll s c p ≡ Fine) where
+  words-open : findWords s c p ≡ worded (foundOr (findExtensionByPath s c p))
+  unfolding findWords finding
+  words-open = rw h
+
+  path-form : isPath p ≡ true
+  unfolding judgeAll judgePath
+  path-form =
+      judged-fine BadRequest (isPath p)
+      (first-fine-rest (judgeScope c) (judgePath p) (first-fine-rest (judgeSheet s) (first (judgeScope c) (judgePath p)) h))
+
+  -- The answer 4 is given exactly when no scope at a candidate path declares the name:
+  pub not-found-none : findWords s c p ≡ refuse ExtensionNotFound → (q : Path) → Among q (candidates c p) → Undeclared s q
+  not-found-none e = nowhere-none s c p path-form (go (findExtensionByPath s c p) (sym words-open ∙ e))
+    where
+      go : (o : Option Found) → worded (foundOr o) ≡ refuse ExtensionNotFound → o ≡ none
+      go none x = refl
+      go (some f) x = absurd (let z : _≡_ {A = ℕ} 0 1 = cc in omega arith)
+
+  pub none-not-found : ((q : Path) → Among q (candidates c p) → Undeclared s q) → findWords s c p ≡ refuse ExtensionNotFound
+  none-not-found k = words-open ∙ ap (λ o. worded (foundOr o)) (none-nowhere s c p k)
+
+  -- and else the words are those of the extension that answers.
+  pub found-words : (f : Found) → findExtensionByPath s c p ≡ some f → findWords s c p ≡ give (wordsOf f)
+  found-words f e = words-open ∙ ap (λ o. worded (foundOr o)) e
+
+  pub found-first : (f : Found) → findExtensionByPath s c p ≡ some f → Answers s c p f
+  found-first = found-answers s c p
+
+-- ---- "Inputs in the order a call names them, the sheet first, each by .. the first fault from the front": a fault of form is the answer,
+-- whatever the search would find
+pub form-first : (s c p : List ℕ) (w : Refusal) → judgeAll s c p ≡ Bad w → findWords s c p ≡ refuse w
+unfolding findWords finding
+form-first s c p w h = rw h

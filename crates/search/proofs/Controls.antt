@@ -1,0 +1,272 @@
+-- Closed cases of the lookups, which the checker computes: of each rule cases that hold, cases at its border, and cases that are refused.
+-- Assumes nothing.
+use mathlib.Core.Path.{_≡_, refl}
+use mathlib.Core.List.{List, [], _∷_, _++_, map}
+use mathlib.Core.Option.{Option, none, some}
+use Prim.Native.Nat.{ℕ}
+use Prim.Native.String.{String}
+use Rattle.octets.specs.Octets.{bigAt, sameBytes}
+use Rattle.reply.specs.Reply.{number, ascii}
+use Rattle.field.specs.Field.{fieldAt}
+use Rattle.field.specs.Leaf.{text, leafAt}
+use Rattle.field.specs.Walk.{walk}
+use Rattle.path.specs.Path.{onFirst, split, components, spell, parent, last}
+use Rattle.sheet.specs.declared.declaration.Declaration.{Declaration}
+use Rattle.sheet.specs.declared.declaration.Value.{Value}
+use Rattle.sheet.specs.Declaration.{hasTypePath, typePathAt, shapeAt, extensionAt, messageFieldAt, valueAt}
+use Rattle.sheet.specs.Tree.{valueIn, valuesIn, itemIn, itemsIn, fileIn, treeOf}
+use Rattle.sheet.specs.Members.{fieldsOf}
+use Rattle.scope.specs.Scope.{Scope, holding}
+use Rattle.scope.specs.Number.{declarationOf}
+use Rattle.search.specs.declared.full_name.LookedUp.{LookedUp}
+use Rattle.search.specs.declared.full_name.LookedUp.the-variants.{Message, NoMessage}
+use Rattle.search.specs.declared.full_name.LookedUpEnum.{LookedUpEnum}
+use Rattle.search.specs.declared.full_name.LookedUpEnum.the-variants.{Values, NoEnum}
+use Rattle.search.specs.Scopes.{scopes}
+use Rattle.search.specs.Lookup.{messagesAt, enumsAt, lookedUp, lookedUpEnum}
+use Rattle.search.proofs.Sheets.{file, message, extension, field, value, enum}
+
+-- a sheet, a full name in it, and what the lookup says
+record Case (A : Type 0) : Type 0 where
+  sheet : List ℕ
+  path : String
+  says : A
+
+abbrev at : {A : Type 0} → List ℕ → String → A → Case A
+at s p a = record { sheet = s; path = p; says = a }
+
+-- ---- messages and enums by full name: of one that is found the index of its file and the number of its first field, of an enum that of
+-- its first value; of one that is not, the reply's number
+data Reply : Type 0 where
+  inFile : ℕ → ℕ → Reply
+  values : ℕ → Reply
+  bare : Reply
+  refused : ℕ → Reply
+
+abbrev marked : ℕ → List Declaration → Reply
+marked i [] = bare
+marked i (d ∷ ds) = inFile i (d .shape .number)
+
+abbrev messageReply : List ℕ → LookedUp → Reply
+messageReply s (Message p) = marked (p .file) (fieldsOf (holding s p .items))
+messageReply s (NoMessage w) = refused (number w)
+
+aMessage : Case Reply → Reply
+unfolding messagesAt scopes components split onFirst spell sameBytes treeOf fileIn itemsIn itemIn valueIn extensionAt
+    messageFieldAt valueAt shapeAt typePathAt hasTypePath walk leafAt fieldAt bigAt
+aMessage x = messageReply (x .sheet) (lookedUp (messagesAt (x .sheet) (components (ascii (x .path)))))
+
+abbrev marker : ℕ → List ℕ
+marker k = field "f" k
+
+-- M and, in it, N and the enum E, after another file
+abbrev nested : List ℕ
+nested =
+    file "q" (message "M" (marker 1))
+    ++ file "p" (enum "E" (value "A" 4 ++ value "B" 5)
+    ++ message "M" (marker 2 ++ message "N" (marker 3) ++ enum "E" (value "A" 6)))
+
+-- two files of one package
+abbrev doubled : List ℕ
+doubled = file "p" (message "M" (marker 1) ++ enum "E" (value "A" 3)) ++ file "p" (message "M" (marker 2) ++ enum "E" (value "A" 4))
+
+-- package a.b with M and E, and package a with the message b that has M and E
+abbrev crossed : List ℕ
+crossed =
+    file "a.b" (message "M" (marker 1) ++ enum "E" (value "A" 3))
+    ++ file "a" (message "b" (marker 5 ++ message "M" (marker 2) ++ enum "E" (value "A" 4)))
+
+-- two of one name in one scope
+abbrev twice : List ℕ
+twice =
+    file "p" (message "M" (marker 1 ++ message "N" (marker 7)) ++ message "M" (marker 2 ++ message "O" (marker 8))
+    ++ enum "E" (value "A" 3) ++ enum "E" (value "A" 4))
+
+messages : List (Case Reply)
+messages =
+    -- one, by package and name
+    at nested "p.M" (inFile 1 2)
+    ∷ at nested "q.M" (inFile 0 1)
+    -- one in a message
+    ∷ at nested "p.M.N" (inFile 1 3)
+    -- a file without a package
+    ∷ at (file "" (message "M" (marker 1))) "M" (inFile 0 1)
+    -- a message without a field
+    ∷ at (file "p" (message "M" [])) "p.M" bare
+    -- the package that is the whole path is no message, but the message of that path beside it is one
+    ∷ at (file "a" (message "M" (marker 1))) "a" (refused 7)
+    ∷ at crossed "a.b" (inFile 1 5)
+    -- undeclared: the name, the package, what is in it, and the name without its package
+    ∷ at nested "p.O" (refused 7)
+    ∷ at nested "o.M" (refused 7)
+    ∷ at nested "q.M.N" (refused 7)
+    ∷ at nested "M" (refused 7)
+    -- packages are compared whole
+    ∷ at (file "pp" (message "M" [])) "p.M" (refused 7)
+    -- in two files of one package
+    ∷ at doubled "p.M" (refused 8)
+    -- in a package, and in a message of a shorter package
+    ∷ at crossed "a.b.M" (refused 8)
+    -- two in one scope are one: the first, and what only the second holds is not found
+    ∷ at twice "p.M" (inFile 0 1)
+    ∷ at twice "p.M.N" (inFile 0 7)
+    ∷ at twice "p.M.O" (refused 7)
+    -- an enum is no message, nor is an extension
+    ∷ at nested "p.E" (refused 7)
+    ∷ at (file "p" (extension "x" "p.M" 1)) "p.x" (refused 7)
+    -- the empty path, and the empty sheet
+    ∷ at (file "" (message "M" (marker 1))) "" (refused 7)
+    ∷ at [] "M" (refused 7)
+    ∷ []
+
+messages-found : map aMessage messages ≡ map (λ x. x .says) messages
+unfolding aMessage messages
+messages-found = refl
+
+-- ---- enums by full name
+abbrev firstValue : List Value → Reply
+firstValue [] = bare
+firstValue (v ∷ vs) = values (v .number)
+
+abbrev enumReply : List ℕ → LookedUpEnum → Reply
+enumReply s (Values b) = firstValue (valuesIn s (walk s (b .from) (b .to)))
+enumReply s (NoEnum w) = refused (number w)
+
+anEnum : Case Reply → Reply
+unfolding enumsAt scopes components split onFirst spell parent last sameBytes treeOf fileIn itemsIn itemIn valueIn extensionAt
+    messageFieldAt valueAt shapeAt typePathAt hasTypePath walk leafAt fieldAt bigAt
+anEnum x = enumReply (x .sheet) (lookedUpEnum (enumsAt (x .sheet) (components (ascii (x .path)))))
+
+enums : List (Case Reply)
+enums =
+    -- in a package, in a message, and without a package
+    at nested "p.E" (values 4)
+    ∷ at nested "p.M.E" (values 6)
+    ∷ at (file "" (enum "E" (value "A" 1))) "E" (values 1)
+    -- an enum without a value
+    ∷ at (file "p" (enum "E" [])) "p.E" bare
+    -- a message is no enum, nor is a package
+    ∷ at nested "p.M" (refused 7)
+    ∷ at nested "p" (refused 7)
+    -- undeclared: the name, the package, and the name without its package
+    ∷ at nested "p.D" (refused 7)
+    ∷ at nested "q.E" (refused 7)
+    ∷ at nested "E" (refused 7)
+    -- a value is no enum
+    ∷ at nested "p.E.A" (refused 7)
+    -- in two files of one package
+    ∷ at doubled "p.E" (refused 8)
+    -- in a package, and in a message of a shorter package
+    ∷ at crossed "a.b.E" (refused 8)
+    -- two in one scope are one, the first
+    ∷ at twice "p.E" (values 3)
+    -- the empty path, and the empty sheet
+    ∷ at nested "" (refused 7)
+    ∷ at [] "E" (refused 7)
+    ∷ []
+
+enums-found : map anEnum enums ≡ map (λ x. x .says) enums
+unfolding anEnum enums
+enums-found = refl
+
+-- ---- numbers at a message: the name of what declares them
+data Known : Type 0 where
+  is : List ℕ → Known
+  unknown : Known
+  noMessage : Known
+
+abbrev known : List ℕ → Option Declaration → Known
+known s none = unknown
+known s (some d) = is (text s (d .name))
+
+abbrev knownIn : List ℕ → String → ℕ → List Scope → Known
+knownIn s m k [] = noMessage
+knownIn s m k (c ∷ cs) = known s (declarationOf s (holding s (c .place)) (ascii m) k)
+
+record Numbered : Type 0 where
+  sheet : List ℕ
+  path : String
+  number : ℕ
+  says : Known
+
+abbrev declares : List ℕ → String → ℕ → Known → Numbered
+declares s p k a = record { sheet = s; path = p; number = k; says = a }
+
+declaring : Numbered → Known
+unfolding declarationOf messagesAt scopes components split onFirst spell sameBytes treeOf fileIn itemsIn itemIn valueIn extensionAt
+    messageFieldAt valueAt shapeAt typePathAt hasTypePath walk leafAt fieldAt bigAt
+declaring x = knownIn (x .sheet) (x .path) (x .number) (messagesAt (x .sheet) (components (ascii (x .path))))
+
+-- p.M has the fields f = 1, g = 1 and h = 2, and in it N has n = 3; extensions of it stand before and after it, one of them in p.L.K, and
+-- in the second file
+abbrev extended : List ℕ
+extended =
+    file "p" (extension "early" "p.M" 1 ++ message "L" (field "l" 9 ++ message "K" (extension "deep" "p.M" 5))
+    ++ message "M" (field "f" 1 ++ field "g" 1 ++ field "h" 2 ++ message "N" (field "n" 3))
+    ++ extension "other" "p.L" 4 ++ extension "plain" "p.M" 7 ++ extension "twin" "p.M" 7)
+    ++ file "q" (extension "shallow" "p.M" 5 ++ extension "late" "p.M" 4 ++ extension "far" "p.M" 2
+    ++ extension "relative" "M" 8 ++ message "M" (field "m" 10) ++ extension "plain" "p.M" 7
+    ++ extension "most" "p.M" 536870911)
+
+numbers : List Numbered
+numbers =
+    -- a field before an extension of the number, which stands before it or after it; of two fields the first
+    declares extended "p.M" 1 (is (ascii "f"))
+    ∷ declares extended "p.M" 2 (is (ascii "h"))
+    -- an extension in the second file, where no field has the number; that of another message, though earlier, is passed over
+    ∷ declares extended "p.M" 4 (is (ascii "late"))
+    ∷ declares extended "p.L" 4 (is (ascii "other"))
+    ∷ declares extended "p.M" 536870911 (is (ascii "most"))
+    -- of two extensions the first in the bytes, also where it stands deeper
+    ∷ declares extended "p.M" 7 (is (ascii "plain"))
+    ∷ declares extended "p.M" 5 (is (ascii "deep"))
+    -- the extendee is a full name as it is written
+    ∷ declares extended "p.M" 8 unknown
+    -- a field of a message inside, of another message, and of another message of that name
+    ∷ declares extended "p.M" 3 unknown
+    ∷ declares extended "p.M.N" 3 (is (ascii "n"))
+    ∷ declares extended "p.M" 9 unknown
+    ∷ declares extended "p.M" 10 unknown
+    ∷ declares extended "q.M" 10 (is (ascii "m"))
+    -- extensions of p.M are none of q.M, nor of p.M.N
+    ∷ declares extended "q.M" 7 unknown
+    ∷ declares extended "p.M.N" 7 unknown
+    -- a number that nothing has
+    ∷ declares extended "p.M" 6 unknown
+    ∷ declares extended "p.M" 0 unknown
+    ∷ []
+
+numbers-known : map declaring numbers ≡ map (λ x. x .says) numbers
+unfolding declaring numbers
+numbers-known = refl
+
+-- ---- the scopes at a path: the indices of their files
+placesAt : Case (List ℕ) → List ℕ
+unfolding scopes components split onFirst spell sameBytes treeOf fileIn itemsIn itemIn valueIn extensionAt messageFieldAt valueAt
+    shapeAt typePathAt hasTypePath walk leafAt fieldAt bigAt
+placesAt x = map (λ c. c .place .file) (scopes (x .sheet) (components (ascii (x .path))))
+
+abbrev three : List ℕ
+three = file "a.b" [] ++ file "a" (message "b" []) ++ file "" (message "a" (message "b" []))
+
+places : List (Case (List ℕ))
+places =
+    -- fewest package components first
+    at three "a.b" (2 ∷ 1 ∷ 0 ∷ [])
+    -- then the order of the files
+    ∷ at (three ++ three) "a.b" (2 ∷ 5 ∷ 1 ∷ 4 ∷ 0 ∷ 3 ∷ [])
+    -- of a shorter path: the package a.b does not lead it
+    ∷ at three "a" (2 ∷ 1 ∷ [])
+    -- of the empty path: the files without a package
+    ∷ at three "" (2 ∷ [])
+    -- a message of the path twice in one file gives one scope
+    ∷ at (file "a" (message "b" [] ++ message "b" [])) "a.b" (0 ∷ [])
+    -- no scope
+    ∷ at three "b" []
+    ∷ at three "a.b.c" []
+    ∷ at [] "" []
+    ∷ []
+
+places-ordered : map placesAt places ≡ map (λ x. x .says) places
+unfolding placesAt places
+places-ordered = refl
