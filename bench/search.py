@@ -7,9 +7,9 @@ usage: search.py [ROUNDS]
 The second prints benchfind's stored input: the sheet, and the look-ups once.
 
 The input is a sheet of 200 extensions and 1,000 look-ups from nested scopes. benchfind is the program that `rt check` builds under
-target/bin; search.rs is built here with `rustc -O`. Both read the same input and have to print the same line. Time is the least of ROUNDS runs
-of either program, taken in turn, less that of a run that looks nothing up; where valgrind is there, instructions are counted as well.
-Run it from the root of the repository.
+target/bin; search.rs is built here by rustc at level 3, as benchfind is by its compiler. Both read the same input and have to print the
+same line. Time is the least of ROUNDS runs of either program, taken in turn, less that of a run that looks nothing up; where valgrind is
+there, instructions are counted as well. Run it from the root of the repository.
 """
 import os
 import random
@@ -29,8 +29,8 @@ def f(tag, payload=b""):
 
 
 def ext(name, number):
-    leaves = f(0x11, name) + f(0x12, b"google.protobuf.FieldOptions") + f(0x13, struct.pack(">I", number)) + f(0x14, b"\x0d") + f(0x15, b"\1")
-    return f(3, leaves)
+    names = f(0x11, name) + f(0x12, b"google.protobuf.FieldOptions")
+    return f(3, names + f(0x13, struct.pack(">I", number)) + f(0x14, b"\x0d") + f(0x15, b"\1"))
 
 
 def sheet():
@@ -61,7 +61,7 @@ def sheet():
 
 
 def look_ups(where):
-    """A thousand: a name from the innermost scope of its file, so that some candidates miss; one in ten has a leading dot, one in ten misses."""
+    """A thousand: a name from an inner scope, so that some candidates miss; one in ten has a leading dot, one in ten misses."""
     random.seed(1)
     pairs = b""
     for i in range(1000):
@@ -85,7 +85,8 @@ def timed(program, text):
 
 def instructions(program, text, folder):
     out = os.path.join(folder, "callgrind.out")
-    run = subprocess.run(["valgrind", "--tool=callgrind", "--callgrind-out-file=" + out, program], input=text, capture_output=True, check=True)
+    command = ["valgrind", "--tool=callgrind", "--callgrind-out-file=" + out, program]
+    run = subprocess.run(command, input=text, capture_output=True, check=True)
     return int(re.search(rb"Collected : (\d+)", run.stderr).group(1))
 
 
@@ -101,7 +102,7 @@ def main():
     print("sheet %d bytes, 200 extensions, 1000 look-ups, %d times" % (len(data), TIMES))
     with tempfile.TemporaryDirectory() as folder:
         rust = os.path.join(folder, "search")
-        subprocess.run(["rustc", "-O", "--edition", "2021", "-o", rust, "bench/search.rs"], check=True)
+        subprocess.run(["rustc", "-C", "opt-level=3", "--edition", "2021", "-o", rust, "bench/search.rs"], check=True)
         programs = [os.path.abspath("target/bin/benchfind"), rust]
         lines = [timed(p, texts[TIMES])[1] for p in programs]
         assert lines[0] == lines[1], lines

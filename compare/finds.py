@@ -4,8 +4,8 @@ docs/DECISIONS.md.
 
 usage: finds.py [write]
 
-Says whether crates/optfind/stdin and stdout are these cases, or writes them; run it from the root of the repository. The other lines of a case that finds an extension (its
-name, its places) are taken from search.py, which has to find the number that stands here.
+Says whether crates/optfind/stdin and stdout are these cases, or writes them; run it from the root of the repository. The other lines of a
+case that finds an extension (its name, its places) are taken from search.py, which has to find the number that stands here.
 """
 import struct
 import sys
@@ -63,7 +63,8 @@ REFUSED = [
     (4, RANKS, b"plant.Dispatch", b".plant"), (4, RANKS, b"", b"plant.Dispatch"), (4, RANKS, b"", b"rank"),
     (4, RANKS, b"plant.Dispatch", b".Dispatch.rank"), (4, RANKS, b"plan", b"rank"), (4, RANKS, b"", b"plant.Dispatch.rank.rank"),
     (4, file(b"", message(b"M", field(b"x", 1))), b"M", b"x"), (4, file(b"", enum(b"x")), b"", b"x"),
-    (3, file(b"", deep(LETTERS + [b"q"], ext(b"x", 1))), b"", b"x"), (4, file(b"a.b", ext(b"x", 1)), b"", b"a.x"), (4, file(b"ab", ext(b"x", 1)), b"", b"a.b.x"),
+    (3, file(b"", deep(LETTERS + [b"q"], ext(b"x", 1))), b"", b"x"),
+    (4, file(b"a.b", ext(b"x", 1)), b"", b"a.x"), (4, file(b"ab", ext(b"x", 1)), b"", b"a.b.x"),
 ]
 # the number of the extension that is found, sheet, scope, path
 FOUND = [
@@ -77,7 +78,8 @@ FOUND = [
     (102, CROSSED, b"", b".a.b.x"), (102, CROSSED, b"a.b", b"x"), (102, CROSSED, b"", b"a.b.x"),
     (1, file(b"a", ext(b"x", 1)) + file(b"a", ext(b"x", 2)), b"", b"a.x"),
     (2, file(b"a", ext(b"y", 1)) + file(b"a", ext(b"x", 2)), b"", b"a.x"),
-    (2, file(b"a.b", ext(b"x", 1)) + file(b"", message(b"a", message(b"b", ext(b"x", 2)))) + file(b"a", message(b"b", ext(b"x", 3))), b"a.b", b"x"),
+    (2, file(b"a.b", ext(b"x", 1)) + file(b"", message(b"a", message(b"b", ext(b"x", 2)))) + file(b"a", message(b"b", ext(b"x", 3))),
+     b"a.b", b"x"),
     (3, file(b"a.b", ext(b"x", 1)) + file(b"", message(b"a", message(b"b"))) + file(b"a", message(b"b", ext(b"x", 3))), b"a.b", b"x"),
     (1, file(b"a.b", ext(b"x", 1)) + file(b"", message(b"a", message(b"b"))) + file(b"a", message(b"b")), b"a.b", b"x"),
     # the first of a name is followed, and decides

@@ -248,7 +248,8 @@ def against(oracle, total):
                 seen[kind] = seen.get(kind, 0) + 1
                 if told != said:
                     differ += 1
-                    print("sheet %s scope %s path %s message %s\n  here: %s  original: %s" % (case[0].hex(), case[1], case[2], message, told, want))
+                    asked = (case[0].hex(), case[1], case[2], message)
+                    print("sheet %s scope %s path %s message %s\n  here: %s  original: %s" % (*asked, told, want))
                     if differ == 5:
                         sys.exit(1)
         done += 2 * len(batch)
