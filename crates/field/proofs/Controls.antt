@@ -1,22 +1,17 @@
 -- Closed cases of the definitions, which the checker computes: whole fields, an empty one and one in the middle; headers and payloads cut;
--- leaves by tag and by length; lists of fields that end and that are cut; containers with one fault and with two.
+-- leaves by tag and by length; lists of fields that end and that are cut.
 -- Assumes nothing.
 use mathlib.Core.Path.{_≡_, refl}
 use mathlib.Core.Bool.{Bool, true, false}
 use mathlib.Core.List.{List, [], _∷_, map}
 use Prim.Native.Nat.{ℕ}
-use lib.Dec.{eqb, ltb}
 use Rattle.octets.specs.Octets.{bigAt}
-use Rattle.reply.specs.declared.Refusal.the-variants.{BadSheet, BeyondLimit}
-use Rattle.reply.specs.declared.Verdict.{Verdict}
-use Rattle.reply.specs.declared.Verdict.the-variants.{Fine, Refused}
 use Rattle.field.specs.declared.Field.the-variants.{Whole, Cut}
 use Rattle.field.specs.declared.Leaf.{Leaf}
 use Rattle.field.specs.declared.Leaf.the-variants.{At, Not}
 use Rattle.field.specs.Field.{fieldAt}
 use Rattle.field.specs.Leaf.{anyBytes, ofSize, leafAt}
 use Rattle.field.specs.Walk.{done, cut, step, walk}
-use Rattle.field.specs.Each.{each, eachFrom}
 
 -- 10 00 00, an empty package
 empty : fieldAt (0x10 ∷ 0 ∷ 0 ∷ []) 0 3 ≡ Whole 0x10 3 3
@@ -77,23 +72,3 @@ walk-ends-cut = refl
 walk-nothing : walk fields 7 7 ≡ done
 unfolding fields walk
 walk-nothing = refl
-
--- ---- the first fault is the answer: at the second field, at the cut behind it, and where both are
-second : ℕ → ℕ → ℕ → Verdict
-second t a e = elim (eqb t 2) [ true ↦ Refused BeyondLimit | false ↦ Fine ]
-
-fine : ℕ → ℕ → ℕ → Verdict
-fine t a e = Fine
-
-first-fault : each BadSheet second (walk fields 0 7) ∷ each BadSheet fine (walk fields 0 9) ∷ each BadSheet second (walk fields 0 9) ∷ []
-    ≡ Refused BeyondLimit ∷ Refused BadSheet ∷ Refused BeyondLimit ∷ []
-unfolding fields second fine walk fieldAt bigAt
-first-fault = refl
-
--- a limit of one field
-few : ℕ → ℕ → ℕ → ℕ → Verdict
-few n t a e = elim (ltb n 1) [ true ↦ Fine | false ↦ Refused BeyondLimit ]
-
-counted : eachFrom BadSheet few 0 (walk fields 0 3) ∷ eachFrom BadSheet few 0 (walk fields 0 7) ∷ [] ≡ Fine ∷ Refused BeyondLimit ∷ []
-unfolding fields few walk fieldAt bigAt
-counted = refl

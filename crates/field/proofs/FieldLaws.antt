@@ -7,7 +7,7 @@ use Prim.Native.Nat.{ℕ, _+_, _-_, _≤_, _<_}
 use native.Mathlib.Omega.{arith}
 use borrow.Author.Tests.{lt-ltb, le-ltb, ltb-false}
 use lib.Dec.{ltb}
-use lib.ListN.{getD}
+use lib.ListN.{length, getD}
 use Rattle.octets.specs.Octets.{bigAt}
 use Rattle.field.specs.declared.Field.{Field}
 use Rattle.field.specs.declared.Field.the-variants.{Whole, Cut}
@@ -60,3 +60,9 @@ module _ (s : List ℕ) (at end : ℕ) (r : Field) (q : r ≡ fieldAt s at end) 
 
   pub field-inside : e ≤ end
   field-inside = field-bounds .inside
+
+  pub field-within : end ≤ length s → e ≤ length s
+  field-within h = omega (arith, field-inside)
+
+  pub field-less : at < end → end - e < end - at
+  field-less h = omega (arith, field-bounds .starts, field-ordered)

@@ -2,7 +2,6 @@ pub mod FieldLaws
 pub mod WalkLaws
 pub mod LeafLaws
 pub mod Rest
-pub mod EachLaws
 pub mod Seek
 pub mod Tally
 pub mod Controls

@@ -15,7 +15,7 @@ use Rattle.field.specs.Field.{fieldAt}
 use Rattle.field.specs.Walk.{Walk, done, cut, step, walk}
 use Rattle.field.proofs.FieldLaws.{field-ordered}
 use Rattle.field.proofs.Rest.{Rest, rest-start, rest-end, rest-cut, rest-step, rest-next}
-use Rattle.field.proofs.EachLaws.{field-within, field-less}
+use Rattle.field.proofs.FieldLaws.{field-within, field-less}
 
 abbrev pub seek : {A : Type 0} → A → (A → A → A) → (ℕ → ℕ → ℕ → A) → Walk → A
 seek none or f done = none

@@ -16,7 +16,7 @@ use Rattle.field.specs.Field.{fieldAt}
 use Rattle.field.specs.Walk.{Walk, done, cut, step, walk}
 use Rattle.field.proofs.FieldLaws.{field-bounds, field-ordered}
 use Rattle.field.proofs.Rest.{Rest, rest-end, rest-cut, rest-next}
-use Rattle.field.proofs.EachLaws.{field-within, field-less}
+use Rattle.field.proofs.FieldLaws.{field-within, field-less}
 
 abbrev pub counted : (Walk → ℕ) → ℕ → Walk → ℕ
 counted F n w = n + F w

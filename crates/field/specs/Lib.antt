@@ -1,4 +1,3 @@
 pub mod Field
 pub mod Walk
 pub mod Leaf
-pub mod Each

@@ -14,7 +14,7 @@ use Rattle.reply.specs.declared.Verdict.{Verdict}
 use Rattle.reply.specs.declared.Verdict.the-variants.{Fine, Refused as Bad}
 use Rattle.reply.proofs.VerdictLaws.{judged-fine}
 use Rattle.sheetform.specs.Form.{judgeSheet}
-use Rattle.modelform.specs.Form.{judgeScope, judgePath}
+use Rattle.requestform.specs.Form.{judgeScope, judgePath}
 use Rattle.search.specs.declared.extension.Found.{Found}
 use Rattle.search.specs.declared.extension.Search.{Search}
 use Rattle.search.specs.declared.extension.Search.the-variants.{Is, Nowhere}

@@ -15,10 +15,11 @@ use Rattle.reply.specs.Verdicts.{first}
 use Rattle.reply.specs.Outcome.{refuse, give}
 use Rattle.reply.proofs.VerdictLaws.{first-fine-rest, judged-fine}
 use Rattle.sheetform.specs.Form.{judgeSheet}
-use Rattle.modelform.specs.Form.{judgeScope, judgePath}
+use Rattle.requestform.specs.Form.{judgeScope, judgePath}
 use Rattle.search.specs.declared.extension.Found.{Found}
 use Rattle.search.specs.Lookup.{findExtensionByPath}
-use Rattle.search.specs.Among.{Among, Undeclared, Answers}
+use Rattle.basis.specs.Among.{Among}
+use Rattle.search.specs.Answers.{Undeclared, Answers}
 use Rattle.search.proofs.Theorems.{nowhere-none, none-nowhere, found-answers}
 use Rattle.find.specs.Find.{judgeAll, foundOr, finding, wordsOf, worded, findWords}
 

@@ -30,7 +30,7 @@ use Rattle.field.specs.declared.Leaf.{Leaf}
 use Rattle.field.specs.declared.Leaf.the-variants.{At}
 use Rattle.field.specs.Leaf.{text, onlyIf, onLeaf}
 use Rattle.sheetform.specs.Form.{judgeSheet}
-use Rattle.modelform.specs.Form.{judgeScope, judgePath}
+use Rattle.requestform.specs.Form.{judgeScope, judgePath}
 use Rattle.search.specs.declared.extension.Found.{Found}
 use Rattle.search.specs.declared.extension.Resolved.{Resolved}
 use Rattle.search.specs.declared.extension.Resolved.the-variants.{Field, Refused}

@@ -37,10 +37,10 @@ fn finding(sheet: &[u8], scope: &[u8], path: &[u8]) -> Resolved
     if let Verdict::Refused(why) = sheetform::check_sheet(sheet) {
         return Resolved::Refused(why);
     }
-    if let Verdict::Refused(why) = modelform::check_scope(scope) {
+    if let Verdict::Refused(why) = requestform::check_scope(scope) {
         return Resolved::Refused(why);
     }
-    if let Verdict::Refused(why) = modelform::check_path(path) {
+    if let Verdict::Refused(why) = requestform::check_path(path) {
         return Resolved::Refused(why);
     }
     found_in(sheet, scope, path)
@@ -79,7 +79,7 @@ fn put_found(found: Found, out: &mut [u32]) -> Answer
         place(found.declaration.shape.path),
         size(found.declaration.shape.path),
     ];
-    reply::give_words(&words, out)
+    emit::give_words(&words, out)
 }
 
 // File index, place and length of the name, place and length of the extendee, number, type, label, place and length of the type path.

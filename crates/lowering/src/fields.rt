@@ -1,26 +1,15 @@
 // Fields: the oneof that each belongs to.
-ghost use mathlib.Core.Path.{_≡_};
-ghost use mathlib.Core.List.{[], _∷_};
 ghost use Prim.Native.Nat.{_≤_};
 ghost use lib.ListN.{length};
-ghost use lib.Seq.{sets};
 ghost use Rattle.limits.specs.Figures.{mostWords};
 ghost use Rattle.reply.specs.Outcome.{Answered};
 ghost use Rattle.lowering.specs.Fields.{oneofs, lowerFields};
-ghost use Rattle.lowering.specs.Puts.{Puts};
-use crate::Put;
+ghost use Rattle.emit.specs.Puts.{Puts};
+use emit::Put;
+use emit::put_word;
 use limits::MOST_WORDS;
 use reply::Answer;
 use reply::Refusal;
-
-// One word at a place; past the end nothing is written.
-fn put(out: &mut [u32], at: usize, word: u32)
-    ensures { λ _. ⌜ now (out .exit) ≡ sets (now (out .entry)) at (word ∷ []) ⌝ }
-{
-    if at < out.len() {
-        out[at] = word;
-    }
-}
 
 // Each field gives 0, or one more than the index of its oneof. `count` is how many oneofs there are so far, and `member` what a member of
 // the open one gives.
@@ -35,14 +24,14 @@ fn put_fields(words: &[u32], out: &mut [u32]) -> Put
     while i < words.len() {
         let w = words[i];
         if w == 0 {
-            put(out, n, 0);
+            put_word(out, n, 0);
             member = 0;
             n += 1;
             i += 1;
         } else if w == 1 {
             let index = count;
             count = index + 1;
-            put(out, n, index + 1);
+            put_word(out, n, index + 1);
             member = 0;
             n += 1;
             i += 1;
@@ -58,7 +47,7 @@ fn put_fields(words: &[u32], out: &mut [u32]) -> Put
             if member == 0 {
                 return Put::Refused;
             }
-            put(out, n, member);
+            put_word(out, n, member);
             n += 1;
             i += 1;
         }

@@ -5,9 +5,3 @@ mod ranges;
 
 pub use fields::lower_fields;
 pub use ranges::lower_ranges;
-
-// What a writer comes to: how many words it gives, or that it is refused.
-enum Put {
-    Wrote(usize),
-    Refused,
-}

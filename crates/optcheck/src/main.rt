@@ -7,10 +7,10 @@ use console::input::MOST_BYTES;
 use console::output::number;
 use console::output::text;
 use field::Leaf;
-use model::request::count_options;
-use model::request::count_parts;
+use counts::options::count_options;
+use counts::options::count_parts;
 use reply::Verdict;
-use sheet::count::count;
+use counts::declarations::count;
 use sheet::table;
 
 const SHEET: u8 = 0x40;
@@ -63,7 +63,7 @@ fn check_both(sheet: &[u8], request: &[u8]) {
     if !told(sheetform::check_sheet(sheet)) {
         return;
     }
-    if told(modelform::check_request(request)) {
+    if told(requestform::check_request(request)) {
         console::output::answer(reply::done(0));
         tell_sheet(sheet);
         tell_request(request);

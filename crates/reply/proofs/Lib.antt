@@ -3,4 +3,3 @@ pub mod Spelling
 pub mod Outcomes
 pub mod VerdictLaws
 pub mod Controls
-pub mod Copying

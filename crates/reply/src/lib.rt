@@ -1,11 +1,10 @@
 // 01's table of replies, once: the refusals, the answer that every public call returns, and the names that programs print.
 ghost use mathlib.Core.Path.{_≡_};
-ghost use Prim.Native.Nat.{_≤_, _<_, _^_};
+ghost use Prim.Native.Nat.{_≤_};
 ghost use lib.ListN.{length};
 ghost use Rattle.reply.specs.Reply.{number as numberOf, second as secondOf, refusedBy, doneWith, absentAnswer};
 ghost use Rattle.reply.specs.Reply.{NameOf, mostName, textOf};
 ghost use Rattle.reply.specs.Verdicts.{judged};
-ghost use Rattle.reply.specs.Outcome.{give, Answered};
 
 // Why a call is refused, by the names of 01 and of protobuf-parse's OptionResolverError.
 pub enum Refusal {
@@ -123,22 +122,6 @@ pub fn absent() -> Answer
         absent: 1,
         length: 0,
     }
-}
-
-// The words of an answer, written where there is room for all of them.
-pub fn give_words(words: &[u32], out: &mut [u32]) -> Answer
-    requires { ⌜ length (now words) < 2 ^ 32 ⌝ }
-    ensures { λ r. ⌜ Answered (give (now (words .entry))) (now (out .entry)) (now (out .exit)) r ⌝ }
-{
-    if out.len() < words.len() {
-        return refused(Refusal::NoRoom);
-    }
-    let mut i = 0;
-    while i < words.len() {
-        out[i] = words[i];
-        i += 1;
-    }
-    done(words.len() as u32)
 }
 
 // The longest name has 37 bytes.

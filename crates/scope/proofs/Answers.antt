@@ -21,10 +21,10 @@ use Rattle.sheet.proofs.MemberLaws.{listed}
 use Rattle.scope.specs.declared.lookup.LookupScope.{LookupScope}
 use Rattle.scope.specs.declared.lookup.Reached.{Reached}
 use Rattle.scope.specs.declared.lookup.Reached.the-variants.{To, Nowhere}
-use Rattle.scope.specs.First.{pick, first, orElse}
+use Rattle.basis.specs.First.{pick, first, orElse}
 use Rattle.scope.specs.Scope.{Scope, placed, declared}
 use Rattle.scope.specs.Steps.{kept, whose}
-use Rattle.scope.proofs.FirstLaws.{first-append}
+use Rattle.basis.proofs.FirstLaws.{first-append}
 
 -- ---- the first of two
 abbrev pub orLeaf : Leaf → Leaf → Leaf

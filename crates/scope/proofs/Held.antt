@@ -26,9 +26,9 @@ use Rattle.sheet.proofs.MemberLaws.{item-cases}
 use Rattle.scope.specs.declared.lookup.LookupScope.{LookupScope}
 use Rattle.scope.specs.declared.lookup.Reached.{Reached}
 use Rattle.scope.specs.declared.lookup.Reached.the-variants.{To, Nowhere}
-use Rattle.scope.specs.First.{first}
+use Rattle.basis.specs.First.{first}
 use Rattle.scope.specs.Scope.{Scope, holding, messageScope, isNamed, down, enumNamed, placed, bodied}
-use Rattle.scope.proofs.FirstLaws.{given-holds, Every, none-of, one-of, first-holds}
+use Rattle.basis.proofs.FirstLaws.{given-holds, Every, none-of, one-of, first-holds}
 use Rattle.scope.proofs.Answers.{placed-nowhere, placed-to}
 
 -- ---- the messages and the enums of a scope are what stands at their places

@@ -1,7 +1,6 @@
-pub mod FirstLaws
 pub mod Answers
 pub mod LookupLaws
 pub mod NamedLaws
-pub mod NumberLaws
 pub mod Held
+pub mod Sample
 pub mod Controls

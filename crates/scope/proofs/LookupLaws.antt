@@ -26,7 +26,7 @@ use Rattle.sheet.proofs.MemberLaws.{messages-other, messages-beyond, messages-u
 use Rattle.sheet.proofs.MemberLaws.{enums-other, enums-unnamed, enums-named}
 use Rattle.scope.specs.declared.lookup.LookupScope.{LookupScope}
 use Rattle.scope.specs.declared.lookup.Reached.the-variants.{To, Nowhere}
-use Rattle.scope.specs.First.{first, given}
+use Rattle.basis.specs.First.{first, given}
 use Rattle.scope.specs.Scope.{holding, messageScope, isNamed, down, enumNamed, placed, bodied}
 use Rattle.scope.specs.Steps.{named, bodyAt}
 use Rattle.scope.proofs.Answers.{orLeaf}

@@ -35,7 +35,7 @@ use Rattle.sheet.specs.Tree.{Items, none, valued as valuedWith, valueIn, values
 use Rattle.sheet.specs.Members.{declarationsOf}
 use Rattle.sheet.proofs.MemberLaws.{listed, extensions-item, fields-item}
 use Rattle.scope.specs.declared.lookup.LookupScope.{LookupScope}
-use Rattle.scope.specs.First.{pick, first}
+use Rattle.basis.specs.First.{pick, first}
 use Rattle.scope.specs.Scope.{holding, isNamed, declarationNamed, valueNamed, declared, valued}
 use Rattle.scope.specs.Steps.{named, declarationAt, whose, keptValue, whoseValue, valueNamedAt}
 use Rattle.scope.proofs.Answers.{orDeclared, orValued, declared-append, declared-listed}

@@ -1,4 +1,2 @@
-pub mod First
 pub mod Scope
 pub mod Steps
-pub mod Number

@@ -36,7 +36,7 @@ use Rattle.sheet.specs.Members.{Message, Enumeration, messagesOf, enumsOf, decl
 use Rattle.scope.specs.declared.lookup.LookupScope.{LookupScope}
 use Rattle.scope.specs.declared.lookup.Reached.{Reached}
 use Rattle.scope.specs.declared.lookup.Reached.the-variants.{To, Nowhere}
-use Rattle.scope.specs.First.{first, given}
+use Rattle.basis.specs.First.{first, given}
 
 pub record Scope : Type 0 where
   pub place : LookupScope

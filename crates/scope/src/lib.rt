@@ -2,4 +2,3 @@
 // copied, and names are compared as bytes.
 pub mod lookup;
 pub mod named;
-pub mod number;

@@ -14,8 +14,8 @@ use Rattle.path.specs.Candidates.{candidates}
 use Rattle.path.proofs.AbsLaws.{rootless-rel}
 use Rattle.path.proofs.PathLaws.{spell-components, ident-some, ident-first, ident-rest, ident-cons}
 use Rattle.path.proofs.PathLaws.{idents-append, rel-idents, path-idents}
-use Rattle.search.specs.Among.{Among, Ordered}
-use Rattle.search.proofs.AmongLaws.{among-one, among-append-cases, ordered-one, ordered-append, among-map, ordered-map}
+use Rattle.basis.specs.Among.{Among, Ordered}
+use Rattle.basis.proofs.AmongLaws.{among-one, among-append-cases, ordered-one, ordered-append, among-map, ordered-map}
 
 abbrev Longer : Path → Path → Type 0
 Longer p q = length q < length p

@@ -17,7 +17,7 @@ use Rattle.sheet.specs.Declaration.{hasTypePath, typePathAt, shapeAt, extension
 use Rattle.sheet.specs.Tree.{valueIn, valuesIn, itemIn, itemsIn, fileIn, treeOf}
 use Rattle.sheet.specs.Members.{fieldsOf}
 use Rattle.scope.specs.Scope.{Scope, holding}
-use Rattle.scope.specs.Number.{declarationOf}
+use Rattle.search.specs.Number.{declarationOf}
 use Rattle.search.specs.declared.full_name.LookedUp.{LookedUp}
 use Rattle.search.specs.declared.full_name.LookedUp.the-variants.{Message, NoMessage}
 use Rattle.search.specs.declared.full_name.LookedUpEnum.{LookedUpEnum}

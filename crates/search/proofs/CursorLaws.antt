@@ -20,7 +20,7 @@ use Rattle.field.specs.declared.Leaf.{Leaf}
 use Rattle.field.specs.Leaf.{Lies, onLeaf}
 use Rattle.field.specs.Walk.{walk}
 use Rattle.field.proofs.FieldLaws.{field-bounds, field-ordered, field-inside}
-use Rattle.field.proofs.EachLaws.{field-within, field-less}
+use Rattle.field.proofs.FieldLaws.{field-within, field-less}
 use Rattle.path.specs.Path.{Path, dot, untilDot, spell, split, namesFrom}
 use Rattle.path.proofs.PathLaws.{spell-split}
 use Rattle.path.proofs.Names.{end-within, end-dot, names-past, names-next, front-first, front-more}
@@ -32,11 +32,11 @@ use Rattle.scope.specs.declared.lookup.Reached.the-variants.{To, Nowhere}
 use Rattle.search.specs.declared.scopes.Cursor.{Cursor}
 use Rattle.search.specs.declared.scopes.Next.{Next}
 use Rattle.search.specs.declared.scopes.Next.the-variants.{At, NoMore}
-use Rattle.scope.specs.First.{onto}
+use Rattle.basis.specs.First.{onto}
 use Rattle.scope.specs.Scope.{Scope, holding, placed}
 use Rattle.search.specs.Scopes.{scopesIn, scopesFrom, scopes}
 use Rattle.search.specs.Cursor.{frontAt, wider, here, ahead, startOf, packageAt, scopeAt, Within, Stands, Steps, Nexts}
-use Rattle.scope.proofs.FirstLaws.{onto-none, onto-some}
+use Rattle.basis.proofs.FirstLaws.{onto-none, onto-some}
 use Rattle.search.proofs.ScopesLaws.{end-fits, package-within, scopes-step, scope-nowhere, scope-to, scope-lies}
 
 -- ---- what a step tells

@@ -37,7 +37,7 @@ use Rattle.search.specs.declared.extension.Found.{Found}
 use Rattle.search.specs.declared.extension.Search.{Search}
 use Rattle.search.specs.declared.extension.Search.the-variants.{Is, Nowhere}
 use Rattle.search.specs.declared.extension.Resolved.the-variants.{Field, Refused}
-use Rattle.scope.specs.First.{firstSome}
+use Rattle.basis.specs.First.{firstSome}
 use Rattle.scope.specs.Scope.{Scope, holding, declarationNamed, declared}
 use Rattle.search.specs.Scopes.{scopes}
 use Rattle.search.specs.Cursor.{ahead, startOf, Nexts}

@@ -14,15 +14,16 @@ use Rattle.sheet.specs.declared.declaration.Declaration.{Declaration}
 use Rattle.sheet.specs.Members.{extensionsOf}
 use Rattle.search.specs.declared.extension.Found.{Found}
 use Rattle.search.specs.declared.extension.Resolved.the-variants.{Refused}
-use Rattle.scope.specs.First.{first, given, firstSome}
+use Rattle.basis.specs.First.{first, given, firstSome}
 use Rattle.scope.specs.Scope.{Scope, isNamed}
 use Rattle.search.specs.Scopes.{scopes}
-use Rattle.scope.specs.Number.{extends}
+use Rattle.search.specs.Number.{extends}
 use Rattle.search.specs.Lookup.{foundIn, findExtensionByAbsPath, findExtensionByPath, extended, compared}
-use Rattle.search.specs.Among.{Among, Behind, Declares, Undeclared, Answers}
-use Rattle.search.proofs.AmongLaws.{behind-among, behind-map, behind-ordered}
-use Rattle.search.proofs.AmongFirsts.{given-some, firsts-none, none-firsts, Makes, firsts-some, some-firsts}
-use Rattle.search.proofs.AmongFirsts.{first-none, none-first, Passes, first-some, some-first}
+use Rattle.basis.specs.Among.{Among, Behind}
+use Rattle.search.specs.Answers.{Declares, Undeclared, Answers}
+use Rattle.basis.proofs.AmongLaws.{behind-among, behind-map, behind-ordered}
+use Rattle.basis.proofs.AmongFirsts.{given-some, firsts-none, none-firsts, Makes, firsts-some, some-firsts}
+use Rattle.basis.proofs.AmongFirsts.{first-none, none-first, Passes, first-some, some-first}
 use Rattle.search.proofs.CandidateOrder.{candidates-fall, candidates-some}
 
 -- ---- in a scope

@@ -27,7 +27,7 @@ use Rattle.search.specs.declared.full_name.LookedUp.the-variants.{Messag
 use Rattle.search.specs.declared.full_name.LookedUpEnum.the-variants.{Values, NoEnum}
 use Rattle.search.specs.declared.full_name.NextEnum.{NextEnum}
 use Rattle.search.specs.declared.full_name.NextEnum.the-variants as enum
-use Rattle.scope.specs.First.{collect}
+use Rattle.basis.specs.First.{collect}
 use Rattle.scope.specs.Scope.{holding, enumNamed, bodied}
 use Rattle.search.specs.Scopes.{scopes}
 use Rattle.search.specs.Cursor.{ahead, startOf, Stands, Nexts}

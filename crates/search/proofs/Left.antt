@@ -9,10 +9,10 @@ use Rattle.scope.specs.declared.lookup.LookupScope.{LookupScope}
 use Rattle.search.specs.declared.scopes.Cursor.{Cursor}
 use Rattle.search.specs.declared.scopes.Next.{Next}
 use Rattle.search.specs.declared.scopes.Next.the-variants.{At, NoMore}
-use Rattle.scope.specs.First.{collect}
+use Rattle.basis.specs.First.{collect}
 use Rattle.scope.specs.Scope.{Scope, holding}
 use Rattle.search.specs.Cursor.{ahead, Stands, Nexts}
-use Rattle.scope.proofs.FirstLaws.{collect-none, collect-some}
+use Rattle.basis.proofs.FirstLaws.{collect-none, collect-some}
 use Rattle.search.proofs.CursorLaws.{nexts-less, nexts-lies}
 
 pub record Left {A : Type 0} (v : A) (F : List Scope → A) (s t : List ℕ) (c : Cursor) : Type 0 where

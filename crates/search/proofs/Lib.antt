@@ -2,8 +2,6 @@ pub mod ScopesLaws
 pub mod CursorLaws
 pub mod StartLaws
 pub mod Left
-pub mod AmongLaws
-pub mod AmongFirsts
 pub mod ScopeFiles
 pub mod LiesLaws
 pub mod ExtensionLaws
@@ -15,3 +13,5 @@ pub mod Theorems
 pub mod Sheets
 pub mod Examples
 pub mod Controls
+pub mod NumberControls
+pub mod NumberLaws

@@ -38,13 +38,13 @@ use Rattle.search.specs.declared.full_name.LookedUp.{LookedUp}
 use Rattle.search.specs.declared.full_name.LookedUp.the-variants as looked
 use Rattle.search.specs.declared.full_name.LookedUpEnum.{LookedUpEnum}
 use Rattle.search.specs.declared.full_name.LookedUpEnum.the-variants.{Values}
-use Rattle.scope.specs.First.{orElse, firstSome, onto, collect}
+use Rattle.basis.specs.First.{orElse, firstSome, onto, collect}
 use Rattle.scope.specs.Scope.{Scope, holding, fileScope, isNamed, down, declarationNamed, enumNamed, declared}
-use Rattle.scope.specs.Number.{hasNumber, extends, isExtension, fieldNumbered, extensionNumbered, declarationOf}
+use Rattle.search.specs.Number.{hasNumber, extends, isExtension, fieldNumbered, extensionNumbered, declarationOf}
 use Rattle.search.specs.Scopes.{follow, scopeIn, scopesIn, scopesFrom, scopes}
 use Rattle.search.specs.Lookup.{foundIn, findExtensionByAbsPath, findExtensionByPath, searched, extended, compared, extResolveField}
 use Rattle.search.specs.Lookup.{messageOf, messagesAt, enumsAt, lookedUp, lookedUpEnum}
-use Rattle.scope.proofs.FirstLaws.{given-holds, Every, none-of, one-of, first-holds}
+use Rattle.basis.proofs.FirstLaws.{given-holds, Every, none-of, one-of, first-holds}
 use Rattle.scope.proofs.Answers.{declared-some}
 use Rattle.search.proofs.ScopeFiles.{only-some, down-file}
 use Rattle.scope.proofs.Held.{HeldEnum, down-held, down-lies-ordered, down-lies-within}

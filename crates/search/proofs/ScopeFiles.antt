@@ -14,12 +14,12 @@ use Rattle.path.specs.Path.{Name, Path, components, spell, allIdent}
 use Rattle.path.proofs.PathLaws.{spell-components, components-spell}
 use Rattle.sheet.specs.Tree.{File}
 use Rattle.sheet.specs.Members.{messagesOf}
-use Rattle.scope.specs.First.{first}
+use Rattle.basis.specs.First.{first}
 use Rattle.scope.specs.Scope.{Scope, fileScope, messageScope, isNamed, down}
 use Rattle.search.specs.Scopes.{follow, onlyWhere, scopeIn, scopesIn}
-use Rattle.search.specs.Among.{Among, Ordered}
-use Rattle.search.proofs.AmongLaws.{among-nil, among-onto-first, among-onto, among-onto-cases, ordered-onto}
-use Rattle.search.proofs.AmongFirsts.{given-some}
+use Rattle.basis.specs.Among.{Among, Ordered}
+use Rattle.basis.proofs.AmongLaws.{among-nil, among-onto-first, among-onto, among-onto-cases, ordered-onto}
+use Rattle.basis.proofs.AmongFirsts.{given-some}
 
 -- ---- texts and paths
 pub same-components : (t : List ℕ) (p : Path) → allIdent p ≡ true → sameBytes t (spell p) ≡ true → components t ≡ p

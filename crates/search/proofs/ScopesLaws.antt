@@ -33,11 +33,11 @@ use Rattle.scope.specs.declared.lookup.LookupScope.{LookupScope}
 use Rattle.scope.specs.declared.lookup.Reached.{Reached}
 use Rattle.scope.specs.declared.lookup.Reached.the-variants.{To, Nowhere}
 use Rattle.search.specs.declared.scopes.Cursor.{Cursor}
-use Rattle.scope.specs.First.{onto}
+use Rattle.basis.specs.First.{onto}
 use Rattle.scope.specs.Scope.{Scope, holding, down, placed}
 use Rattle.search.specs.Scopes.{follow, onlyWhere, scopesIn}
 use Rattle.search.specs.Cursor.{startOf, packageAt, scopeAt, Within}
-use Rattle.scope.proofs.FirstLaws.{given-holds}
+use Rattle.basis.proofs.FirstLaws.{given-holds}
 use Rattle.scope.proofs.Answers.{placed-nowhere}
 use Rattle.scope.proofs.Held.{down-held, down-lies, down-nowhere, down-to, down-to-ordered, down-to-within}
 

@@ -16,11 +16,12 @@ use Rattle.search.specs.declared.extension.Found.{Found}
 use Rattle.search.specs.declared.extension.Resolved.the-variants.{Field, Refused}
 use Rattle.scope.specs.Scope.{Scope}
 use Rattle.search.specs.Scopes.{scopes}
-use Rattle.scope.specs.Number.{extends}
+use Rattle.search.specs.Number.{extends}
 use Rattle.search.specs.Lookup.{findExtensionByAbsPath, findExtensionByPath, extResolveField}
-use Rattle.search.specs.Among.{Among, Ordered, Undeclared, Answers, Gives, Earlier}
-use Rattle.search.proofs.AmongLaws.{ordered-mono}
-use Rattle.search.proofs.AmongFirsts.{firsts-none, none-firsts, firsts-one}
+use Rattle.basis.specs.Among.{Among, Ordered}
+use Rattle.search.specs.Answers.{Undeclared, Answers, Gives, Earlier}
+use Rattle.basis.proofs.AmongLaws.{ordered-mono}
+use Rattle.basis.proofs.AmongFirsts.{firsts-none, none-firsts, firsts-one}
 use Rattle.search.proofs.CandidateOrder.{candidates-fall, candidates-some, candidates-idents, parent-idents}
 use Rattle.search.proofs.FoundLaws as found
 use Rattle.search.proofs.ScopeFiles as files

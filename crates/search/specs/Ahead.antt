@@ -12,7 +12,7 @@ use Prim.Native.Nat.{ℕ}
 use Rattle.field.specs.declared.Span.{Span}
 use Rattle.path.specs.Path.{Name}
 use Rattle.sheet.specs.Members.{Enumeration}
-use Rattle.scope.specs.First.{collect}
+use Rattle.basis.specs.First.{collect}
 use Rattle.scope.specs.Scope.{Scope, enumNamed}
 use Rattle.search.specs.declared.scopes.Cursor.{Cursor}
 use Rattle.search.specs.declared.full_name.NextEnum.{NextEnum}

@@ -2,4 +2,5 @@ pub mod Scopes
 pub mod Cursor
 pub mod Lookup
 pub mod Ahead
-pub mod Among
+pub mod Answers
+pub mod Number

@@ -22,9 +22,9 @@ use Rattle.reply.specs.declared.Refusal.the-variants.{MessageNotFound, MessageF
 use Rattle.path.specs.Path.{Name, Path, parent, last}
 use Rattle.path.specs.Candidates.{candidates}
 use Rattle.sheet.specs.Members.{Enumeration}
-use Rattle.scope.specs.First.{given, firstSome, collect}
+use Rattle.basis.specs.First.{given, firstSome, collect}
 use Rattle.scope.specs.Scope.{Scope, declarationNamed, enumNamed}
-use Rattle.scope.specs.Number.{extends}
+use Rattle.search.specs.Number.{extends}
 use Rattle.search.specs.declared.extension.Found.{Found}
 use Rattle.search.specs.declared.extension.Search.{Search}
 use Rattle.search.specs.declared.extension.Search.the-variants.{Is, Nowhere}

@@ -16,7 +16,7 @@ use Rattle.octets.specs.Octets.{sameBytes}
 use Rattle.field.specs.Leaf.{text}
 use Rattle.path.specs.Path.{Path, spell}
 use Rattle.sheet.specs.Tree.{File, treeOf}
-use Rattle.scope.specs.First.{given, onto}
+use Rattle.basis.specs.First.{given, onto}
 use Rattle.scope.specs.Scope.{Scope, fileScope, down}
 
 -- "follows the rest as message names, the first of that name at each level; if all are found, it gives one scope"

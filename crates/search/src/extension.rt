@@ -5,7 +5,7 @@ ghost use Prim.Native.Nat.{_≤_};
 ghost use lib.ListN.{length};
 ghost use Rattle.limits.specs.Figures.{mostCandidate};
 ghost use Rattle.path.specs.Path.{components, isRelOrEmpty, isPath};
-ghost use Rattle.scope.specs.First.{firstSome};
+ghost use Rattle.basis.specs.First.{firstSome};
 ghost use Rattle.search.specs.Cursor.{ahead, Stands};
 ghost use Rattle.search.specs.Lookup.{foundIn, findExtensionByAbsPath, findExtensionByPath, extResolveField, searched};
 use crate::scopes::Cursor;

@@ -1,4 +1,4 @@
--- Closed cases of the tree and its counts, which the checker computes: P1's sheet with every place, the empty sheet, a message that holds
+-- Closed cases of the tree, which the checker computes: P1's sheet with every place, the empty sheet, a message that holds
 -- another, a field and an enum, cuts at the end of a sheet and of a file, what is no declaration, messages as deep as 01 allows and deeper.
 -- Assumes nothing.
 use mathlib.Core.Path.{_≡_, refl}
@@ -12,19 +12,13 @@ use Rattle.sheet.specs.Table.{fileTag, messageTag, extensionTag, enumTag
 use Rattle.sheet.specs.Declaration.{hasTypePath, typePathAt, shape, shapeAt, extensionAt, messageFieldAt, valueAt}
 use Rattle.sheet.specs.Tree.{Items, none, message, extension, enumeration, field, File, fileWith}
 use Rattle.sheet.specs.Tree.{valueIn, itemIn, itemsIn, fileIn, treeOf}
-use Rattle.sheet.specs.Count.{inSheet}
 
-tree : List ℕ → List File
+unfoldable pub tree : List ℕ → List File
 unfolding treeOf fileIn itemsIn itemIn valueIn extensionAt messageFieldAt valueAt shapeAt typePathAt hasTypePath walk leafAt fieldAt bigAt
 tree s = treeOf s
 
--- files, messages, extensions, enums, fields, values
-counts : List ℕ → List ℕ
-unfolding tree
-counts s = map (λ k. inSheet k (tree s)) (fileTag ∷ messageTag ∷ extensionTag ∷ enumTag ∷ fieldTag ∷ valueTag ∷ [])
-
 -- ---- P1: package p, extension x of o.F, number 5, type 13, label 1; package o, message F
-abbrev p1 : List ℕ
+abbrev pub p1 : List ℕ
 p1 =
     0x01 ∷ 0 ∷ 0x20 ∷ 0x10 ∷ 0 ∷ 1 ∷ 0x70
     ∷ 0x03 ∷ 0 ∷ 0x19 ∷ 0x11 ∷ 0 ∷ 1 ∷ 0x78 ∷ 0x12 ∷ 0 ∷ 3 ∷ 0x6F ∷ 0x2E ∷ 0x46
@@ -46,21 +40,13 @@ p1-whole : tree p1 ≡ p1-tree
 unfolding tree
 p1-whole = refl
 
-p1-counts : counts p1 ≡ 2 ∷ 1 ∷ 1 ∷ 0 ∷ 0 ∷ 0 ∷ []
-unfolding counts
-p1-counts = refl
-
 -- ---- nothing
 empty-whole : tree [] ≡ []
 unfolding tree
 empty-whole = refl
 
-empty-counts : counts [] ≡ 0 ∷ 0 ∷ 0 ∷ 0 ∷ 0 ∷ 0 ∷ []
-unfolding counts
-empty-counts = refl
-
 -- ---- no package name; message M with message N, field f, and enum E with the values a = 0 and b = -1
-abbrev inside : List ℕ
+abbrev pub inside : List ℕ
 inside =
     0x01 ∷ 0 ∷ 0x4A ∷ 0x10 ∷ 0 ∷ 0
     ∷ 0x02 ∷ 0 ∷ 0x44 ∷ 0x11 ∷ 0 ∷ 1 ∷ 0x4D
@@ -81,10 +67,6 @@ inside-whole : tree inside ≡ fileWith (span 6 6) (span 6 77) (message (span 12
 unfolding tree
 inside-whole = refl
 
-inside-counts : counts inside ≡ 1 ∷ 2 ∷ 0 ∷ 1 ∷ 1 ∷ 2 ∷ []
-unfolding counts
-inside-counts = refl
-
 -- ---- a payload that is cut at the end of the sheet: what stands before it is there
 cut-sheet : tree (p1 ++ (0x01 ∷ 0 ∷ 4 ∷ 0x10 ∷ 0 ∷ 0 ∷ [])) ≡ p1-tree
 unfolding tree
@@ -102,7 +84,7 @@ unfolding tree
 cut-file = refl
 
 -- ---- a message with no name, a field with no shape and a tag of no declaration are left out, and what follows them is there
-abbrev odd : List ℕ
+abbrev pub odd : List ℕ
 odd =
     0x01 ∷ 0 ∷ 0x17 ∷ 0x10 ∷ 0 ∷ 0
     ∷ 0x02 ∷ 0 ∷ 0 ∷ 0x05 ∷ 0 ∷ 4 ∷ 0x11 ∷ 0 ∷ 1 ∷ 0x66 ∷ 0x07 ∷ 0 ∷ 0
@@ -113,14 +95,9 @@ unfolding tree
 left-out = refl
 
 -- ---- n messages, each in the one before
-abbrev within : ℕ → List ℕ
+abbrev pub within : ℕ → List ℕ
 within zero = []
 within (suc n) = 0x02 ∷ 0 ∷ (4 + 7 * n) ∷ 0x11 ∷ 0 ∷ 1 ∷ 0x4D ∷ within n
 
-abbrev deep : ℕ → List ℕ
+abbrev pub deep : ℕ → List ℕ
 deep n = 0x01 ∷ 0 ∷ (3 + 7 * n) ∷ 0x10 ∷ 0 ∷ 0 ∷ within n
-
--- "messages 16 deep": the seventeenth is left out
-deepest : map (λ n. inSheet messageTag (tree (deep n))) (15 ∷ 16 ∷ 17 ∷ []) ≡ 15 ∷ 16 ∷ 16 ∷ []
-unfolding tree
-deepest = refl

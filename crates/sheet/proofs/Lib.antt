@@ -4,5 +4,4 @@ pub mod PlaceLaws
 pub mod TreeLaws
 pub mod MemberLaws
 pub mod LyingLaws
-pub mod CountLaws
 pub mod Controls

@@ -9,7 +9,7 @@ use borrow.Author.Tests.{not-true, not-false, eq-eqb, ne-eqb}
 use lib.Dec.{eqb}
 use lib.ListN.{length, getD}
 use Rattle.octets.specs.Octets.{bigAt}
-use Rattle.wire.specs.Types.{TYPE_GROUP, TYPE_MESSAGE, TYPE_ENUM}
+use Rattle.types.specs.Types.{TYPE_GROUP, TYPE_MESSAGE, TYPE_ENUM}
 use Rattle.field.specs.declared.Leaf.{Leaf}
 use Rattle.field.specs.declared.Leaf.the-variants.{At, Not}
 use Rattle.field.specs.Leaf.{anyBytes, ofSize, onlyIf, leafAt}

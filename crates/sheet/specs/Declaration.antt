@@ -22,7 +22,7 @@ use Rattle.field.specs.declared.Leaf.{Leaf}
 use Rattle.field.specs.declared.Leaf.the-variants.{At, Not}
 use Rattle.field.specs.declared.Span.{Span}
 use Rattle.field.specs.Leaf.{span, anyBytes, ofSize, onlyIf, onLeaf, leafAt}
-use Rattle.wire.specs.Types.{TYPE_GROUP, TYPE_MESSAGE, TYPE_ENUM}
+use Rattle.types.specs.Types.{TYPE_GROUP, TYPE_MESSAGE, TYPE_ENUM}
 use Rattle.sheet.specs.declared.declaration.Shape.{Shape}
 use Rattle.sheet.specs.declared.declaration.Shaped.{Shaped}
 use Rattle.sheet.specs.declared.declaration.Shaped.the-variants.{Shapes, NoShape}

@@ -1,5 +1,4 @@
 pub mod Table
 pub mod Declaration
 pub mod Tree
-pub mod Count
 pub mod Members

@@ -8,9 +8,9 @@ use field::Leaf;
 use field::Span;
 use field::leaf_at;
 use field::sized_at;
-use wire::types::TYPE_ENUM;
-use wire::types::TYPE_GROUP;
-use wire::types::TYPE_MESSAGE;
+use types::TYPE_ENUM;
+use types::TYPE_GROUP;
+use types::TYPE_MESSAGE;
 
 // What an extension and a field have after their names.
 pub struct Shape {

@@ -12,7 +12,7 @@ use Rattle.reply.specs.declared.Verdict.the-variants.{Fine}
 use Rattle.field.specs.Field.{fieldAt}
 use Rattle.field.specs.Walk.{walk}
 use Rattle.field.specs.Leaf.{leafAt}
-use Rattle.wire.specs.Types.{TYPE_MESSAGE, TYPE_UINT32}
+use Rattle.types.specs.Types.{TYPE_MESSAGE, TYPE_UINT32}
 use Rattle.sheet.specs.Table.{fileTag, messageTag, extensionTag, enumTag, fieldTag, valueTag, packageTag, nameTag}
 use Rattle.sheet.specs.Table.{extendeeTag, numberTag, typeTag, labelTag, typePathTag, signedNumberTag}
 use Rattle.sheet.specs.Declaration.{hasTypePath, typePathAt, shapeAt, extensionAt, messageFieldAt, valueAt}

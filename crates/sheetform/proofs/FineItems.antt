@@ -18,7 +18,7 @@ use Rattle.field.specs.declared.Leaf.{Leaf}
 use Rattle.field.specs.declared.Leaf.the-variants.{At}
 use Rattle.field.specs.Leaf.{text, anyBytes, onLeaf, leafAt}
 use Rattle.field.specs.Walk.{Walk, done, cut, step, walk, tagsIn}
-use Rattle.field.specs.Each.{each}
+use Rattle.form.specs.Each.{each}
 use Rattle.field.proofs.LeafLaws.{leaf-tested, leaf-untested, on-leaf-some}
 use Rattle.sheet.specs.declared.declaration.Declared.{Declared}
 use Rattle.sheet.specs.declared.declaration.Declared.the-variants.{Declares, NoDeclaration}

@@ -21,7 +21,7 @@ use Rattle.field.specs.declared.Leaf.{Leaf}
 use Rattle.field.specs.Field.{fieldAt}
 use Rattle.field.specs.Leaf.{anyBytes, onLeaf, leafAt}
 use Rattle.field.specs.Walk.{Walk, done, cut, step, walk, tagsIn}
-use Rattle.field.specs.Each.{each, eachFrom}
+use Rattle.form.specs.Each.{each, eachFrom}
 use Rattle.field.proofs.WalkLaws.{walk-step}
 use Rattle.sheet.specs.Table.{fileTag, messageTag, enumTag, packageTag, nameTag}
 use Rattle.sheet.specs.Tree.{File, valuesIn, itemsIn, fileIn, filesIn, treeOf}

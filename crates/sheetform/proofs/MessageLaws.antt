@@ -15,11 +15,11 @@ use Rattle.field.specs.declared.Leaf.{Leaf}
 use Rattle.field.specs.declared.Leaf.the-variants.{At, Not}
 use Rattle.field.specs.Walk.{Walk}
 use Rattle.field.specs.Leaf.{leafAt}
-use Rattle.field.specs.Each.{each}
+use Rattle.form.specs.Each.{each}
 use Rattle.field.proofs.FieldLaws.{field-ordered}
 use Rattle.field.proofs.LeafLaws.{leaf-inside}
 use Rattle.field.proofs.Rest.{Rest, rest-start}
-use Rattle.field.proofs.EachLaws.{each-laws}
+use Rattle.form.proofs.EachLaws.{each-laws}
 use Rattle.sheet.specs.Table.{messageTag, extensionTag, enumTag, fieldTag, valueTag, nameTag}
 use Rattle.sheetform.specs.Declarations.{isExtension, isField, isValue}
 use Rattle.sheetform.specs.Form.{malformed, beyond, judgeValue, judgeEnum, judgeItem, judgeMessage, judgeItems}

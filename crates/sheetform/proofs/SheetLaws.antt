@@ -17,11 +17,11 @@ use Rattle.field.specs.declared.Leaf.{Leaf}
 use Rattle.field.specs.declared.Leaf.the-variants.{At, Not}
 use Rattle.field.specs.Walk.{Walk}
 use Rattle.field.specs.Leaf.{leafAt}
-use Rattle.field.specs.Each.{eachFrom}
+use Rattle.form.specs.Each.{eachFrom}
 use Rattle.field.proofs.FieldLaws.{field-ordered}
 use Rattle.field.proofs.LeafLaws.{leaf-inside}
 use Rattle.field.proofs.Rest.{Rest, rest-start}
-use Rattle.field.proofs.EachLaws.{each-from-laws}
+use Rattle.form.proofs.EachLaws.{each-from-laws}
 use Rattle.sheet.specs.Table.{fileTag, packageTag}
 use Rattle.sheetform.specs.Form.{malformed, beyond, judgeItems, judgeFile, judgeSheet}
 

@@ -25,7 +25,7 @@ use Rattle.reply.specs.declared.Verdict.the-variants.{Refused}
 use Rattle.reply.specs.Verdicts.{judged}
 use Rattle.field.specs.Walk.{walk}
 use Rattle.field.specs.Leaf.{onLeaf, leafAt}
-use Rattle.field.specs.Each.{each, eachFrom}
+use Rattle.form.specs.Each.{each, eachFrom}
 use Rattle.sheet.specs.Table.{fileTag, messageTag, extensionTag, enumTag, fieldTag, valueTag, packageTag, nameTag}
 use Rattle.sheetform.specs.Declarations.{isExtension, isField, isValue}
 

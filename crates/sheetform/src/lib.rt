@@ -27,7 +27,7 @@ fn check_file(s: &[u8], index: usize, tag: u8, from: usize, to: usize) -> Verdic
     if MOST_FILES <= index {
         return Verdict::Refused(Refusal::BeyondLimit);
     }
-    let Leaf::At { from: _, to: body } = leaf::rel_or_empty_at(s, from, to, table::PACKAGE) else {
+    let Leaf::At { from: _, to: body } = form::rel_or_empty_at(s, from, to, table::PACKAGE) else {
         return Verdict::Refused(Refusal::BadSheet);
     };
     check_items(s, body, to, MOST_MESSAGES, false)

@@ -28,7 +28,7 @@ fn check_enum(s: &[u8], from: usize, to: usize) -> Verdict
     requires { ⌜ (from ≤ to) × (to ≤ length (now s)) ⌝ }
     ensures { λ r. ⌜ r ≡ judgeEnum (now (s .entry)) from to ⌝ }
 {
-    let Leaf::At { from: _, to: body } = leaf::ident_at(s, from, to, table::NAME) else {
+    let Leaf::At { from: _, to: body } = form::ident_at(s, from, to, table::NAME) else {
         return Verdict::Refused(Refusal::BadSheet);
     };
     let mut at = body;
@@ -80,7 +80,7 @@ fn check_message(s: &[u8], from: usize, to: usize, left: usize) -> Verdict
     if left == 0 {
         return Verdict::Refused(Refusal::BeyondLimit);
     }
-    let Leaf::At { from: _, to: body } = leaf::ident_at(s, from, to, table::NAME) else {
+    let Leaf::At { from: _, to: body } = form::ident_at(s, from, to, table::NAME) else {
         return Verdict::Refused(Refusal::BadSheet);
     };
     check_items(s, body, to, left - 1, true)

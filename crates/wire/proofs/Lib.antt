@@ -5,14 +5,5 @@ pub mod TagLaws
 pub mod FixedLaws
 pub mod FixedLoops
 pub mod NumberLaws
-pub mod Table
-pub mod TypeLaws
-pub mod Utf8Forms
-pub mod Utf8Front
-pub mod Utf8Lead
-pub mod Utf8Laws
-pub mod Utf8Scan
 pub mod VarintControls
 pub mod NumberControls
-pub mod TypeControls
-pub mod Utf8Controls

@@ -2,5 +2,3 @@ pub mod Varint
 pub mod Tag
 pub mod Fixed
 pub mod Numbers
-pub mod Types
-pub mod Utf8

@@ -11,7 +11,7 @@ use mathlib.Core.Bool.{Bool, _&&_, _||_}
 use Prim.Native.Nat.{ℕ, _+_, _*_, _/_, _%_}
 use lib.Dec.{leb, eqb}
 use Rattle.limits.specs.Figures.{mostNumber}
-use Rattle.wire.specs.Types.{VARINT, I64, LEN, I32}
+use Rattle.types.specs.Types.{VARINT, I64, LEN, I32}
 
 abbrev pub tagOf : ℕ → ℕ → ℕ
 tagOf n w = n * 8 + w

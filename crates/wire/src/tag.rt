@@ -2,10 +2,10 @@
 ghost use mathlib.Core.Path.{_≡_};
 ghost use Prim.Native.Nat.{_<_};
 ghost use Rattle.wire.specs.Tag.{tagOf, numberOf, wireTypeOf, tagGood as tagGoodOf};
-use crate::types::I32;
-use crate::types::I64;
-use crate::types::LEN;
-use crate::types::VARINT;
+use types::I32;
+use types::I64;
+use types::LEN;
+use types::VARINT;
 use limits::MOST_NUMBER;
 
 // The tag of a field number and a wire type.

@@ -1,7 +1,7 @@
 -- `full_name::next_enum` meets its contract.
 -- Assumes nothing.
 use lib.ListN.{length}
-use Rattle.scope.specs.First.{collect}
+use Rattle.basis.specs.First.{collect}
 use Rattle.scope.specs.Scope.{enumNamed}
 use Rattle.search.specs.Cursor.{ahead}
 use Rattle.search.specs.Ahead.{enumsAhead}

@@ -1,7 +1,7 @@
 -- `full_name::next_message` meets its contract.
 -- Assumes nothing.
 use lib.ListN.{length}
-use Rattle.scope.specs.First.{collect}
+use Rattle.basis.specs.First.{collect}
 use Rattle.search.specs.Cursor.{ahead}
 use Rattle.search.specs.Lookup.{messageOf}
 use Rattle.search.specs.Ahead.{messagesAhead}

@@ -17,7 +17,7 @@ use Rattle.sheetform.proofs.messages.check_message.Reads as check-messa
 use Rattle.sheetform.proofs.messages.check_message.Kinds as check-message-kinds
 use Rattle.sheetform.proofs.messages.+check_item+check_items+check_message.Lts-check_message as check-message-lts
 use Rattle.field.proofs.field_at.Reads as field-at-reads
-use Rattle.leaf.proofs.ident_at.Reads as ident-at-reads
+use Rattle.form.proofs.ident_at.Reads as ident-at-reads
 use Rattle.reply.proofs.judge.Reads as judge-reads
 use Rattle.sheetform.proofs.declarations.is_extension.Reads as is-extension-reads
 use Rattle.sheetform.proofs.declarations.is_field.Reads as is-field-reads

@@ -1,0 +1,61 @@
+-- The laws of `first`, `given`, `orElse`, `onto` and `collect`, over plain lists: an element in front, two lists in a row, and what holds
+-- of that which was found.
+--
+--   Every P xs <-> P holds of each of xs
+--
+-- Assumes nothing.
+use mathlib.Core.Path.{_≡_, refl}
+use mathlib.Core.Bool.{Bool, true, false}
+use mathlib.Core.List.{List, [], _∷_, _++_}
+use mathlib.Core.Option.{Option, none, some}
+use Prim.Native.Nat.{ℕ}
+use native.Mathlib.Omega.{arith}
+use Rattle.basis.specs.First.{pick, first, given, orElse, onto, collect}
+
+-- ---- one thing, or nothing: what holds of all that f makes holds of what is given
+pub given-holds : {A B : Type 0} (o : Option A) (f : A → Option B) (b : B) (P : Type 0) → ((a : A) → o ≡ some a → f a ≡ some b → P)
+    → given o f ≡ some b → P
+given-holds none f b P k q = absurd (let z : _≡_ {A = ℕ} 0 1 = cc in omega arith)
+given-holds (some a) f b P k q = k a refl q
+
+module _ {A : Type 0} where
+  pub or-else-last : (o : Option A) → orElse o none ≡ o
+  or-else-last none = refl
+  or-else-last (some a) = refl
+
+  pub onto-none : (o : Option A) (xs : List A) → o ≡ none → onto o xs ≡ xs
+  onto-none o xs q = rw q
+
+  pub onto-some : (o : Option A) (xs : List A) (a : A) → o ≡ some a → onto o xs ≡ a ∷ xs
+  onto-some o xs a q = rw q
+
+-- ---- the first that passes a test
+module _ {A : Type 0} (good : A → Bool) where
+  pub first-append : (xs ys : List A) → first good (xs ++ ys) ≡ orElse (first good xs) (first good ys)
+  first-append [] ys = refl
+  first-append (x ∷ xs) ys = picked (good x) (first good xs) (first good (xs ++ ys)) (first-append xs ys)
+    where
+      picked : (b : Bool) (o p : Option A) → p ≡ orElse o (first good ys) → pick b x p ≡ orElse (pick b x o) (first good ys)
+      picked true o p q = refl
+      picked false o p q = q
+
+-- ---- all that comes of a list
+module _ {A B : Type 0} (f : A → Option B) (x : A) (xs : List A) where
+  pub collect-none : f x ≡ none → collect f (x ∷ xs) ≡ collect f xs
+  collect-none q = rw q
+
+  pub collect-some : (b : B) → f x ≡ some b → collect f (x ∷ xs) ≡ b ∷ collect f xs
+  collect-some b q = rw q
+
+-- ---- what holds of each holds of the one that was found
+pub data Every {A : Type 0} (P : A → Type 0) : List A → Type 0 where
+  none-of : Every P []
+  one-of : {x : A} {xs : List A} → P x → Every P xs → Every P (x ∷ xs)
+
+pub first-holds : {A : Type 0} (P : A → Type 0) (good : A → Bool) {xs : List A} → Every P xs → (x : A) → first good xs ≡ some x → P x
+first-holds P good none-of x q = absurd (let z : _≡_ {A = ℕ} 0 1 = cc in omega arith)
+first-holds P good (one-of {x = y} {xs = ys} h t) x q = go (good y) (first-holds P good t x) q
+  where
+    go : (b : Bool) → (first good ys ≡ some x → P x) → pick b y (first good ys) ≡ some x → P x
+    go true k q = let u : x ≡ y = cc in rw u h
+    go false k q = k q

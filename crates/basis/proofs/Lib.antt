@@ -1,0 +1,5 @@
+pub mod FirstLaws
+pub mod AmongLaws
+pub mod AmongFirsts
+pub mod Table
+pub mod Controls

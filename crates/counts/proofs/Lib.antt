@@ -1,0 +1,3 @@
+pub mod DeclarationLaws
+pub mod OptionLaws
+pub mod Controls

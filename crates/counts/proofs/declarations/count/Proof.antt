@@ -1,0 +1,29 @@
+-- `count::count` meets its contract.
+-- Assumes nothing.
+use Prim.Native.Nat.{_-_}
+use Rattle.sheet.specs.Tree.{treeOf}
+use Rattle.counts.specs.Declarations.{inSheet, fileCount}
+use Rattle.field.proofs.Tally.{Tally, total}
+use Rattle.counts.proofs.DeclarationLaws.{files-count-laws}
+use borrow.Author.Needs.{needs}
+use Rattle.counts.proofs.declarations.count.Statement.{statement}
+use Rattle.counts.proofs.declarations.count.Tie as tie
+
+abbrev Inv-loop : tie.InvT-loop
+Inv-loop s want end n₀ at₀ n at = Tally (inSheet want (treeOf s)) (total (fileCount want s)) s 0 end n at
+
+abbrev μ-loop : tie.MeasureT-loop
+μ-loop s want end n₀ at₀ n at = end - at
+
+pub count-spec : {M : Type 1} → statement M
+count-spec = tie.close (tie.spec Inv-loop μ-loop
+    (λ c. search (needs, files-count-laws))
+    (λ c κs. search (needs, files-count-laws))
+    (λ c. search (needs, files-count-laws))
+    (λ c. search (needs, files-count-laws))
+    (λ c. search (needs, files-count-laws))
+    (λ c κs. search (needs, files-count-laws))
+    (λ c. search (needs, files-count-laws))
+    (λ c. search (needs, files-count-laws))
+    (λ c. search (needs, files-count-laws))
+    (λ c. search (needs, files-count-laws)))

@@ -1,0 +1,14 @@
+-- `count::count_declared` meets its contract.
+-- Assumes nothing.
+use Rattle.counts.proofs.DeclarationLaws.{declared-count-laws}
+use borrow.Author.Needs.{needs}
+use Rattle.counts.proofs.declarations.count_declared.Statement.{statement}
+use Rattle.counts.proofs.declarations.count_declared.Tie as tie
+
+pub count-declared-spec : {M : Type 1} → statement M
+count-declared-spec = tie.close (tie.spec
+    (λ c. search (needs, declared-count-laws))
+    (λ c. search (needs, declared-count-laws))
+    (λ c. search (needs, declared-count-laws))
+    (λ c κs. search (needs, declared-count-laws))
+    (λ c. search (needs, declared-count-laws)))

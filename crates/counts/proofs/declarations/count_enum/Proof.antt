@@ -1,0 +1,19 @@
+-- `count::count_enum` meets its contract.
+-- Assumes nothing.
+use Rattle.counts.proofs.DeclarationLaws.{enum-count-laws}
+use borrow.Author.Needs.{needs}
+use Rattle.counts.proofs.declarations.count_enum.Statement.{statement}
+use Rattle.counts.proofs.declarations.count_enum.Tie as tie
+
+pub count-enum-spec : {M : Type 1} → statement M
+count-enum-spec = tie.close (tie.spec
+    (λ c κs. search (needs, enum-count-laws))
+    (λ c. search (needs, enum-count-laws))
+    (λ c. search (needs, enum-count-laws))
+    (λ c. search (needs, enum-count-laws))
+    (λ c κs. search (needs, enum-count-laws))
+    (λ c κs. search (needs, enum-count-laws))
+    (λ c κs. search (needs, enum-count-laws))
+    (λ c. search (needs, enum-count-laws))
+    (λ c. search (needs, enum-count-laws))
+    (λ c. search (needs, enum-count-laws)))

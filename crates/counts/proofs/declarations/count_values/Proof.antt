@@ -1,0 +1,31 @@
+-- `count::count_values` meets its contract.
+-- Assumes nothing.
+use Prim.Native.Nat.{_-_}
+use lib.ListN.{length}
+use Rattle.field.specs.Walk.{walk}
+use Rattle.sheet.specs.Tree.{valuesIn}
+use Rattle.field.proofs.Tally.{Tally, total}
+use Rattle.counts.specs.Declarations.{valueCount}
+use Rattle.counts.proofs.DeclarationLaws.{values-count-laws}
+use borrow.Author.Needs.{needs}
+use Rattle.counts.proofs.declarations.count_values.Statement.{statement}
+use Rattle.counts.proofs.declarations.count_values.Tie as tie
+
+abbrev Inv-loop : tie.InvT-loop
+Inv-loop s from to n₀ at₀ n at = Tally (length (valuesIn s (walk s from to))) (total (valueCount s)) s from to n at
+
+abbrev μ-loop : tie.MeasureT-loop
+μ-loop s from to n₀ at₀ n at = to - at
+
+pub count-values-spec : {M : Type 1} → statement M
+count-values-spec = tie.close (tie.spec Inv-loop μ-loop
+    (λ c. search (needs, values-count-laws))
+    (λ c κs. search (needs, values-count-laws))
+    (λ c. search (needs, values-count-laws))
+    (λ c. search (needs, values-count-laws))
+    (λ c. search (needs, values-count-laws))
+    (λ c κs. search (needs, values-count-laws))
+    (λ c. search (needs, values-count-laws))
+    (λ c. search (needs, values-count-laws))
+    (λ c. search (needs, values-count-laws))
+    (λ c. search (needs, values-count-laws)))

@@ -1,0 +1,34 @@
+-- `counts::options::count_options` meets its contract.
+-- Assumes nothing.
+use Prim.Native.Nat.{_-_}
+use lib.ListN.{length}
+use Rattle.request.specs.Request.{requestOf}
+use Rattle.field.proofs.Tally.{Tally}
+use Rattle.counts.proofs.OptionLaws.{optionCount, options-laws}
+use borrow.Author.Needs.{needs}
+use Rattle.counts.proofs.options.count_options.Statement.{statement}
+use Rattle.counts.proofs.options.count_options.Tie as tie
+
+abbrev Inv-loop : tie.InvT-loop
+Inv-loop s end n₀ at₀ n at = Tally (length (requestOf s .options)) (optionCount s) s at₀ end n at
+
+abbrev μ-loop : tie.MeasureT-loop
+μ-loop s end n₀ at₀ n at = end - at
+
+pub count-options-spec : {M : Type 1} → statement M
+count-options-spec = tie.close (tie.spec Inv-loop μ-loop
+    (λ c κs. search (needs, options-laws))
+    (λ c. search (needs, options-laws))
+    (λ c. search (needs, options-laws))
+    (λ c. search (needs, options-laws))
+    (λ c. search (needs, options-laws))
+    (λ c κs. search (needs, options-laws))
+    (λ c. search (needs, options-laws))
+    (λ c. search (needs, options-laws))
+    (λ c. search (needs, options-laws))
+    (λ c. search (needs, options-laws))
+    (λ c. search (needs, options-laws))
+    (λ c. search (needs, options-laws))
+    (λ c. search (needs, options-laws))
+    (λ c. search (needs, options-laws))
+    (λ c. search (needs, options-laws)))

@@ -1,0 +1,14 @@
+-- `emit::put_word` meets its contract.
+-- Assumes nothing.
+use Rattle.octets.proofs.Overlay.{put-out}
+use borrow.Author.Needs.{needs}
+use Rattle.emit.proofs.put_word.Statement.{statement}
+use Rattle.emit.proofs.put_word.Tie as tie
+
+pub put-word-spec : {M : Type 1} → statement M
+put-word-spec = tie.close (tie.spec
+    (λ c. search (needs, put-out))
+    (λ c. search (needs, put-out))
+    (λ c. search (needs, put-out))
+    (λ c. search (needs, put-out))
+    (λ c. search (needs, put-out)))

@@ -1,0 +1,3 @@
+pub mod NameLaws
+pub mod EachLaws
+pub mod Controls

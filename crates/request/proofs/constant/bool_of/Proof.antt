@@ -1,0 +1,15 @@
+-- `constant::bool_of` meets its contract.
+-- Assumes nothing.
+use Rattle.request.proofs.ConstantLaws.{bool-laws}
+use borrow.Author.Needs.{needs}
+use Rattle.request.proofs.constant.bool_of.Statement.{statement}
+use Rattle.request.proofs.constant.bool_of.Tie as tie
+
+pub bool-of-spec : {M : Type 1} → statement M
+bool-of-spec = tie.close (tie.spec
+    (λ c. search (needs, bool-laws))
+    (λ c. search (needs, bool-laws))
+    (λ c. search (needs, bool-laws))
+    (λ c. search (needs, bool-laws))
+    (λ c. search (needs, bool-laws))
+    (λ c. search (needs, bool-laws)))

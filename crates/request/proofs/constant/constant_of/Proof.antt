@@ -1,0 +1,17 @@
+-- `constant::constant_of` meets its contract.
+-- Assumes nothing.
+use Rattle.request.proofs.ConstantLaws.{constant-laws}
+use borrow.Author.Needs.{needs}
+use Rattle.request.proofs.constant.constant_of.Statement.{statement}
+use Rattle.request.proofs.constant.constant_of.Tie as tie
+
+pub constant-of-spec : {M : Type 1} → statement M
+constant-of-spec = tie.close (tie.spec
+    (λ c κs. search (needs, constant-laws))
+    (λ c. search (needs, constant-laws))
+    (λ c. search (needs, constant-laws))
+    (λ c. search (needs, constant-laws))
+    (λ c. search (needs, constant-laws))
+    (λ c. search (needs, constant-laws))
+    (λ c κs. search (needs, constant-laws))
+    (λ c. search (needs, constant-laws)))

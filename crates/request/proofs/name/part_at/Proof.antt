@@ -1,0 +1,16 @@
+-- `name::part_at` meets its contract.
+-- Assumes nothing.
+use Rattle.request.proofs.PartLaws.{part-laws}
+use borrow.Author.Needs.{needs}
+use Rattle.request.proofs.name.part_at.Statement.{statement}
+use Rattle.request.proofs.name.part_at.Tie as tie
+
+pub part-at-spec : {M : Type 1} → statement M
+part-at-spec = tie.close (tie.spec
+    (λ c κs. search (needs, part-laws))
+    (λ c. search (needs, part-laws))
+    (λ c. search (needs, part-laws))
+    (λ c. search (needs, part-laws))
+    (λ c. search (needs, part-laws))
+    (λ c. search (needs, part-laws))
+    (λ c. search (needs, part-laws)))

@@ -1,0 +1,93 @@
+-- Constants and pairs as they are written, from 01's "Sheet and request".
+--
+--           signedOf b ==  the integer that 64 bits are in two's complement
+--            floatOf b ==  the double that 64 bits are, a NaN by its bits
+--         boolOf s a e ==  the bool whose payload is from a to e
+--       numberWith t b ==  the number of the tag t that 64 bits are
+--     numberOf s t a e ==  the number of the tag t whose payload is from a to e
+--   constantOf s t a e ==  the constant of the tag t whose payload is from a to e
+--         isPairName t <=> t is the tag of a pair's name
+--     pairWith t a e f ==  the pair of a name of the tag t from a to e and the constant's field f
+--     pairFrom s end f ==  the pair that begins with the field f
+--        pairAt s at e ==  the pair at a place
+--
+-- Assumes nothing.
+use mathlib.Core.Bool.{Bool, true, false, _&&_}
+use mathlib.Core.List.{List}
+use Prim.Native.Nat.{ℕ, _-_, _^_}
+use lib.Dec.{eqb, ltb, leb}
+use lib.Ieee.{binary64, ofBits, nanBits}
+use lib.ListN.{getD}
+use Rattle.octets.specs.Octets.{bigAt}
+use Rattle.field.specs.declared.Field.{Field}
+use Rattle.field.specs.declared.Field.the-variants.{Whole, Cut}
+use Rattle.field.specs.Field.{fieldAt}
+use Rattle.field.specs.Leaf.{span}
+use Rattle.request.specs.declared.constant.Constant.{Constant}
+use Rattle.request.specs.declared.constant.Constant.the-variants.{Bool as BoolOf, Integer, Float, NotANumber}
+use Rattle.request.specs.declared.constant.Constant.the-variants.{Text, Ident, Message, List as ListOf}
+use Rattle.request.specs.declared.constant.Held.{Held}
+use Rattle.request.specs.declared.constant.Held.the-variants.{Holds, NoConstant}
+use Rattle.request.specs.declared.constant.Paired.{Paired}
+use Rattle.request.specs.declared.constant.Paired.the-variants.{Pairs, NoPair}
+use Rattle.request.specs.Table.{boolTag, unsignedTag, signedTag, floatTag, stringTag, identTag}
+use Rattle.request.specs.Table.{messageConstantTag, pairFieldTag, pairUrlTag, listTag}
+
+-- an integer is its sign and its size
+unfoldable pub signedOf : ℕ → Constant
+signedOf b = elim (ltb b (2 ^ 63)) [ true ↦ Integer false b | false ↦ Integer true (2 ^ 64 - b) ]
+
+-- "23 a float constant, eight bytes, its f64 bits"; the one NaN of f64 has no payload, so a NaN is kept by its bits
+unfoldable pub floatOf : ℕ → Constant
+floatOf b = elim (nanBits binary64 b) [ true ↦ NotANumber b | false ↦ Float (ofBits binary64 b) ]
+
+-- "20 bool (one byte, 0 or 1)"
+unfoldable pub boolOf : List ℕ → ℕ → ℕ → Held
+boolOf s a e = elim (eqb (e - a) 1) [
+  | true ↦ elim (ltb 1 (getD s a 0)) [ true ↦ NoConstant | false ↦ Holds (BoolOf (eqb (getD s a 0) 1)) ]
+  | false ↦ NoConstant
+]
+
+-- "21 unsigned, 22 signed (8 bytes each)"
+abbrev pub numberWith : ℕ → ℕ → Held
+numberWith t b = elim (eqb t unsignedTag) [
+  | true ↦ Holds (Integer false b)
+  | false ↦ elim (eqb t signedTag) [
+    | true ↦ Holds (signedOf b)
+    | false ↦ elim (eqb t floatTag) [ true ↦ Holds (floatOf b) | false ↦ NoConstant ]
+  ]
+]
+
+unfoldable pub numberOf : List ℕ → ℕ → ℕ → ℕ → Held
+numberOf s t a e = elim (eqb (e - a) 8) [ true ↦ numberWith t (bigAt 8 s a) | false ↦ NoConstant ]
+
+-- "24 string, already unescaped; 25 identifier; 26 message ..; 2A list of constants"
+unfoldable pub constantOf : List ℕ → ℕ → ℕ → ℕ → Held
+constantOf s t a e = elim (eqb t boolTag) [
+  | true ↦ boolOf s a e
+  | false ↦ elim (eqb t stringTag) [
+    | true ↦ Holds (Text (span a e))
+    | false ↦ elim (eqb t identTag) [
+      | true ↦ Holds (Ident (span a e))
+      | false ↦ elim (eqb t messageConstantTag) [
+        | true ↦ Holds (Message (span a e))
+        | false ↦ elim (eqb t listTag) [ true ↦ Holds (ListOf (span a e)) | false ↦ numberOf s t a e ]
+      ]
+    ]
+  ]
+]
+
+-- "pairs of a name (27 field, 28 extension path, 29 type URL ..) and a constant"
+unfoldable pub isPairName : ℕ → Bool
+isPairName t = leb pairFieldTag t && leb t pairUrlTag
+
+abbrev pub pairWith : ℕ → ℕ → ℕ → Field → Paired
+pairWith t a e Cut = NoPair
+pairWith t a e (Whole k b f) = Pairs (record { by = t; name = span a e; tag = k; constant = span b f })
+
+abbrev pub pairFrom : List ℕ → ℕ → Field → Paired
+pairFrom s end Cut = NoPair
+pairFrom s end (Whole t a e) = elim (isPairName t) [ true ↦ pairWith t a e (fieldAt s e end) | false ↦ NoPair ]
+
+unfoldable pub pairAt : List ℕ → ℕ → ℕ → Paired
+pairAt s at end = pairFrom s end (fieldAt s at end)

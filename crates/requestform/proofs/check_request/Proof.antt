@@ -1,0 +1,20 @@
+-- `modelform::check_request` meets its contract.
+-- Assumes nothing.
+use Rattle.requestform.proofs.RequestLaws.{request-laws}
+use borrow.Author.Needs.{needs}
+use Rattle.requestform.proofs.check_request.Statement.{statement}
+use Rattle.requestform.proofs.check_request.Tie as tie
+
+pub check-request-spec : {M : Type 1} → statement M
+check-request-spec = tie.close (tie.spec
+    (λ c. search (needs, request-laws))
+    (λ c κs. search (needs, request-laws))
+    (λ c. search (needs, request-laws))
+    (λ c. search (needs, request-laws))
+    (λ c. search (needs, request-laws))
+    (λ c κs. search (needs, request-laws))
+    (λ c. search (needs, request-laws))
+    (λ c. search (needs, request-laws))
+    (λ c. search (needs, request-laws))
+    (λ c κs. search (needs, request-laws))
+    (λ c. search (needs, request-laws)))

@@ -1,0 +1,16 @@
+-- `number::extension_in_file` meets its contract.
+-- Assumes nothing.
+use Rattle.search.proofs.NumberLaws.{in-file-laws}
+use borrow.Author.Needs.{needs}
+use Rattle.search.proofs.number.extension_in_file.Statement.{statement}
+use Rattle.search.proofs.number.extension_in_file.Tie as tie
+
+pub extension-in-file-spec : {M : Type 1} → statement M
+extension-in-file-spec = tie.close (tie.spec
+    (λ c. search (needs, in-file-laws))
+    (λ c κs. search (needs, in-file-laws))
+    (λ c. search (needs, in-file-laws))
+    (λ c. search (needs, in-file-laws))
+    (λ c. search (needs, in-file-laws))
+    (λ c κs. search (needs, in-file-laws))
+    (λ c. search (needs, in-file-laws)))

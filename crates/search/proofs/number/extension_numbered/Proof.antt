@@ -1,0 +1,33 @@
+-- `number::extension_numbered` meets its contract.
+-- Assumes nothing.
+use Prim.Native.Nat.{_-_}
+use Rattle.field.proofs.Seek.{Seeking}
+use Rattle.sheet.specs.declared.declaration.Declared.the-variants.{NoDeclaration}
+use Rattle.search.specs.Number.{isExtension}
+use Rattle.scope.proofs.Answers.{orDeclared}
+use Rattle.search.proofs.NumberLaws.{fileWhere, extension-numbered-laws}
+use borrow.Author.Needs.{needs}
+use Rattle.search.proofs.number.extension_numbered.Statement.{statement}
+use Rattle.search.proofs.number.extension_numbered.Tie as tie
+
+abbrev Inv-loop : tie.InvT-loop
+Inv-loop s message number end at₀ at =
+    Seeking NoDeclaration orDeclared (fileWhere (isExtension s message number) s) s at₀ end at
+
+abbrev μ-loop : tie.MeasureT-loop
+μ-loop s message number end at₀ at = end - at
+
+pub extension-numbered-spec : {M : Type 1} → statement M
+extension-numbered-spec = tie.close (tie.spec Inv-loop μ-loop
+    (λ c. search (needs, extension-numbered-laws))
+    (λ c κs. search (needs, extension-numbered-laws))
+    (λ c. search (needs, extension-numbered-laws))
+    (λ c. search (needs, extension-numbered-laws))
+    (λ c. search (needs, extension-numbered-laws))
+    (λ c κs. search (needs, extension-numbered-laws))
+    (λ c. search (needs, extension-numbered-laws))
+    (λ c. search (needs, extension-numbered-laws))
+    (λ c. search (needs, extension-numbered-laws))
+    (λ c. search (needs, extension-numbered-laws))
+    (λ c. search (needs, extension-numbered-laws))
+    (λ c. search (needs, extension-numbered-laws)))

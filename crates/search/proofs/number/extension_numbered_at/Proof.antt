@@ -1,0 +1,20 @@
+-- `number::extension_numbered_at` meets its contract.
+-- Assumes nothing.
+use Rattle.search.proofs.NumberLaws.{extension-numbered-at-laws}
+use borrow.Author.Needs.{needs}
+use Rattle.search.proofs.number.extension_numbered_at.Statement.{statement}
+use Rattle.search.proofs.number.extension_numbered_at.Tie as tie
+
+pub extension-numbered-at-spec : {M : Type 1} → statement M
+extension-numbered-at-spec = tie.close (tie.spec
+    (λ c κs. search (needs, extension-numbered-at-laws))
+    (λ c. search (needs, extension-numbered-at-laws))
+    (λ c. search (needs, extension-numbered-at-laws))
+    (λ c. search (needs, extension-numbered-at-laws))
+    (λ c. search (needs, extension-numbered-at-laws))
+    (λ c. search (needs, extension-numbered-at-laws))
+    (λ c. search (needs, extension-numbered-at-laws))
+    (λ c. search (needs, extension-numbered-at-laws))
+    (λ c κs. search (needs, extension-numbered-at-laws))
+    (λ c. search (needs, extension-numbered-at-laws))
+    (λ c. search (needs, extension-numbered-at-laws)))

@@ -1,0 +1,35 @@
+-- `number::field_numbered` meets its contract.
+-- Assumes nothing.
+use mathlib.Core.Bool.{false}
+use Prim.Native.Nat.{_-_}
+use Rattle.field.proofs.Seek.{Seeking}
+use Rattle.sheet.specs.declared.declaration.Declared.the-variants.{NoDeclaration}
+use Rattle.search.specs.Number.{hasNumber}
+use Rattle.scope.proofs.Answers.{orDeclared}
+use Rattle.scope.proofs.NamedLaws.{declarationWhere}
+use Rattle.search.proofs.NumberLaws.{field-numbered-laws}
+use borrow.Author.Needs.{needs}
+use Rattle.search.proofs.number.field_numbered.Statement.{statement}
+use Rattle.search.proofs.number.field_numbered.Tie as tie
+
+abbrev Inv-loop : tie.InvT-loop
+Inv-loop s number end at₀ at =
+    Seeking NoDeclaration orDeclared (declarationWhere (hasNumber number) false s) s at₀ end at
+
+abbrev μ-loop : tie.MeasureT-loop
+μ-loop s number end at₀ at = end - at
+
+pub field-numbered-spec : {M : Type 1} → statement M
+field-numbered-spec = tie.close (tie.spec Inv-loop μ-loop
+    (λ c. search (needs, field-numbered-laws))
+    (λ c κs. search (needs, field-numbered-laws))
+    (λ c. search (needs, field-numbered-laws))
+    (λ c. search (needs, field-numbered-laws))
+    (λ c. search (needs, field-numbered-laws))
+    (λ c κs. search (needs, field-numbered-laws))
+    (λ c. search (needs, field-numbered-laws))
+    (λ c. search (needs, field-numbered-laws))
+    (λ c. search (needs, field-numbered-laws))
+    (λ c. search (needs, field-numbered-laws))
+    (λ c. search (needs, field-numbered-laws))
+    (λ c. search (needs, field-numbered-laws)))

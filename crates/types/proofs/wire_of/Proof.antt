@@ -1,0 +1,13 @@
+-- `wire::types::wire_of` meets its contract.
+-- Assumes nothing.
+use Rattle.types.specs.Types.{wireOf}
+use Rattle.types.proofs.TypeLaws.{wire-at}
+use borrow.Author.Needs.{needs}
+use Rattle.types.proofs.wire_of.Statement.{statement}
+use Rattle.types.proofs.wire_of.Tie as tie
+
+pub wire-of-spec : {M : Type 1} → statement M
+unfolding wireOf
+wire-of-spec = tie.close (tie.spec
+    (λ c. search (needs, wire-at))
+    (λ c. search (needs, wire-at)))

@@ -1,0 +1,30 @@
+-- `wire::utf8::four` meets its contract.
+-- Assumes nothing.
+use Rattle.utf8.proofs.Lead.{four-laws}
+use borrow.Author.Needs.{needs}
+use Rattle.utf8.proofs.four.Statement.{statement}
+use Rattle.utf8.proofs.four.Tie as tie
+
+pub four-spec : {M : Type 1} → statement M
+four-spec = tie.close (tie.spec
+    (λ c. search (needs, four-laws))
+    (λ c κs. search (needs, four-laws))
+    (λ c κs. search (needs, four-laws))
+    (λ c κs. search (needs, four-laws))
+    (λ c. search (needs, four-laws))
+    (λ c. search (needs, four-laws))
+    (λ c. search (needs, four-laws))
+    (λ c κs. search (needs, four-laws))
+    (λ c. search (needs, four-laws))
+    (λ c. search (needs, four-laws))
+    (λ c. search (needs, four-laws))
+    (λ c. search (needs, four-laws))
+    (λ c. search (needs, four-laws))
+    (λ c. search (needs, four-laws))
+    (λ c. search (needs, four-laws))
+    (λ c. search (needs, four-laws))
+    (λ c. search (needs, four-laws))
+    (λ c. search (needs, four-laws))
+    (λ c. search (needs, four-laws))
+    (λ c. search (needs, four-laws))
+    (λ c. search (needs, four-laws)))

@@ -1,0 +1,20 @@
+-- `wire::utf8::lead_at` meets its contract.
+-- Assumes nothing.
+use Rattle.utf8.proofs.Lead.{lead-laws}
+use borrow.Author.Needs.{needs}
+use Rattle.utf8.proofs.lead_at.Statement.{statement}
+use Rattle.utf8.proofs.lead_at.Tie as tie
+
+pub lead-at-spec : {M : Type 1} → statement M
+lead-at-spec = tie.close (tie.spec
+    (λ c. search (needs, lead-laws))
+    (λ c. search (needs, lead-laws))
+    (λ c. search (needs, lead-laws))
+    (λ c κs. search (needs, lead-laws))
+    (λ c. search (needs, lead-laws))
+    (λ c κs. search (needs, lead-laws))
+    (λ c. search (needs, lead-laws))
+    (λ c κs. search (needs, lead-laws))
+    (λ c. search (needs, lead-laws))
+    (λ c κs. search (needs, lead-laws))
+    (λ c. search (needs, lead-laws)))

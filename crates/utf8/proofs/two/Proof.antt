@@ -1,0 +1,15 @@
+-- `wire::utf8::two` meets its contract.
+-- Assumes nothing.
+use Rattle.utf8.proofs.Lead.{two-laws}
+use borrow.Author.Needs.{needs}
+use Rattle.utf8.proofs.two.Statement.{statement}
+use Rattle.utf8.proofs.two.Tie as tie
+
+pub two-spec : {M : Type 1} → statement M
+two-spec = tie.close (tie.spec
+    (λ c. search (needs, two-laws))
+    (λ c κs. search (needs, two-laws))
+    (λ c κs. search (needs, two-laws))
+    (λ c. search (needs, two-laws))
+    (λ c. search (needs, two-laws))
+    (λ c. search (needs, two-laws)))
