@@ -5,7 +5,7 @@ use mathlib.Core.Bool.{Bool, true, false, true≢false, not-eq-not}
 use mathlib.Core.List.{List, [], _∷_, _++_}
 use mathlib.Core.Option.{Option, none, some}
 use Prim.Native.Nat.{ℕ}
-use native.Mathlib.Omega.{arith}
+use Rattle.basis.proofs.Never.{never}
 use Rattle.basis.specs.First.{pick, first, given, orElse, firstSome}
 use Rattle.basis.proofs.FirstLaws.{given-holds, or-else-last}
 use Rattle.basis.specs.Among.{Among, here, there, Behind}
@@ -18,7 +18,7 @@ given-some {A} o f y = given-holds o f y ((a : A) × (o ≡ some a) × (f a ≡ 
 -- ---- the first thing that is made of a list
 else-none : {B : Type 0} (o p : Option B) → orElse o p ≡ none → (o ≡ none) × (p ≡ none)
 else-none none p e = (refl, e)
-else-none (some b) p e = absurd (let z : _≡_ {A = ℕ} 0 1 = cc in omega arith)
+else-none (some b) p e = never cc
 
 module _ {A B : Type 0} (f : A → Option B) where
   pub firsts-none : {x : A} {xs : List A} → firstSome f xs ≡ none → Among x xs → f x ≡ none
@@ -39,7 +39,7 @@ module _ {A B : Type 0} (f : A → Option B) where
     pub behind : Behind (λ x. f x ≡ none) of xs
 
   pub firsts-some : (xs : List A) {y : B} → firstSome f xs ≡ some y → Makes y xs
-  firsts-some [] e = absurd (let z : _≡_ {A = ℕ} 0 1 = cc in omega arith)
+  firsts-some [] e = never cc
   firsts-some (x ∷ xs) {y} e = go (f x) refl e (firsts-some xs)
     where
       go : (o : Option B) → f x ≡ o → orElse o (firstSome f xs) ≡ some y → (firstSome f xs ≡ some y → Makes y xs) → Makes y (x ∷ xs)
@@ -55,7 +55,7 @@ module _ {A B : Type 0} (f : A → Option B) where
 
 -- ---- the first that passes a test
 pick-none : {A : Type 0} (b : Bool) (x : A) (o : Option A) → pick b x o ≡ none → (b ≡ false) × (o ≡ none)
-pick-none true x o e = absurd (let z : _≡_ {A = ℕ} 0 1 = cc in omega arith)
+pick-none true x o e = never cc
 pick-none false x o e = (refl, e)
 
 module _ {A : Type 0} (good : A → Bool) where
@@ -73,7 +73,7 @@ module _ {A : Type 0} (good : A → Bool) where
     pub behind : Behind (λ y. good y ≡ true → ⊥) x xs
 
   pub first-some : {x : A} (xs : List A) → first good xs ≡ some x → Passes x xs
-  first-some [] e = absurd (let z : _≡_ {A = ℕ} 0 1 = cc in omega arith)
+  first-some [] e = never cc
   first-some {x} (y ∷ xs) e = go (good y) refl e (first-some xs)
     where
       go : (b : Bool) → good y ≡ b → pick b y (first good xs) ≡ some x → (first good xs ≡ some x → Passes x xs) → Passes x (y ∷ xs)

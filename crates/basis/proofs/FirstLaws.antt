@@ -9,13 +9,13 @@ use mathlib.Core.Bool.{Bool, true, false}
 use mathlib.Core.List.{List, [], _∷_, _++_}
 use mathlib.Core.Option.{Option, none, some}
 use Prim.Native.Nat.{ℕ}
-use native.Mathlib.Omega.{arith}
+use Rattle.basis.proofs.Never.{never}
 use Rattle.basis.specs.First.{pick, first, given, orElse, onto, collect}
 
 -- ---- one thing, or nothing: what holds of all that f makes holds of what is given
 pub given-holds : {A B : Type 0} (o : Option A) (f : A → Option B) (b : B) (P : Type 0) → ((a : A) → o ≡ some a → f a ≡ some b → P)
     → given o f ≡ some b → P
-given-holds none f b P k q = absurd (let z : _≡_ {A = ℕ} 0 1 = cc in omega arith)
+given-holds none f b P k q = never cc
 given-holds (some a) f b P k q = k a refl q
 
 module _ {A : Type 0} where
@@ -53,7 +53,7 @@ pub data Every {A : Type 0} (P : A → Type 0) : List A → Type 0 where
   one-of : {x : A} {xs : List A} → P x → Every P xs → Every P (x ∷ xs)
 
 pub first-holds : {A : Type 0} (P : A → Type 0) (good : A → Bool) {xs : List A} → Every P xs → (x : A) → first good xs ≡ some x → P x
-first-holds P good none-of x q = absurd (let z : _≡_ {A = ℕ} 0 1 = cc in omega arith)
+first-holds P good none-of x q = never cc
 first-holds P good (one-of {x = y} {xs = ys} h t) x q = go (good y) (first-holds P good t x) q
   where
     go : (b : Bool) → (first good ys ≡ some x → P x) → pick b y (first good ys) ≡ some x → P x

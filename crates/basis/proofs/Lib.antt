@@ -1,3 +1,4 @@
+pub mod Never
 pub mod FirstLaws
 pub mod AmongLaws
 pub mod AmongFirsts

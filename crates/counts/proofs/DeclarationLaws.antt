@@ -27,7 +27,7 @@ use Rattle.sheet.specs.declared.declaration.Valued.{Valued}
 use Rattle.sheet.specs.declared.declaration.Valued.the-variants.{Values, NoValue}
 use Rattle.sheet.specs.Table.{fileTag, messageTag, extensionTag, enumTag, fieldTag, valueTag, packageTag, nameTag}
 use Rattle.sheet.specs.Declaration.{extensionAt, messageFieldAt, valueAt}
-use Rattle.sheet.specs.Tree.{Items, none, message, enumeration, File, valued, valueIn, valuesIn, enumIn, extensionIn, fieldIn}
+use Rattle.sheet.specs.Tree.{Items, none, message, enumeration, File, valueOnto, valueIn, valuesIn, enumIn, extensionIn, fieldIn}
 use Rattle.sheet.specs.Tree.{itemIn, messageIn, itemsWith, itemsIn, fileIn, filesIn, treeOf}
 use Rattle.counts.specs.Declarations.{one, declaredCount, inItems, inSheet, valueCount, itemCount, fileCount}
 use Rattle.field.proofs.Tally.{Tally, total, tally-start, tally-laws}
@@ -43,8 +43,8 @@ module _ (s : List ℕ) (t a e : ℕ) where
   value-adds rest = go (eqb t valueTag) (valueAt s a e)
     where
       go : (b : Bool) (v : Valued)
-          → length {A = Value} (elim b [ true ↦ valued v rest | false ↦ rest ])
-          ≡ length {A = Value} (elim b [ true ↦ valued v [] | false ↦ [] ]) + length rest
+          → length {A = Value} (elim b [ true ↦ valueOnto v rest | false ↦ rest ])
+          ≡ length {A = Value} (elim b [ true ↦ valueOnto v [] | false ↦ [] ]) + length rest
       go true NoValue = omega arith
       go true (Values v) = omega arith
       go false v = omega arith

@@ -5,15 +5,15 @@ ghost use lib.ListN.{length};
 ghost use Rattle.field.specs.Walk.{walk};
 ghost use Rattle.sheet.specs.Tree.{none, valuesIn, enumIn, messageIn, itemsIn, treeOf};
 ghost use Rattle.counts.specs.Declarations.{one as oneOf, declaredCount, inItems, inSheet, valueCount, itemCount, fileCount};
+use field::Field;
+use field::Leaf;
+use field::leaf_at;
+use limits::MOST_MESSAGES;
 use sheet::declaration::Declared;
 use sheet::declaration::Valued;
 use sheet::declaration::extension_at;
 use sheet::declaration::value_at;
 use sheet::table;
-use field::Field;
-use field::Leaf;
-use field::leaf_at;
-use limits::MOST_MESSAGES;
 
 // 1 where the tags are the same.
 fn one(want: u8, tag: u8) -> usize

@@ -7,10 +7,10 @@ ghost use Rattle.request.specs.Name.{partsIn};
 ghost use Rattle.request.specs.Request.{requestOf};
 ghost use Rattle.counts.specs.Options.{partsOf};
 use field::Field;
-use request::name::Parted;
-use request::name::part_at;
 use request::heading::Headed;
 use request::heading::heading_of;
+use request::name::Parted;
+use request::name::part_at;
 use request::table;
 
 // How many parts stand from a place on.

@@ -8,6 +8,7 @@ use native.Mathlib.Nat.{zero-add}
 use native.Mathlib.Omega.{arith}
 use lib.ListN.{length, drop, length-append}
 use lib.Seq.{sets, sets-eq, length-sets}
+use Rattle.basis.proofs.Never.{never}
 use Rattle.octets.proofs.Overlay.{sets-append}
 use Rattle.reply.specs.declared.Refusal.{Refusal}
 use Rattle.reply.specs.declared.Refusal.the-variants.{NoRoom}
@@ -51,7 +52,7 @@ module _ {A : Type 0} where
     pub front-refused : (w : Refusal) → r ≡ refuse w → Puts o l m Refused
     front-refused w e =
         let q : o ≡ refuse w = k .rest ∙ ap (push (k .front)) e in
-        record { answer = sym (ap putOf q); left = λ words p. absurd (let z : _≡_ {A = ℕ} 0 1 = cc in omega arith) }
+        record { answer = sym (ap putOf q); left = λ words p. never cc }
 
     pub front-done : r ≡ give [] → Puts o l m (Wrote n)
     front-done e =
@@ -73,13 +74,13 @@ pub record Given {A : Type 0} (o : Outcome A) (n : ℕ) : Type 0 where
 
 module _ {A : Type 0} where
   pub put-wrote : (o : Outcome A) (n : ℕ) (p : Put) → p ≡ putOf o → p ≡ Wrote n → Given o n
-  put-wrote (refuse w) n p a e = absurd (let z : _≡_ {A = ℕ} 0 1 = cc in omega arith)
-  put-wrote nothing n p a e = absurd (let z : _≡_ {A = ℕ} 0 1 = cc in omega arith)
+  put-wrote (refuse w) n p a e = never cc
+  put-wrote nothing n p a e = never cc
   put-wrote (give l) n p a e = record { words = l; is = refl; size = cc }
 
   put-refused : (w : Refusal) (o : Outcome A) (p : Put) → Settled w o → p ≡ putOf o → p ≡ Refused → o ≡ refuse w
   put-refused w _ p refuses a e = refl
-  put-refused w _ p (gives l) a e = absurd (let z : _≡_ {A = ℕ} 0 1 = cc in omega arith)
+  put-refused w _ p (gives l) a e = never cc
 
   empty-front : (z l : List A) → length z ≡ 0 → z ++ l ≡ l
   empty-front [] l h = refl

@@ -8,6 +8,7 @@ use native.Mathlib.Omega.{arith}
 use borrow.Author.Tests.{lt-ltb, le-ltb, ltb-false}
 use lib.Dec.{ltb}
 use lib.ListN.{length, getD}
+use Rattle.basis.proofs.Never.{never}
 use Rattle.octets.specs.Octets.{bigAt}
 use Rattle.field.specs.declared.Field.{Field}
 use Rattle.field.specs.declared.Field.the-variants.{Whole, Cut}
@@ -47,8 +48,8 @@ module _ (s : List ℕ) (at end : ℕ) (r : Field) (q : r ≡ fieldAt s at end) 
           → Whole t a e
           ≡ elim b [ true ↦ Cut | false ↦ elim b′ [ true ↦ Cut | false ↦ Whole (getD s at 0) (at + header) (at + header + n) ] ]
           → Bounds at end a e
-      go true p b′ p′ w = absurd (let z : _≡_ {A = ℕ} 0 1 = cc in omega arith)
-      go false p true p′ w = absurd (let z : _≡_ {A = ℕ} 0 1 = cc in omega arith)
+      go true p b′ p′ w = never cc
+      go false p true p′ w = never cc
       go false p false p′ w =
           let x : a ≡ at + header = cc in
           let y : e ≡ at + header + n = cc in

@@ -8,6 +8,7 @@ use native.Mathlib.Omega.{arith}
 use borrow.Author.Tests.{eq-eqb, ne-eqb, eqb-true}
 use lib.Dec.{eqb}
 use lib.ListN.{length}
+use Rattle.basis.proofs.Never.{never}
 use Rattle.octets.specs.Octets.{part}
 use Rattle.octets.proofs.Parts.{part-length}
 use Rattle.field.specs.declared.Field.{Field}
@@ -36,12 +37,12 @@ module _ (k : ℕ) (s : List ℕ) (at end : ℕ) (r : Field) (q : r ≡ fieldAt 
 -- ---- where a leaf lies
 leaf-inv : (k : ℕ) (good : List ℕ → Bool) (s : List ℕ) (at end a e : ℕ) (f : Field) → f ≡ fieldAt s at end
     → At a e ≡ leafOf k good s f → Bounds at end a e
-leaf-inv k good s at end a e Cut q p = absurd (let z : _≡_ {A = ℕ} 0 1 = cc in omega arith)
+leaf-inv k good s at end a e Cut q p = never cc
 leaf-inv k good s at end a e (Whole t n m) q p = go (eqb t k) (good (part s n m)) p
   where
     go : (b b′ : Bool) → At a e ≡ onlyIf (b && b′) (At n m) → Bounds at end a e
-    go false b′ p = absurd (let z : _≡_ {A = ℕ} 0 1 = cc in omega arith)
-    go true false p = absurd (let z : _≡_ {A = ℕ} 0 1 = cc in omega arith)
+    go false b′ p = never cc
+    go true false p = never cc
     go true true p =
         let x : a ≡ n = cc in
         let y : e ≡ m = cc in
@@ -69,16 +70,16 @@ module _ (k : ℕ) (good : List ℕ → Bool) (s : List ℕ) (at end : ℕ) wher
   any-other (Whole t a e) p = go (eqb t k) (good (part s a e)) p
     where
       go : (b b′ : Bool) → Not ≡ onlyIf (b && true) (At a e) → Not ≡ onlyIf (b && b′) (At a e)
-      go true b′ p = absurd (let z : _≡_ {A = ℕ} 0 1 = cc in omega arith)
+      go true b′ p = never cc
       go false b′ p = refl
 
   any-same : (f : Field) (a e : ℕ) → At a e ≡ leafOf k anyBytes s f → (b : Bool) → b ≡ good (part s a e)
       → leafOf k good s f ≡ onlyIf b (At a e)
-  any-same Cut a e p b x = absurd (let z : _≡_ {A = ℕ} 0 1 = cc in omega arith)
+  any-same Cut a e p b x = never cc
   any-same (Whole t n m) a e p b x = go (eqb t k) p
     where
       go : (c : Bool) → At a e ≡ onlyIf (c && true) (At n m) → onlyIf (c && good (part s n m)) (At n m) ≡ onlyIf b (At a e)
-      go false p = absurd (let z : _≡_ {A = ℕ} 0 1 = cc in omega arith)
+      go false p = never cc
       go true p =
           let u : a ≡ n = cc in
           let v : e ≡ m = cc in
@@ -119,12 +120,12 @@ pub ruleset sized-laws = (leaf-none, size-other, size-same, leaf-ordered)
 
 -- ---- what a leaf passed
 leaf-passed : (k : ℕ) (good : List ℕ → Bool) (s : List ℕ) (a e : ℕ) (f : Field) → At a e ≡ leafOf k good s f → good (part s a e) ≡ true
-leaf-passed k good s a e Cut p = absurd (let z : _≡_ {A = ℕ} 0 1 = cc in omega arith)
+leaf-passed k good s a e Cut p = never cc
 leaf-passed k good s a e (Whole t n m) p = go (eqb t k) (good (part s n m)) refl p
   where
     go : (b b′ : Bool) → good (part s n m) ≡ b′ → At a e ≡ onlyIf (b && b′) (At n m) → good (part s a e) ≡ true
-    go false b′ x p = absurd (let z : _≡_ {A = ℕ} 0 1 = cc in omega arith)
-    go true false x p = absurd (let z : _≡_ {A = ℕ} 0 1 = cc in omega arith)
+    go false b′ x p = never cc
+    go true false x p = never cc
     go true true x p =
         let u : a ≡ n = cc in
         let v : e ≡ m = cc in
@@ -137,7 +138,7 @@ leaf-dropped k good s a e (Whole t n m) p = go (eqb t k) (good (part s n m)) p
   where
     go : (b b′ : Bool) → At a e ≡ onlyIf (b && b′) (At n m) → At a e ≡ onlyIf (b && true) (At n m)
     go false b′ p = p
-    go true false p = absurd (let z : _≡_ {A = ℕ} 0 1 = cc in omega arith)
+    go true false p = never cc
     go true true p = p
 
 module _ (k : ℕ) (good : List ℕ → Bool) (s : List ℕ) (at end a e : ℕ) (p : leafAt k good s at end ≡ At a e) where

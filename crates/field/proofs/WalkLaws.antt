@@ -10,13 +10,13 @@ use lib.Dec.{ltb}
 use Rattle.field.specs.declared.Field.{Field}
 use Rattle.field.specs.declared.Field.the-variants.{Whole, Cut}
 use Rattle.field.specs.Field.{fieldAt}
-use Rattle.field.specs.Walk.{Walk, done, cut, step, follow, walkFor, walk}
+use Rattle.field.specs.Walk.{Walk, done, cut, step, walkOn, walkFor, walk}
 use Rattle.field.proofs.FieldLaws.{Bounds, field-bounds}
 
 module _ (s : List ℕ) (end : ℕ) where
   fuel-follow : (n m at : ℕ) → at < end → end - at ≤ suc n → end - at ≤ suc m
       → ((e : ℕ) → end - e ≤ n → end - e ≤ m → walkFor n s e end ≡ walkFor m s e end)
-      → (f : Field) → f ≡ fieldAt s at end → follow f (λ e. walkFor n s e end) ≡ follow f (λ e. walkFor m s e end)
+      → (f : Field) → f ≡ fieldAt s at end → walkOn f (λ e. walkFor n s e end) ≡ walkOn f (λ e. walkFor m s e end)
   fuel-follow n m at h k l ih Cut q = refl
   fuel-follow n m at h k l ih (Whole t a e) q =
       let b : Bounds at end a e = field-bounds s at end (Whole t a e) q t a e refl in
@@ -25,8 +25,8 @@ module _ (s : List ℕ) (end : ℕ) where
   fuel-more : (n m at : ℕ) → end - at ≤ suc n → end - at ≤ suc m
       → ((e : ℕ) → end - e ≤ n → end - e ≤ m → walkFor n s e end ≡ walkFor m s e end)
       → (b : Bool) → ltb at end ≡ b
-      → _≡_ {A = Walk} (elim b [ true ↦ follow (fieldAt s at end) (λ e. walkFor n s e end) | false ↦ done ])
-      (elim b [ true ↦ follow (fieldAt s at end) (λ e. walkFor m s e end) | false ↦ done ])
+      → _≡_ {A = Walk} (elim b [ true ↦ walkOn (fieldAt s at end) (λ e. walkFor n s e end) | false ↦ done ])
+      (elim b [ true ↦ walkOn (fieldAt s at end) (λ e. walkFor m s e end) | false ↦ done ])
   fuel-more n m at k l ih true p = fuel-follow n m at (ltb-true at end p) k l ih (fieldAt s at end) refl
   fuel-more n m at k l ih false p = refl
 
@@ -37,7 +37,7 @@ module _ (s : List ℕ) (end : ℕ) where
   walk-fuel (suc n) zero at k l = simp (walkFor, le-ltb at end (omega arith))
   walk-fuel (suc n) (suc m) at k l = fuel-more n m at k l (walk-fuel n m) (ltb at end) refl
 
-  walk-open : (at : ℕ) → at < end → walk s at end ≡ follow (fieldAt s at end) (λ e. walkFor (end - at) s e end)
+  walk-open : (at : ℕ) → at < end → walk s at end ≡ walkOn (fieldAt s at end) (λ e. walkFor (end - at) s e end)
   unfolding walk
   walk-open at h = walk-fuel (end - at) (suc (end - at)) at (omega arith) (omega arith) ∙ simp (walkFor, lt-ltb at end h)
 
@@ -61,13 +61,13 @@ module _ (s : List ℕ) (at end : ℕ) where
 module _ (s : List ℕ) (end : ℕ) (P : ℕ → Walk → Type 0) (onDone : (at : ℕ) → P at done) (onCut : (at : ℕ) → P at cut)
     (onStep : (at t a e : ℕ) (w : Walk) → Bounds at end a e → P e w → P at (step t a e w)) where
   follow-holds : (n at : ℕ) → ((e : ℕ) → P e (walkFor n s e end)) → (f : Field) → f ≡ fieldAt s at end
-      → P at (follow f (λ e. walkFor n s e end))
+      → P at (walkOn f (λ e. walkFor n s e end))
   follow-holds n at ih Cut q = onCut at
   follow-holds n at ih (Whole t a e) q =
       onStep at t a e (walkFor n s e end) (field-bounds s at end (Whole t a e) q t a e refl) (ih e)
 
   test-holds : (n at : ℕ) → ((e : ℕ) → P e (walkFor n s e end)) → (b : Bool)
-      → P at (elim b [ true ↦ follow (fieldAt s at end) (λ e. walkFor n s e end) | false ↦ done ])
+      → P at (elim b [ true ↦ walkOn (fieldAt s at end) (λ e. walkFor n s e end) | false ↦ done ])
   test-holds n at ih true = follow-holds n at ih (fieldAt s at end) refl
   test-holds n at ih false = onDone at
 

@@ -1,7 +1,7 @@
 -- The fields between two places, in order: the only fuel of the readers of sheets and requests.
 --
 --                 Walk == each field with its tag and the places of its payload; `cut` where what is left is no whole field
---        follow f next == the field f, and what stands after it
+--        walkOn f next == the field f, and what stands after it
 --   walkFor n s at end == the fields, n at most
 --        walk s at end == the fields of s from the place `at` up to the place `end`
 --             tagsIn w == the tags of the fields, in order
@@ -21,15 +21,15 @@ pub data Walk : Type 0 where
   step : (tag from to : ℕ) → Walk → Walk
 
 -- a field, and what stands after it
-abbrev pub follow : Field → (ℕ → Walk) → Walk
-follow Cut next = cut
-follow (Whole t a e) next = step t a e (next e)
+abbrev pub walkOn : Field → (ℕ → Walk) → Walk
+walkOn Cut next = cut
+walkOn (Whole t a e) next = step t a e (next e)
 
 -- every field takes at least its header, so as many steps as there are bytes are enough
 abbrev pub walkFor : ℕ → List ℕ → ℕ → ℕ → Walk
 walkFor zero s at end = done
 walkFor (suc n) s at end = elim (ltb at end) [
-  | true ↦ follow (fieldAt s at end) (λ e. walkFor n s e end)
+  | true ↦ walkOn (fieldAt s at end) (λ e. walkFor n s e end)
   | false ↦ done
 ]
 

@@ -11,6 +11,7 @@ use mir.Syntax.{w32}
 use mir.Val.{Fits}
 use lib.Dec.{ltb, leb}
 use lib.ListN.{length}
+use Rattle.basis.proofs.Never.{never}
 use Rattle.limits.specs.Figures.{mostSheet}
 use Rattle.octets.specs.Octets.{part}
 use Rattle.reply.specs.declared.Refusal.{Refusal}
@@ -54,8 +55,8 @@ finds s c p f h = go (judgeAll s c p) refl (findExtensionByPath s c p) refl h
   where
     go : (v : Verdict) → judgeAll s c p ≡ v → (o : Option Found) → findExtensionByPath s c p ≡ o
         → unless v (foundOr o) ≡ Field f → Finds s c p f
-    go (Bad w) x o y e = absurd (let z : _≡_ {A = ℕ} 0 1 = cc in omega arith)
-    go Fine x none y e = absurd (let z : _≡_ {A = ℕ} 0 1 = cc in omega arith)
+    go (Bad w) x o y e = never cc
+    go Fine x none y e = never cc
     go Fine x (some g) y e = record { fine = x; is = y ∙ ap some (let z : g ≡ f = cc in z) }
 
 module _ (s c p : List ℕ) (r : Resolved) (q : r ≡ finding s c p) (f : Found) (g : r ≡ Field f) where
@@ -153,8 +154,8 @@ span-inside t p a e = go (leb (p .from) (p .to)) refl (leb (p .to) (length t)) r
   where
     go : (b : Bool) → leb (p .from) (p .to) ≡ b → (b′ : Bool) → leb (p .to) (length t) ≡ b′
         → At a e ≡ onlyIf (b && b′) (At (p .from) (p .to)) → Inside t a e
-    go false x b′ x′ q = absurd (let z : _≡_ {A = ℕ} 0 1 = cc in omega arith)
-    go true x false x′ q = absurd (let z : _≡_ {A = ℕ} 0 1 = cc in omega arith)
+    go false x b′ x′ q = never cc
+    go true x false x′ q = never cc
     go true x true x′ q =
         let u : a ≡ p .from = cc in
         let v : e ≡ p .to = cc in

@@ -6,7 +6,7 @@ use mathlib.Core.Bool.{true}
 use mathlib.Core.List.{List}
 use mathlib.Core.Option.{Option, none, some}
 use Prim.Native.Nat.{ℕ}
-use native.Mathlib.Omega.{arith}
+use Rattle.basis.proofs.Never.{never}
 use Rattle.path.specs.Path.{isRelOrEmpty, isPath}
 use Rattle.reply.specs.declared.Refusal.{Refusal}
 use Rattle.reply.specs.declared.Refusal.the-variants.{BadRequest, ExtensionNotFound}
@@ -30,13 +30,13 @@ module _ (o : Option Found) (r : Search) (q : r ≡ searched o) where
     where
       go : (o : Option Found) → Nowhere ≡ searched o → Refused ExtensionNotFound ≡ foundOr o
       go none p = refl
-      go (some f) p = absurd (let z : _≡_ {A = ℕ} 0 1 = cc in omega arith)
+      go (some f) p = never cc
 
   pub found-some : (f : Found) → r ≡ Is f → Field f ≡ foundOr o
   found-some f g = go o (sym g ∙ q)
     where
       go : (o : Option Found) → Is f ≡ searched o → Field f ≡ foundOr o
-      go none p = absurd (let z : _≡_ {A = ℕ} 0 1 = cc in omega arith)
+      go none p = never cc
       go (some f′) p = let e : f ≡ f′ = cc in rw e
 
 pub ruleset found-laws = (found-none, found-some)

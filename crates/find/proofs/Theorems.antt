@@ -5,13 +5,13 @@ use mathlib.Core.Bool.{true}
 use mathlib.Core.List.{List}
 use mathlib.Core.Option.{Option, none, some}
 use Prim.Native.Nat.{ℕ}
-use native.Mathlib.Omega.{arith}
+use Rattle.basis.proofs.Never.{never}
 use Rattle.path.specs.Path.{Path, isPath}
 use Rattle.path.specs.Candidates.{candidates}
 use Rattle.reply.specs.declared.Refusal.{Refusal}
 use Rattle.reply.specs.declared.Refusal.the-variants.{BadRequest, ExtensionNotFound}
 use Rattle.reply.specs.declared.Verdict.the-variants.{Fine, Refused as Bad}
-use Rattle.reply.specs.Verdicts.{first}
+use Rattle.reply.specs.Verdicts.{firstFault}
 use Rattle.reply.specs.Outcome.{refuse, give}
 use Rattle.reply.proofs.VerdictLaws.{first-fine-rest, judged-fine}
 use Rattle.sheetform.specs.Form.{judgeSheet}
@@ -33,7 +33,7 @@ module _ (s c p : List ℕ) (h : judgeAll s c p ≡ Fine) where
   unfolding judgeAll judgePath
   path-form =
       judged-fine BadRequest (isPath p)
-      (first-fine-rest (judgeScope c) (judgePath p) (first-fine-rest (judgeSheet s) (first (judgeScope c) (judgePath p)) h))
+      (first-fine-rest (judgeScope c) (judgePath p) (first-fine-rest (judgeSheet s) (firstFault (judgeScope c) (judgePath p)) h))
 
   -- The answer 4 is given exactly when no scope at a candidate path declares the name:
   pub not-found-none : findWords s c p ≡ refuse ExtensionNotFound → (q : Path) → Among q (candidates c p) → Undeclared s q
@@ -41,7 +41,7 @@ module _ (s c p : List ℕ) (h : judgeAll s c p ≡ Fine) where
     where
       go : (o : Option Found) → worded (foundOr o) ≡ refuse ExtensionNotFound → o ≡ none
       go none x = refl
-      go (some f) x = absurd (let z : _≡_ {A = ℕ} 0 1 = cc in omega arith)
+      go (some f) x = never cc
 
   pub none-not-found : ((q : Path) → Among q (candidates c p) → Undeclared s q) → findWords s c p ≡ refuse ExtensionNotFound
   none-not-found k = words-open ∙ ap (λ o. worded (foundOr o)) (none-nowhere s c p k)

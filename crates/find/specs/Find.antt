@@ -23,7 +23,7 @@ use Rattle.octets.specs.Octets.{part}
 use Rattle.reply.specs.declared.Refusal.the-variants.{ExtensionNotFound}
 use Rattle.reply.specs.declared.Verdict.{Verdict}
 use Rattle.reply.specs.declared.Verdict.the-variants.{Fine, Refused as Bad}
-use Rattle.reply.specs.Verdicts.{first}
+use Rattle.reply.specs.Verdicts.{firstFault}
 use Rattle.reply.specs.Outcome.{Outcome, refuse, give}
 use Rattle.field.specs.declared.Span.{Span}
 use Rattle.field.specs.declared.Leaf.{Leaf}
@@ -38,7 +38,7 @@ use Rattle.search.specs.Lookup.{findExtensionByPath}
 
 -- 01, Replies: "Inputs in the order a call names them, the sheet first"
 unfoldable pub judgeAll : List ℕ → List ℕ → List ℕ → Verdict
-judgeAll s c p = first (judgeSheet s) (first (judgeScope c) (judgePath p))
+judgeAll s c p = firstFault (judgeSheet s) (firstFault (judgeScope c) (judgePath p))
 
 abbrev pub foundOr : Option Found → Resolved
 foundOr none = Refused ExtensionNotFound

@@ -9,15 +9,15 @@ use Prim.Native.Nat.{ℕ, _+_}
 use Rattle.reply.specs.declared.Refusal.{Refusal}
 use Rattle.reply.specs.declared.Verdict.{Verdict}
 use Rattle.reply.specs.declared.Verdict.the-variants.{Fine, Refused}
-use Rattle.reply.specs.Verdicts.{first}
+use Rattle.reply.specs.Verdicts.{firstFault}
 use Rattle.field.specs.Walk.{Walk, done, cut, step}
 
 abbrev pub each : Refusal → (ℕ → ℕ → ℕ → Verdict) → Walk → Verdict
 each bad f done = Fine
 each bad f cut = Refused bad
-each bad f (step t a e w) = first (f t a e) (each bad f w)
+each bad f (step t a e w) = firstFault (f t a e) (each bad f w)
 
 abbrev pub eachFrom : Refusal → (ℕ → ℕ → ℕ → ℕ → Verdict) → ℕ → Walk → Verdict
 eachFrom bad f n done = Fine
 eachFrom bad f n cut = Refused bad
-eachFrom bad f n (step t a e w) = first (f n t a e) (eachFrom bad f (n + 1) w)
+eachFrom bad f n (step t a e w) = firstFault (f n t a e) (eachFrom bad f (n + 1) w)

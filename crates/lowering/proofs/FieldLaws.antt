@@ -12,6 +12,7 @@ use lib.ListN.{length, getD, drop, drop-of-length-le}
 use lib.Seq.{sets, drop-cons}
 use mir.Syntax.{w32}
 use mir.Val.{Fits}
+use Rattle.basis.proofs.Never.{never}
 use Rattle.limits.specs.Figures.{mostWords}
 use Rattle.reply.specs.declared.Refusal.the-variants.{BadRequest, BeyondLimit}
 use Rattle.reply.specs.declared.Answer.{Answer}
@@ -145,7 +146,7 @@ sized-give : Sized (give []) 0
 sized-give = record { settled = gives []; short = λ words q. omega (arith, ap length (give-inv q)) }
 
 sized-refuse : (n : ℕ) → Sized (refuse BadRequest) n
-sized-refuse n = record { settled = refuses; short = λ words q. absurd (let z : _≡_ {A = ℕ} 0 1 = cc in omega arith) }
+sized-refuse n = record { settled = refuses; short = λ words q. never cc }
 
 sized-push : (x n : ℕ) (o : Outcome ℕ) → Sized o n → Sized (push (x ∷ []) o) (suc n)
 sized-push x n o s = go o (s .settled) (s .short)

@@ -13,6 +13,7 @@ use mir.Syntax.{w32}
 use mir.Val.{Fits, SFits, toZ, ofZ}
 use mir.Facts.{toZ-ofZ}
 use lib.Signed.{mag}
+use Rattle.basis.proofs.Never.{never}
 use Rattle.limits.specs.Figures.{mostWords}
 use Rattle.reply.specs.declared.Refusal.the-variants.{BadRequest, BeyondLimit, RangeEnd}
 use Rattle.reply.specs.declared.Answer.{Answer}
@@ -108,14 +109,14 @@ pairs-settled k (s ∷ e ∷ ws) h = go (endOf k e) (pairs k ws) (pairs-settled 
 pairs-length : (k : ℕ) (ws words : List ℤ) → pairs k ws ≡ give words → length words ≡ length ws
 unfolding pairs
 pairs-length k [] words q = sym (ap length (give-inv q))
-pairs-length k (s ∷ []) words q = absurd (let z : _≡_ {A = ℕ} 0 1 = cc in omega arith)
+pairs-length k (s ∷ []) words q = never cc
 pairs-length k (s ∷ e ∷ ws) words q = go (endOf k e) (pairs k ws) (pairs-length k ws) q
   where
     go : (x : End) (o : Outcome ℤ) → ((m : List ℤ) → o ≡ give m → length m ≡ length ws) → withEnd s x o ≡ give words
         → length words ≡ suc (suc (length ws))
-    go NoNext o p r = absurd (let z : _≡_ {A = ℕ} 0 1 = cc in omega arith)
-    go (At x) (refuse w) p r = absurd (let z : _≡_ {A = ℕ} 0 1 = cc in omega arith)
-    go (At x) nothing p r = absurd (let z : _≡_ {A = ℕ} 0 1 = cc in omega arith)
+    go NoNext o p r = never cc
+    go (At x) (refuse w) p r = never cc
+    go (At x) nothing p r = never cc
     go (At x) (give m) p r = sym (ap length (give-inv r)) ∙ ap (λ n. suc (suc n)) (p m refl)
 
 module _ (k : ℕ) (ws l : List ℤ) (r : Answer) where

@@ -6,11 +6,11 @@ use console::input::Input;
 use console::input::MOST_BYTES;
 use console::output::number;
 use console::output::text;
-use field::Leaf;
+use counts::declarations::count;
 use counts::options::count_options;
 use counts::options::count_parts;
+use field::Leaf;
 use reply::Verdict;
-use counts::declarations::count;
 use sheet::table;
 
 const SHEET: u8 = 0x40;

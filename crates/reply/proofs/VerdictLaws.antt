@@ -3,17 +3,17 @@
 use mathlib.Core.Path.{_≡_, refl}
 use mathlib.Core.Bool.{Bool, true, false}
 use Prim.Native.Nat.{ℕ}
-use native.Mathlib.Omega.{arith}
+use Rattle.basis.proofs.Never.{never}
 use Rattle.reply.specs.declared.Refusal.{Refusal}
 use Rattle.reply.specs.declared.Verdict.{Verdict}
 use Rattle.reply.specs.declared.Verdict.the-variants.{Fine, Refused}
-use Rattle.reply.specs.Verdicts.{first, judged}
+use Rattle.reply.specs.Verdicts.{firstFault, judged}
 
 module _ (u v : Verdict) where
-  pub first-refused : (w : Refusal) → u ≡ Refused w → Refused w ≡ first u v
+  pub first-refused : (w : Refusal) → u ≡ Refused w → Refused w ≡ firstFault u v
   first-refused w g = rw g
 
-  pub first-fine : u ≡ Fine → v ≡ first u v
+  pub first-fine : u ≡ Fine → v ≡ firstFault u v
   first-fine g = rw g
 
 module _ (w : Refusal) (b : Bool) where
@@ -25,13 +25,13 @@ module _ (w : Refusal) (b : Bool) where
 
 -- ---- what is fine
 pub refused-fine : (w : Refusal) → Refused w ≡ Fine → ⊥
-refused-fine w p = let z : _≡_ {A = ℕ} 0 1 = cc in omega arith
+refused-fine w p = never cc
 
-pub first-fine-front : (u v : Verdict) → first u v ≡ Fine → u ≡ Fine
+pub first-fine-front : (u v : Verdict) → firstFault u v ≡ Fine → u ≡ Fine
 first-fine-front Fine v p = refl
 first-fine-front (Refused w) v p = p
 
-pub first-fine-rest : (u v : Verdict) → first u v ≡ Fine → v ≡ Fine
+pub first-fine-rest : (u v : Verdict) → firstFault u v ≡ Fine → v ≡ Fine
 first-fine-rest Fine v p = p
 first-fine-rest (Refused w) v p = absurd (refused-fine w p)
 

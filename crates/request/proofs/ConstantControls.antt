@@ -16,7 +16,7 @@ use Rattle.request.specs.declared.constant.Constant.the-variants.{Text, 
 use Rattle.request.specs.declared.constant.Held.{Held}
 use Rattle.request.specs.declared.constant.Held.the-variants.{Holds, NoConstant}
 use Rattle.request.specs.Table.{boolTag, unsignedTag, signedTag, floatTag, stringTag, identTag, messageConstantTag, listTag, pairFieldTag}
-use Rattle.request.specs.Constant.{signedOf, floatOf, boolOf, numberOf, constantOf, isPairName}
+use Rattle.request.specs.Constant.{integerOf, floatOf, boolOf, numericOf, constantOf, isPairName}
 use Rattle.request.specs.Tree.{none, scalar, message, list, unnamed, byField, byExtension, constantIn}
 
 -- the constant whose payload is a whole list
@@ -38,14 +38,14 @@ bools = refl
 unsigned :
     map (held unsignedTag) (word 0 0 0 0 ∷ word 0xFF 0xFF 0xFF 0xFF ∷ (1 ∷ 2 ∷ 3 ∷ 4 ∷ 5 ∷ 6 ∷ 7 ∷ []) ∷ (0 ∷ word 0 0 0 7) ∷ [])
     ≡ Holds (Integer false 0) ∷ Holds (Integer false 0xFFFFFFFFFFFFFFFF) ∷ NoConstant ∷ NoConstant ∷ []
-unfolding constantOf numberOf bigAt
+unfolding constantOf numericOf bigAt
 unsigned = refl
 
 -- -1, the least, the largest; seven bytes
 signed :
     map (held signedTag) (word 0xFF 0xFF 0xFF 0xFF ∷ word 0x80 0 0 0 ∷ word 0x7F 0xFF 0xFF 0xFF ∷ (1 ∷ 2 ∷ 3 ∷ 4 ∷ 5 ∷ 6 ∷ 7 ∷ []) ∷ [])
     ≡ Holds (Integer true 1) ∷ Holds (Integer true 0x8000000000000000) ∷ Holds (Integer false 0x7FFFFFFFFFFFFFFF) ∷ NoConstant ∷ []
-unfolding constantOf numberOf signedOf bigAt
+unfolding constantOf numericOf integerOf bigAt
 signed = refl
 
 -- 1.5; the infinities, and the NaNs whose bits come right after theirs
@@ -57,7 +57,7 @@ floats :
     ∷ Holds (NotANumber 0x7FF0000000000001)
     ∷ Holds (NotANumber 0xFFF0000000000001)
     ∷ []
-unfolding constantOf numberOf floatOf bigAt nanBits ofBits ofFields odd
+unfolding constantOf numericOf floatOf bigAt nanBits ofBits ofFields odd
 floats = refl
 
 -- these are the places of their payload, whatever it is; a pair's name and a tag past the last are none, though they hold eight bytes
@@ -65,7 +65,7 @@ places :
     map (λ (t : ℕ). constantOf [] t 5 13) (stringTag ∷ identTag ∷ messageConstantTag ∷ listTag ∷ pairFieldTag ∷ 0x2B ∷ [])
     ≡ Holds (Text (span 5 13)) ∷ Holds (Ident (span 5 13)) ∷ Holds (Message (span 5 13)) ∷ Holds (ListOf (span 5 13))
     ∷ NoConstant ∷ NoConstant ∷ []
-unfolding constantOf numberOf
+unfolding constantOf numericOf
 places = refl
 
 -- ---- the tree of { a: [true, {}]  [b]: x }: the pair of the field `a` is a list, which holds a bool and an empty message

@@ -21,19 +21,19 @@ use Rattle.request.specs.declared.constant.Constant.the-variants.{Text, 
 use Rattle.request.specs.declared.constant.Held.{Held}
 use Rattle.request.specs.declared.constant.Held.the-variants.{Holds, NoConstant}
 use Rattle.request.specs.Table.{boolTag, unsignedTag, signedTag, floatTag, stringTag, identTag, messageConstantTag, listTag}
-use Rattle.request.specs.Constant.{signedOf, floatOf, boolOf, numberWith, numberOf, constantOf}
+use Rattle.request.specs.Constant.{integerOf, floatOf, boolOf, numberWith, numericOf, constantOf}
 
 -- ---- the integer that 64 bits are
 module _ (b : ℕ) where
-  pub signed-plus : b < 0x8000000000000000 → Integer false b ≡ signedOf b
-  unfolding signedOf
-  signed-plus h = simp (signedOf, lt-ltb b (2 ^ 63) h)
+  pub signed-plus : b < 0x8000000000000000 → Integer false b ≡ integerOf b
+  unfolding integerOf
+  signed-plus h = simp (integerOf, lt-ltb b (2 ^ 63) h)
 
-  pub signed-minus : 0x8000000000000000 ≤ b → Fits w64 b → Integer true (0xFFFFFFFFFFFFFFFF - b + 1) ≡ signedOf b
-  unfolding signedOf
+  pub signed-minus : 0x8000000000000000 ≤ b → Fits w64 b → Integer true (0xFFFFFFFFFFFFFFFF - b + 1) ≡ integerOf b
+  unfolding integerOf
   signed-minus h f =
       let q : 0xFFFFFFFFFFFFFFFF - b + 1 ≡ 2 ^ 64 - b = omega (arith, f .fits) in
-      simp (signedOf, le-ltb b (2 ^ 63) h, q)
+      simp (integerOf, le-ltb b (2 ^ 63) h, q)
 
 pub ruleset signed-laws = (signed-plus, signed-minus)
 
@@ -75,28 +75,28 @@ pub ruleset bool-laws = (bool-size, bool-other, bool-is)
 
 -- ---- a number
 module _ (s : List ℕ) (t a e : ℕ) where
-  pub number-size : (e - a ≡ 8 → ⊥) → NoConstant ≡ numberOf s t a e
-  unfolding numberOf
-  number-size n = simp (numberOf, ne-eqb (e - a) 8 n)
+  pub number-size : (e - a ≡ 8 → ⊥) → NoConstant ≡ numericOf s t a e
+  unfolding numericOf
+  number-size n = simp (numericOf, ne-eqb (e - a) 8 n)
 
   module _ (h : e - a ≡ 8) (b : ℕ) (q : b ≡ bigAt 8 s a) where
-    number-open : numberOf s t a e ≡ numberWith t b
-    unfolding numberOf
-    number-open = simp (numberOf, eq-eqb (e - a) 8 h, ← q)
+    number-open : numericOf s t a e ≡ numberWith t b
+    unfolding numericOf
+    number-open = simp (numericOf, eq-eqb (e - a) 8 h, ← q)
 
-    pub number-unsigned : t ≡ unsignedTag → Holds (Integer false b) ≡ numberOf s t a e
+    pub number-unsigned : t ≡ unsignedTag → Holds (Integer false b) ≡ numericOf s t a e
     number-unsigned k = rw number-open (simp (numberWith, eq-eqb t unsignedTag k))
 
     module _ (n : t ≡ unsignedTag → ⊥) where
-      pub number-signed : t ≡ signedTag → (r : Constant) → r ≡ signedOf b → Holds r ≡ numberOf s t a e
+      pub number-signed : t ≡ signedTag → (r : Constant) → r ≡ integerOf b → Holds r ≡ numericOf s t a e
       number-signed k r p = rw (number-open, p) (simp (numberWith, ne-eqb t unsignedTag n, eq-eqb t signedTag k))
 
       module _ (m : t ≡ signedTag → ⊥) where
-        pub number-float : t ≡ floatTag → (r : Constant) → r ≡ floatOf b → Holds r ≡ numberOf s t a e
+        pub number-float : t ≡ floatTag → (r : Constant) → r ≡ floatOf b → Holds r ≡ numericOf s t a e
         number-float k r p =
             rw (number-open, p) (simp (numberWith, ne-eqb t unsignedTag n, ne-eqb t signedTag m, eq-eqb t floatTag k))
 
-        pub number-none : (t ≡ floatTag → ⊥) → NoConstant ≡ numberOf s t a e
+        pub number-none : (t ≡ floatTag → ⊥) → NoConstant ≡ numericOf s t a e
         number-none k =
             rw number-open (simp (numberWith, ne-eqb t unsignedTag n, ne-eqb t signedTag m, ne-eqb t floatTag k))
 
@@ -130,7 +130,7 @@ module _ (s : List ℕ) (t a e : ℕ) where
           constant-list k =
               simp (constantOf, ne-eqb t boolTag n, ne-eqb t stringTag m, ne-eqb t identTag o, ne-eqb t messageConstantTag p, eq-eqb t listTag k)
 
-          pub constant-number : (t ≡ listTag → ⊥) → (r : Held) → r ≡ numberOf s t a e → r ≡ constantOf s t a e
+          pub constant-number : (t ≡ listTag → ⊥) → (r : Held) → r ≡ numericOf s t a e → r ≡ constantOf s t a e
           unfolding constantOf
           constant-number k r q =
               q
@@ -154,8 +154,8 @@ module _ (a e : ℕ) where
   PlacedIn NoConstant = Unit {0}
   PlacedIn (Holds c) = Placed c
 
-  signed-placed : (b : ℕ) → Placed (signedOf b)
-  unfolding signedOf
+  signed-placed : (b : ℕ) → Placed (integerOf b)
+  unfolding integerOf
   signed-placed b = go (ltb b (2 ^ 63))
     where
       go : (x : Bool) → Placed (elim x [ true ↦ Integer false b | false ↦ Integer true (2 ^ 64 - b) ])
@@ -180,8 +180,8 @@ module _ (a e : ℕ) where
       go true false = tt
       go false y = tt
 
-  number-placed : (s : List ℕ) (t : ℕ) → PlacedIn (numberOf s t a e)
-  unfolding numberOf
+  number-placed : (s : List ℕ) (t : ℕ) → PlacedIn (numericOf s t a e)
+  unfolding numericOf
   number-placed s t = go (eqb (e - a) 8) (eqb t unsignedTag) (eqb t signedTag) (eqb t floatTag)
     where
       b : ℕ
@@ -190,7 +190,7 @@ module _ (a e : ℕ) where
       go : (w x y z : Bool) → PlacedIn (elim w [
         | true ↦ elim x [
           | true ↦ Holds (Integer false b)
-          | false ↦ elim y [ true ↦ Holds (signedOf b) | false ↦ elim z [ true ↦ Holds (floatOf b) | false ↦ NoConstant ] ]
+          | false ↦ elim y [ true ↦ Holds (integerOf b) | false ↦ elim z [ true ↦ Holds (floatOf b) | false ↦ NoConstant ] ]
         ]
         | false ↦ NoConstant
       ])
@@ -212,7 +212,7 @@ module _ (a e : ℕ) where
             | true ↦ Holds (Ident (span a e))
             | false ↦ elim y [
               | true ↦ Holds (Message (span a e))
-              | false ↦ elim z [ true ↦ Holds (ListOf (span a e)) | false ↦ numberOf s t a e ]
+              | false ↦ elim z [ true ↦ Holds (ListOf (span a e)) | false ↦ numericOf s t a e ]
             ]
           ]
         ]

@@ -9,6 +9,7 @@ use native.Mathlib.Omega.{arith}
 use borrow.Author.Tests.{not-true, not-false}
 use lib.Dec.{leb}
 use lib.ListN.{length}
+use Rattle.basis.proofs.Never.{never}
 use Rattle.field.specs.declared.Field.{Field}
 use Rattle.field.specs.declared.Field.the-variants.{Whole, Cut}
 use Rattle.field.specs.Field.{fieldAt}
@@ -61,19 +62,19 @@ pub record PairFields (s : List ℕ) (at end : ℕ) (p : Pair) : Type 0 where
 
 pair-second : (s : List ℕ) (at end : ℕ) (p : Pair) (t a e : ℕ) → Whole t a e ≡ fieldAt s at end → isPairName t ≡ true
     → (f : Field) → f ≡ fieldAt s e end → pairWith t a e f ≡ Pairs p → PairFields s at end p
-pair-second s at end p t a e q y Cut x g = absurd (let z : _≡_ {A = ℕ} 0 1 = cc in omega arith)
+pair-second s at end p t a e q y Cut x g = never cc
 pair-second s at end p t a e q y (Whole k b f) x g =
     let w : paired t a e k b f ≡ p = cc in
     subst (PairFields s at end) w (record { name = q; named = y; constant = x })
 
 pair-open : (s : List ℕ) (at end : ℕ) (p : Pair) (f : Field) → f ≡ fieldAt s at end → pairFrom s end f ≡ Pairs p → PairFields s at end p
-pair-open s at end p Cut q g = absurd (let z : _≡_ {A = ℕ} 0 1 = cc in omega arith)
+pair-open s at end p Cut q g = never cc
 pair-open s at end p (Whole t a e) q g = go (isPairName t) refl g
   where
     go : (b : Bool) → isPairName t ≡ b → elim b [ true ↦ pairWith t a e (fieldAt s e end) | false ↦ NoPair ] ≡ Pairs p
         → PairFields s at end p
     go true y g = pair-second s at end p t a e q y (fieldAt s e end) refl g
-    go false y g = absurd (let z : _≡_ {A = ℕ} 0 1 = cc in omega arith)
+    go false y g = never cc
 
 module _ (s : List ℕ) (at end : ℕ) (r : Paired) (q : r ≡ pairAt s at end) (p : Pair) (g : r ≡ Pairs p) where
   pub pair-fields : PairFields s at end p
@@ -136,7 +137,7 @@ module _ (s : List ℕ) (at end : ℕ) (h : at < end) (t a e : ℕ) (q : Whole t
   first-step = walk-step s at end h (Whole t a e) q t a e refl
 
   pairless-second : (f : Field) → f ≡ fieldAt s e end → pairWith t a e f ≡ NoPair → Pairless (walk s at end)
-  pairless-second (Whole k b f) x g = absurd (let z : _≡_ {A = ℕ} 0 1 = cc in omega arith)
+  pairless-second (Whole k b f) x g = never cc
   pairless-second Cut x g = elim (decLt e end) [
     | yes k ↦ subst⁻¹ Pairless (first-step ∙ ap (step t a e) (walk-cut s e end k Cut x refl)) cut-short
     | no k ↦ subst⁻¹ Pairless (first-step ∙ ap (step t a e) (walk-done s e end (omega arith))) alone

@@ -9,6 +9,7 @@ use native.Mathlib.Omega.{arith}
 use borrow.Author.Tests.{eq-eqb, ne-eqb}
 use lib.Dec.{eqb}
 use lib.ListN.{length}
+use Rattle.basis.proofs.Never.{never}
 use Rattle.field.specs.declared.Field.{Field}
 use Rattle.field.specs.declared.Field.the-variants.{Whole, Cut}
 use Rattle.field.specs.Field.{fieldAt}
@@ -64,10 +65,10 @@ part-span t a e p g = go (eqb t directPartTag) (eqb t extensionPartTag) g
         → span a e ≡ p .name
     go true c g = part-name false a e p g
     go false true g = part-name true a e p g
-    go false false g = absurd (let z : _≡_ {A = ℕ} 0 1 = cc in omega arith)
+    go false false g = never cc
 
 part-open : (s : List ℕ) (at end : ℕ) (p : Part) (f : Field) → f ≡ fieldAt s at end → partOfField f ≡ Is p → PartField s at end p
-part-open s at end p Cut q g = absurd (let z : _≡_ {A = ℕ} 0 1 = cc in omega arith)
+part-open s at end p Cut q g = never cc
 part-open s at end p (Whole t a e) q g =
     let w : span a e ≡ p .name = part-span t a e p g in
     record {

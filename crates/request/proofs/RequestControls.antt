@@ -11,7 +11,7 @@ use Rattle.field.specs.Walk.{walk}
 use Rattle.request.specs.declared.constant.Constant.the-variants.{Integer}
 use Rattle.request.specs.declared.heading.Headed.the-variants.{NoHeading}
 use Rattle.request.specs.Name.{partWith, partOf, afterParts}
-use Rattle.request.specs.Constant.{constantOf, numberOf}
+use Rattle.request.specs.Constant.{constantOf, numericOf}
 use Rattle.request.specs.Tree.{none, scalar, unnamed}
 use Rattle.request.specs.Request.{headingOf, optionOf, optionIn, requestOf}
 
@@ -31,7 +31,7 @@ p1 :
       optionsType = span 7 10;
       options = record { parts = partWith true 16 17 ∷ []; constant = scalar unnamed (Integer false 7) none } ∷ [];
     }
-unfolding requestOf headingOf leafAt fieldAt bigAt walk optionIn optionOf partOf constantOf numberOf
+unfolding requestOf headingOf leafAt fieldAt bigAt walk optionIn optionOf partOf constantOf numericOf
 p1 = refl
 
 p1-after : afterParts 13 (walk (heading ++ option) 13 28) ≡ 17

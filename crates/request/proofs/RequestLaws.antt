@@ -11,6 +11,7 @@ use lib.Dec.{ltb}
 use lib.ListN.{length}
 use mir.Syntax.{w64}
 use mir.Val.{Fits}
+use Rattle.basis.proofs.Never.{never}
 use Rattle.field.specs.declared.Field.{Field}
 use Rattle.field.specs.declared.Field.the-variants.{Whole, Cut}
 use Rattle.field.specs.declared.Leaf.{Leaf}
@@ -69,7 +70,7 @@ pub record HeadingPlaces (s : List ℕ) (h : Heading) : Type 0 where
 module _ (s : List ℕ) (h : Heading) where
   typed : (a b : ℕ) → Bounds 0 (length s) a b → (l : Leaf) → l ≡ leafAt optionsTypeTag anyBytes s b (length s)
       → Heads h ≡ onLeaf NoHeading l (heads a b) → HeadingPlaces s h
-  typed a b k Not q g = absurd (let z : _≡_ {A = ℕ} 0 1 = cc in omega arith)
+  typed a b k Not q g = never cc
   typed a b k (At m e) q g =
       let x : h ≡ heading a b m e = cc in
       rw x (record { scope = k; optionsType = leaf-bounds optionsTypeTag anyBytes s b (length s) (At m e) q m e refl; options = refl })
@@ -77,7 +78,7 @@ module _ (s : List ℕ) (h : Heading) where
   scoped : (l : Leaf) → l ≡ leafAt scopeTag anyBytes s 0 (length s)
       → Heads h ≡ onLeaf NoHeading l (λ a b. onLeaf NoHeading (leafAt optionsTypeTag anyBytes s b (length s)) (heads a b))
       → HeadingPlaces s h
-  scoped Not q g = absurd (let z : _≡_ {A = ℕ} 0 1 = cc in omega arith)
+  scoped Not q g = never cc
   scoped (At a b) q g =
       typed a b (leaf-bounds scopeTag anyBytes s 0 (length s) (At a b) q a b refl) (leafAt optionsTypeTag anyBytes s b (length s)) refl g
 

@@ -1,10 +1,10 @@
 -- Constants and pairs as they are written, from 01's "Sheet and request".
 --
---           signedOf b ==  the integer that 64 bits are in two's complement
+--           integerOf b ==  the integer that 64 bits are in two's complement
 --            floatOf b ==  the double that 64 bits are, a NaN by its bits
 --         boolOf s a e ==  the bool whose payload is from a to e
 --       numberWith t b ==  the number of the tag t that 64 bits are
---     numberOf s t a e ==  the number of the tag t whose payload is from a to e
+--     numericOf s t a e ==  the number of the tag t whose payload is from a to e
 --   constantOf s t a e ==  the constant of the tag t whose payload is from a to e
 --         isPairName t <=> t is the tag of a pair's name
 --     pairWith t a e f ==  the pair of a name of the tag t from a to e and the constant's field f
@@ -34,8 +34,8 @@ use Rattle.request.specs.Table.{boolTag, unsignedTag, signedTag, floatTa
 use Rattle.request.specs.Table.{messageConstantTag, pairFieldTag, pairUrlTag, listTag}
 
 -- an integer is its sign and its size
-unfoldable pub signedOf : ℕ → Constant
-signedOf b = elim (ltb b (2 ^ 63)) [ true ↦ Integer false b | false ↦ Integer true (2 ^ 64 - b) ]
+unfoldable pub integerOf : ℕ → Constant
+integerOf b = elim (ltb b (2 ^ 63)) [ true ↦ Integer false b | false ↦ Integer true (2 ^ 64 - b) ]
 
 -- "23 a float constant, eight bytes, its f64 bits"; the one NaN of f64 has no payload, so a NaN is kept by its bits
 unfoldable pub floatOf : ℕ → Constant
@@ -53,13 +53,13 @@ abbrev pub numberWith : ℕ → ℕ → Held
 numberWith t b = elim (eqb t unsignedTag) [
   | true ↦ Holds (Integer false b)
   | false ↦ elim (eqb t signedTag) [
-    | true ↦ Holds (signedOf b)
+    | true ↦ Holds (integerOf b)
     | false ↦ elim (eqb t floatTag) [ true ↦ Holds (floatOf b) | false ↦ NoConstant ]
   ]
 ]
 
-unfoldable pub numberOf : List ℕ → ℕ → ℕ → ℕ → Held
-numberOf s t a e = elim (eqb (e - a) 8) [ true ↦ numberWith t (bigAt 8 s a) | false ↦ NoConstant ]
+unfoldable pub numericOf : List ℕ → ℕ → ℕ → ℕ → Held
+numericOf s t a e = elim (eqb (e - a) 8) [ true ↦ numberWith t (bigAt 8 s a) | false ↦ NoConstant ]
 
 -- "24 string, already unescaped; 25 identifier; 26 message ..; 2A list of constants"
 unfoldable pub constantOf : List ℕ → ℕ → ℕ → ℕ → Held
@@ -71,7 +71,7 @@ constantOf s t a e = elim (eqb t boolTag) [
       | true ↦ Holds (Ident (span a e))
       | false ↦ elim (eqb t messageConstantTag) [
         | true ↦ Holds (Message (span a e))
-        | false ↦ elim (eqb t listTag) [ true ↦ Holds (ListOf (span a e)) | false ↦ numberOf s t a e ]
+        | false ↦ elim (eqb t listTag) [ true ↦ Holds (ListOf (span a e)) | false ↦ numericOf s t a e ]
       ]
     ]
   ]

@@ -2,7 +2,7 @@
 ghost use mathlib.Core.Path.{_≡_};
 ghost use Prim.Native.Nat.{_≤_};
 ghost use lib.ListN.{length};
-ghost use Rattle.request.specs.Constant.{signedOf, floatOf, boolOf, numberOf, constantOf, isPairName, pairAt};
+ghost use Rattle.request.specs.Constant.{integerOf, floatOf, boolOf, numericOf, constantOf, isPairName, pairAt};
 use crate::table;
 use field::Field;
 use field::Span;
@@ -27,8 +27,8 @@ pub enum Held {
 }
 
 // The integer that 64 bits are in two's complement.
-fn signed_of(bits: u64) -> Constant
-    ensures { λ r. ⌜ r ≡ signedOf bits ⌝ }
+fn integer_of(bits: u64) -> Constant
+    ensures { λ r. ⌜ r ≡ integerOf bits ⌝ }
 {
     if bits < 0x8000_0000_0000_0000 {
         Constant::Integer {
@@ -69,9 +69,9 @@ fn bool_of(s: &[u8], from: usize, to: usize) -> Held
 }
 
 // A number: eight bytes.
-fn number_of(s: &[u8], tag: u8, from: usize, to: usize) -> Held
+fn numeric_of(s: &[u8], tag: u8, from: usize, to: usize) -> Held
     requires { ⌜ (from ≤ to) × (to ≤ length (now s)) ⌝ }
-    ensures { λ r. ⌜ r ≡ numberOf (now (s .entry)) tag from to ⌝ }
+    ensures { λ r. ⌜ r ≡ numericOf (now (s .entry)) tag from to ⌝ }
 {
     if to - from != 8 {
         return Held::NoConstant;
@@ -84,7 +84,7 @@ fn number_of(s: &[u8], tag: u8, from: usize, to: usize) -> Held
         });
     }
     if tag == table::SIGNED {
-        return Held::Holds(signed_of(bits));
+        return Held::Holds(integer_of(bits));
     }
     if tag == table::FLOAT {
         return Held::Holds(float_of(bits));
@@ -113,7 +113,7 @@ pub fn constant_of(s: &[u8], tag: u8, from: usize, to: usize) -> Held
     if tag == table::LIST {
         return Held::Holds(Constant::List(place));
     }
-    number_of(s, tag, from, to)
+    numeric_of(s, tag, from, to)
 }
 
 // A pair of a message constant: its name, by a field (27), an extension path (28) or a type URL (29), and the field of its constant.

@@ -25,7 +25,8 @@ use Rattle.request.specs.Table.{messageConstantTag, listTag, pairFieldTag, pair
 use Rattle.request.specs.Constant.{isPairName, pairAt}
 use Rattle.request.proofs.PairLaws.{Pairless, broken, unnamed, alone, cut-short, rest-pairless, rest-pair, rest-pair-next, pair-places}
 use Rattle.requestform.specs.Leaves.{isConstant, goodScalar, goodPairName}
-use Rattle.requestform.specs.Form.{malformed, beyond, pairsOf, constantWith, judgeConstant, judgeElements, judgePairs}
+use Rattle.reply.specs.Verdicts.{beyond}
+use Rattle.requestform.specs.Form.{badRequest, pairsOf, constantWith, judgeConstant, judgeElements, judgePairs}
 use Rattle.requestform.proofs.LeafLaws.{pair-name-other}
 
 -- ---- check_constant
@@ -34,12 +35,12 @@ constant-open : (d : ℕ) (s : List ℕ) (t a e : ℕ) → (d ≡ 0 → ⊥) →
 constant-open zero s t a e z h = absurd (z refl)
 constant-open (suc d) s t a e z h = let p : suc d - 1 ≡ d = omega arith in simp (judgeConstant, p, h)
 
-constant-closed : (d : ℕ) (s : List ℕ) (t a e : ℕ) → isConstant t ≡ false → malformed ≡ judgeConstant d s t a e
+constant-closed : (d : ℕ) (s : List ℕ) (t a e : ℕ) → isConstant t ≡ false → badRequest ≡ judgeConstant d s t a e
 constant-closed zero s t a e h = simp (judgeConstant, h)
 constant-closed (suc d) s t a e h = simp (judgeConstant, h)
 
 module _ (d : ℕ) (s : List ℕ) (t a e : ℕ) (b : Bool) (q : b ≡ isConstant t) where
-  pub constant-other : b ≡ false → malformed ≡ judgeConstant d s t a e
+  pub constant-other : b ≡ false → badRequest ≡ judgeConstant d s t a e
   constant-other h = constant-closed d s t a e (sym q ∙ h)
 
   module _ (h : b ≡ true) where
@@ -85,7 +86,7 @@ unnamed-bad t bs h =
     let no : (k : ℕ) → isPairName k ≡ true → t ≡ k → ⊥ = λ k y e. false≢true (sym h ∙ ap isPairName e ∙ y) in
     pair-name-other t bs (no pairFieldTag refl) (no pairExtensionTag refl) (no pairUrlTag refl)
 
-pairless-malformed : (inner : ℕ → ℕ → ℕ → Verdict) (s : List ℕ) (w : Walk) → Pairless w → pairsOf inner s w ≡ malformed
+pairless-malformed : (inner : ℕ → ℕ → ℕ → Verdict) (s : List ℕ) (w : Walk) → Pairless w → pairsOf inner s w ≡ badRequest
 pairless-malformed inner s cut broken = refl
 pairless-malformed inner s (step t a e done) alone = refl
 pairless-malformed inner s (step t a e cut) cut-short = refl
@@ -98,11 +99,11 @@ module _ (inner : ℕ → ℕ → ℕ → Verdict) (v : Verdict) (s : List ℕ) 
   pairs-end h = sym (rest-end v (pairsOf inner s) s to i k h)
 
   module _ (r : Paired) (q : r ≡ pairAt s i to) where
-    pub pairs-none : i < to → r ≡ NoPair → malformed ≡ v
-    pairs-none h g = sym (rest-pairless v (pairsOf inner s) s to i k r q h g malformed (pairless-malformed inner s))
+    pub pairs-none : i < to → r ≡ NoPair → badRequest ≡ v
+    pairs-none h g = sym (rest-pairless v (pairsOf inner s) s to i k r q h g badRequest (pairless-malformed inner s))
 
     module _ (p : Pair) (g : r ≡ Pairs p) (b : Bool) (x : b ≡ goodPairName (p .by) (part s (p .name .from) (p .name .to))) where
-      pub pairs-misnamed : b ≡ false → malformed ≡ v
+      pub pairs-misnamed : b ≡ false → badRequest ≡ v
       pairs-misnamed y = rw (rest-pair v (pairsOf inner s) s to i k r q p g, ← x, y)
 
       module _ (y : b ≡ true) (u : Verdict) (z : u ≡ inner (p .tag) (p .constant .from) (p .constant .to)) where

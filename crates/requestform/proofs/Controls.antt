@@ -16,7 +16,8 @@ use Rattle.request.specs.Table.{optionTag, scopeTag, optionsTypeTag, directPart
 use Rattle.request.specs.Table.{messageConstantTag, pairFieldTag, pairExtensionTag, pairUrlTag, listTag}
 use Rattle.request.specs.Name.{partOf}
 use Rattle.requestform.specs.Leaves.{isConstant, isBool, isUrl, goodScalar, goodPairName, goodPart}
-use Rattle.requestform.specs.Form.{malformed, beyond, judgeLast, judgeOption, judgeOptions, judgeRequest, judgeName}
+use Rattle.reply.specs.Verdicts.{beyond}
+use Rattle.requestform.specs.Form.{badRequest, judgeLast, judgeOption, judgeOptions, judgeRequest, judgeName}
 use Rattle.requestform.specs.Form.{judgeScope, judgeOptionsType, judgePath}
 
 -- ---- bytes
@@ -95,7 +96,7 @@ bad =
 abbrev large : List (List ℕ)
 large = option direct (inLists 16 yes) ∷ option (times 17 direct) yes ∷ replicate 8193 0 ∷ []
 
-requests : map judgeRequest (fine ++ bad ++ large) ≡ replicate 6 Fine ++ replicate 8 malformed ++ replicate 3 beyond
+requests : map judgeRequest (fine ++ bad ++ large) ≡ replicate 6 Fine ++ replicate 8 badRequest ++ replicate 3 beyond
 unfolding judgeRequest judgeOptions judgeOption judgeLast isConstant isBool isUrl goodScalar goodPairName goodPart
     leafAt fieldAt bigAt walk partOf
     isRelOrEmpty isRelPath isPath rootless components split onFirst allIdent isIdent isLetter isDigit allWord
@@ -107,7 +108,7 @@ unfolding judgeOption judgeLast isConstant isBool goodScalar goodPart fieldAt bi
 indices = refl
 
 -- ---- names alone: a part; no bytes; a part and a constant
-names : map judgeName (direct ∷ [] ∷ (direct ++ yes) ∷ []) ≡ Fine ∷ malformed ∷ malformed ∷ []
+names : map judgeName (direct ∷ [] ∷ (direct ++ yes) ∷ []) ≡ Fine ∷ badRequest ∷ badRequest ∷ []
 unfolding judgeName goodPart fieldAt bigAt walk partOf isIdent isLetter allWord
 names = refl
 
@@ -120,14 +121,14 @@ urls = refl
 abbrev texts : List (List ℕ)
 texts = [] ∷ (120 ∷ []) ∷ rooted ∷ (dot ∷ []) ∷ []
 
-scopes : map judgeScope texts ≡ Fine ∷ Fine ∷ malformed ∷ malformed ∷ []
+scopes : map judgeScope texts ≡ Fine ∷ Fine ∷ badRequest ∷ badRequest ∷ []
 unfolding judgeScope isRelOrEmpty allIdent components split onFirst isIdent isLetter isDigit allWord
 scopes = refl
 
-options-types : map judgeOptionsType texts ≡ malformed ∷ Fine ∷ malformed ∷ malformed ∷ []
+options-types : map judgeOptionsType texts ≡ badRequest ∷ Fine ∷ badRequest ∷ badRequest ∷ []
 unfolding judgeOptionsType isRelPath allIdent split onFirst isIdent isLetter isDigit allWord
 options-types = refl
 
-paths : map judgePath texts ≡ malformed ∷ Fine ∷ Fine ∷ malformed ∷ []
+paths : map judgePath texts ≡ badRequest ∷ Fine ∷ Fine ∷ badRequest ∷ []
 unfolding judgePath isPath rootless allIdent split onFirst isIdent isLetter isDigit allWord
 paths = refl

@@ -16,13 +16,13 @@ use Rattle.octets.proofs.Parts.{part-cons, part-length}
 use Rattle.reply.specs.declared.Refusal.the-variants.{BadRequest, BeyondLimit}
 use Rattle.reply.specs.declared.Verdict.{Verdict}
 use Rattle.reply.specs.declared.Verdict.the-variants.{Fine}
-use Rattle.reply.specs.Verdicts.{first, judged}
+use Rattle.reply.specs.Verdicts.{firstFault, judged}
 use Rattle.reply.proofs.VerdictLaws.{refused-fine, first-fine-front, first-fine-rest, judged-fine}
 use Rattle.field.specs.declared.Field.{Field}
 use Rattle.field.specs.declared.Field.the-variants.{Whole, Cut}
 use Rattle.field.specs.Field.{fieldAt}
 use Rattle.field.specs.Leaf.{span}
-use Rattle.field.specs.Walk.{Walk, done, cut, step, follow, walkFor, walk, tagsIn}
+use Rattle.field.specs.Walk.{Walk, done, cut, step, walkOn, walkFor, walk, tagsIn}
 use Rattle.form.specs.Each.{each}
 use Rattle.field.proofs.FieldLaws.{field-inside}
 use Rattle.request.specs.declared.constant.Constant.{Constant}
@@ -32,12 +32,13 @@ use Rattle.request.specs.declared.constant.Held.{Held}
 use Rattle.request.specs.declared.constant.Held.the-variants.{Holds}
 use Rattle.request.specs.Table.{boolTag, unsignedTag, signedTag, floatTag, stringTag, identTag, messageConstantTag, listTag}
 use Rattle.request.specs.Table.{pairFieldTag, pairExtensionTag, pairUrlTag}
-use Rattle.request.specs.Constant.{signedOf, floatOf, isPairName, constantOf}
+use Rattle.request.specs.Constant.{integerOf, floatOf, isPairName, constantOf}
 use Rattle.request.specs.Tree.{PairName, unnamed, Constants, none, scalar, Reader, pairNameOf, elementsIn, pairsIn, grown, ifHeld, constantIn}
 use Rattle.request.proofs.ConstantLaws.{bool-is, number-unsigned, number-signed, number-float}
 use Rattle.requestform.specs.Leaves.{isConstant, isBool, goodScalar, goodPairName}
-use Rattle.requestform.specs.Form.{malformed, beyond, pairsOf, constantWith, judgeConstant}
-use Rattle.requestform.specs.Fine.{goodName, goodValue, goodConstants, countOf, kindOf, valueTag, withName, tagsOf}
+use Rattle.reply.specs.Verdicts.{beyond}
+use Rattle.requestform.specs.Form.{badRequest, pairsOf, constantWith, judgeConstant}
+use Rattle.requestform.specs.Fine.{goodName, goodValue, goodConstants, countOf, kindOf, constantTag, withName, constantTags}
 use Rattle.requestform.proofs.LeafLaws.{scalar-other, pair-name-other}
 
 -- ---- the payloads of fields that lie inside the bytes
@@ -47,7 +48,7 @@ Within s cut = Unit {0}
 Within s (step t a e w) = (e ≤ length s) × Within s w
 
 module _ (s : List ℕ) (end : ℕ) (h : end ≤ length s) where
-  follow-within : (at : ℕ) (next : ℕ → Walk) → ((e : ℕ) → Within s (next e)) → (f : Field) → f ≡ fieldAt s at end → Within s (follow f next)
+  follow-within : (at : ℕ) (next : ℕ → Walk) → ((e : ℕ) → Within s (next e)) → (f : Field) → f ≡ fieldAt s at end → Within s (walkOn f next)
   follow-within at next ih Cut q = tt
   follow-within at next ih (Whole t a e) q = (omega (arith, field-inside s at end (Whole t a e) q t a e refl), ih e)
 
@@ -56,7 +57,7 @@ module _ (s : List ℕ) (end : ℕ) (h : end ≤ length s) where
   for-within (suc n) at = go (for-within n) (ltb at end)
     where
       go : ((e : ℕ) → Within s (walkFor n s e end)) → (b : Bool)
-          → Within s (elim b [ true ↦ follow (fieldAt s at end) (λ e. walkFor n s e end) | false ↦ done ])
+          → Within s (elim b [ true ↦ walkOn (fieldAt s at end) (λ e. walkFor n s e end) | false ↦ done ])
       go ih true = follow-within at (λ e. walkFor n s e end) ih (fieldAt s at end) refl
       go ih false = tt
 
@@ -67,7 +68,7 @@ module _ (s : List ℕ) (end : ℕ) (h : end ≤ length s) where
 -- ---- a value of the tag t that is no message and no list, and is good
 record Plain (s : List ℕ) (t : ℕ) (c : Constant) : Type 0 where
   good : goodValue s c ≡ true
-  tag : valueTag c ≡ kindOf t
+  tag : constantTag c ≡ kindOf t
   alone : (inner : Reader) (l : PairName) (rest : Constants) → grown inner s l rest c ≡ scalar l c rest
 
 record PlainAt (s : List ℕ) (t : ℕ) (r : Held) : Type 0 where
@@ -76,8 +77,8 @@ record PlainAt (s : List ℕ) (t : ℕ) (r : Held) : Type 0 where
   plain : Plain s t value
 
 module _ (s : List ℕ) where
-  signed-value : (b : ℕ) → Plain s signedTag (signedOf b)
-  unfolding signedOf
+  signed-value : (b : ℕ) → Plain s signedTag (integerOf b)
+  unfolding integerOf
   signed-value b = go (ltb b (2 ^ 63))
     where
       go : (x : Bool) → Plain s signedTag (elim x [ true ↦ Integer false b | false ↦ Integer true (2 ^ 64 - b) ])
@@ -149,8 +150,8 @@ module _ (s : List ℕ) (a e : ℕ) (h : e ≤ length s) where
     unfolding constantOf
     signed-plain =
         record {
-          value = signedOf (bigAt 8 s a);
-          held = sym (number-signed s signedTag a e eight (bigAt 8 s a) refl (λ x. omega arith) refl (signedOf (bigAt 8 s a)) refl);
+          value = integerOf (bigAt 8 s a);
+          held = sym (number-signed s signedTag a e eight (bigAt 8 s a) refl (λ x. omega arith) refl (integerOf (bigAt 8 s a)) refl);
           plain = signed-value s (bigAt 8 s a);
         }
 
@@ -182,7 +183,7 @@ module _ (s : List ℕ) (a e : ℕ) (h : e ≤ length s) where
 pub record FineConstant (s : List ℕ) (l : PairName) (t : ℕ) (rest c : Constants) : Type 0 where
   pub good : goodConstants s rest ≡ true → goodConstants s c ≡ true
   pub whole : countOf c ≡ 1 + countOf rest
-  pub tags : tagsOf c ≡ withName l (kindOf t ∷ tagsOf rest)
+  pub tags : constantTags c ≡ withName l (kindOf t ∷ constantTags rest)
 
 module _ (s : List ℕ) (l : PairName) (named : goodName s l ≡ true) (rest : Constants) (inner : Reader) where
   plain-fine : (t : ℕ) (r : Held) → PlainAt s t r → FineConstant s l t rest (ifHeld inner s l rest r)
@@ -191,19 +192,19 @@ module _ (s : List ℕ) (l : PairName) (named : goodName s l ≡ true) (rest : C
       record {
         good = λ h. rw (named, x .plain .good, h);
         whole = refl;
-        tags = ap (λ (k : ℕ). withName l (k ∷ tagsOf rest)) (x .plain .tag);
+        tags = ap (λ (k : ℕ). withName l (k ∷ constantTags rest)) (x .plain .tag);
       }
 
 -- ---- elements and pairs, where the constants among them are known to be fine
 pub record FineElements (s : List ℕ) (w : Walk) (c : Constants) : Type 0 where
   pub good : goodConstants s c ≡ true
   pub whole : countOf c ≡ length (tagsIn w)
-  pub tags : tagsOf c ≡ map kindOf (tagsIn w)
+  pub tags : constantTags c ≡ map kindOf (tagsIn w)
 
 pub record FinePairs (s : List ℕ) (w : Walk) (c : Constants) : Type 0 where
   pub good : goodConstants s c ≡ true
   pub whole : 2 * countOf c ≡ length (tagsIn w)
-  pub tags : tagsOf c ≡ map kindOf (tagsIn w)
+  pub tags : constantTags c ≡ map kindOf (tagsIn w)
 
 abbrev pub FineAt : ℕ → List ℕ → Type 0
 FineAt d s = (l : PairName) → goodName s l ≡ true → (t a e : ℕ) (rest : Constants) → e ≤ length s → judgeConstant d s t a e ≡ Fine
@@ -268,7 +269,7 @@ module _ (d : ℕ) (s : List ℕ) (fine : FineAt d s) where
   pairs-with (step t a e (step k b f w)) i p =
       let judge = judgeConstant d s in
       let name = judged BadRequest (goodPairName t (part s a e)) in
-      let after = first (judge k b f) (pairsOf judge s w) in
+      let after = firstFault (judge k b f) (pairsOf judge s w) in
       let n = pair-named s t a e (judged-fine BadRequest (goodPairName t (part s a e)) (first-fine-front name after p)) in
       let p′ = first-fine-rest name after p in
       let front = first-fine-front (judge k b f) (pairsOf judge s w) p′ in
@@ -279,7 +280,7 @@ module _ (d : ℕ) (s : List ℕ) (fine : FineAt d s) where
         good = here .good (rest .good);
         whole = omega (arith, here .whole, rest .whole);
         tags =
-            here .tags ∙ n .tag (kindOf k ∷ tagsOf (pairsIn (constantIn d s) w))
+            here .tags ∙ n .tag (kindOf k ∷ constantTags (pairsIn (constantIn d s) w))
             ∙ ap (λ (r : List ℕ). kindOf t ∷ kindOf k ∷ r) (rest .tags);
       }
 
@@ -311,7 +312,7 @@ module _ (d : ℕ) (s : List ℕ) (fine : FineAt d s) (l : PairName) (named : go
           let i = elements-with d s fine (walk s a e) (walk-within s e h a) q in
           record { good = λ r. rw (named, i .good, r); whole = refl; tags = refl }
 
-pub constant-opened : (b : Bool) (v : Verdict) → elim b [ true ↦ v | false ↦ malformed ] ≡ Fine → v ≡ Fine
+pub constant-opened : (b : Bool) (v : Verdict) → elim b [ true ↦ v | false ↦ badRequest ] ≡ Fine → v ≡ Fine
 constant-opened true v p = p
 constant-opened false v p = absurd (refused-fine BadRequest p)
 

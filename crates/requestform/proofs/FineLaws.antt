@@ -9,13 +9,14 @@ use native.Mathlib.Omega.{arith}
 use borrow.Author.Tests.{ltb-true, ltb-false, eqb-true, eqb-false, le-leb}
 use lib.Dec.{eqb, ltb}
 use lib.ListN.{length}
+use Rattle.basis.proofs.Never.{never}
 use Rattle.limits.specs.Figures.{mostRequest, mostOptions, mostParts, mostConstants}
 use Rattle.octets.specs.Octets.{part}
 use Rattle.path.specs.Path.{isRelPath, isRelOrEmpty}
 use Rattle.reply.specs.declared.Refusal.the-variants.{BadRequest, BeyondLimit}
 use Rattle.reply.specs.declared.Verdict.{Verdict}
 use Rattle.reply.specs.declared.Verdict.the-variants.{Fine}
-use Rattle.reply.specs.Verdicts.{first, judged}
+use Rattle.reply.specs.Verdicts.{firstFault, judged}
 use Rattle.reply.proofs.VerdictLaws.{refused-fine, first-fine-front, first-fine-rest, judged-fine}
 use Rattle.field.specs.declared.Field.{Field}
 use Rattle.field.specs.declared.Field.the-variants.{Whole, Cut}
@@ -46,9 +47,10 @@ use Rattle.request.proofs.RequestLaws.{heading-is}
 use Rattle.requestform.specs.declared.options.Parts.{Parts}
 use Rattle.requestform.specs.declared.options.Parts.the-variants.{After, Refuses}
 use Rattle.requestform.specs.Leaves.{isConstant, goodPairName, goodPart}
-use Rattle.requestform.specs.Form.{malformed, beyond, pairsOf, judgeConstant, judgeElements, judgePairs}
+use Rattle.reply.specs.Verdicts.{beyond}
+use Rattle.requestform.specs.Form.{badRequest, pairsOf, judgeConstant, judgeElements, judgePairs}
 use Rattle.requestform.specs.Form.{nextPart, partsFrom, lastField, judgeLast, afterName, judgeOption, judgeOptions, judgeRequest}
-use Rattle.requestform.specs.Fine.{goodName, goodConstants, countOf, kindOf, withName, tagsOf}
+use Rattle.requestform.specs.Fine.{goodName, goodConstants, countOf, kindOf, withName, constantTags}
 use Rattle.requestform.specs.Fine.{goodParts, goodOption, goodOptions, goodRequest}
 use Rattle.requestform.proofs.OptionLaws.{option-other}
 use Rattle.requestform.proofs.FineConstants.{Within, walk-within, FineConstant, constant-opened}
@@ -71,8 +73,8 @@ module _ (s : List ℕ) (x : ℕ) where
   part-more n p ps y v more true l true g q =
       let i = more (omega (arith, ltb-true n mostParts l)) q in
       record { good = rw (g, i .good); few = omega (arith, i .few); ends = i .ends }
-  part-more n p ps y v more true l false g q = absurd (let z : _≡_ {A = ℕ} 0 1 = cc in omega arith)
-  part-more n p ps y v more false l c g q = absurd (let z : _≡_ {A = ℕ} 0 1 = cc in omega arith)
+  part-more n p ps y v more true l false g q = never cc
+  part-more n p ps y v more false l c g q = never cc
 
   part-fine : (n at : ℕ) → n ≤ mostParts → (ps : List Part) (y : ℕ) (v : Parts)
       → (n + 1 ≤ mostParts → v ≡ After x → FineParts s (n + 1) x ps y)
@@ -182,7 +184,7 @@ module _ (s : List ℕ) (a e : ℕ) where
   name-opened (Refuses w) q p = absurd (refused-fine w p)
   name-opened (After x) q p = go (eqb x a) refl p
     where
-      go : (b : Bool) → eqb x a ≡ b → elim b [ true ↦ malformed | false ↦ judgeLast s x e ] ≡ Fine → Named s a e
+      go : (b : Bool) → eqb x a ≡ b → elim b [ true ↦ badRequest | false ↦ judgeLast s x e ] ≡ Fine → Named s a e
       go true y p = absurd (refused-fine BadRequest p)
       go false y p = record {
         place = x;
@@ -271,11 +273,11 @@ record FineRequest (s : List ℕ) : Type 0 where
 
 module _ (s : List ℕ) where
   typed-fine : (a types : ℕ) → leafAt scopeTag isRelOrEmpty s 0 (length s) ≡ At a types
-      → onLeaf malformed (leafAt optionsTypeTag isRelPath s types (length s)) (λ m options. judgeOptions s options (length s)) ≡ Fine
+      → onLeaf badRequest (leafAt optionsTypeTag isRelPath s types (length s)) (λ m options. judgeOptions s options (length s)) ≡ Fine
       → FineRequest s
   unfolding judgeOptions
   typed-fine a types l p =
-      on-leaf-some malformed Fine (leafAt optionsTypeTag isRelPath s types (length s)) (λ m options. judgeOptions s options (length s))
+      on-leaf-some badRequest Fine (leafAt optionsTypeTag isRelPath s types (length s)) (λ m options. judgeOptions s options (length s))
       (FineRequest s)
       (λ q. refused-fine BadRequest (sym q))
       (λ m options k q. record {
@@ -297,13 +299,13 @@ module _ (s : List ℕ) where
   request-fine = go (ltb mostRequest (length s))
     where
       typed : ℕ → ℕ → Verdict
-      typed a types = onLeaf malformed (leafAt optionsTypeTag isRelPath s types (length s)) (λ m options. judgeOptions s options (length s))
+      typed a types = onLeaf badRequest (leafAt optionsTypeTag isRelPath s types (length s)) (λ m options. judgeOptions s options (length s))
 
-      go : (b : Bool) → elim b [ true ↦ beyond | false ↦ onLeaf malformed (leafAt scopeTag isRelOrEmpty s 0 (length s)) typed ] ≡ Fine
+      go : (b : Bool) → elim b [ true ↦ beyond | false ↦ onLeaf badRequest (leafAt scopeTag isRelOrEmpty s 0 (length s)) typed ] ≡ Fine
           → FineRequest s
       go true p = absurd (refused-fine BeyondLimit p)
       go false p =
-          on-leaf-some malformed Fine (leafAt scopeTag isRelOrEmpty s 0 (length s)) typed (FineRequest s)
+          on-leaf-some badRequest Fine (leafAt scopeTag isRelOrEmpty s 0 (length s)) typed (FineRequest s)
           (λ q. refused-fine BadRequest (sym q))
           (λ a types l q. typed-fine a types l (sym q))
           (sym p)
@@ -358,7 +360,7 @@ module _ (d : ℕ) (s : List ℕ) (l : PairName) (n : goodName s l ≡ true) (t 
   fine-constant = constant-fine d s l n t a e rest h p .whole
 
   -- It is of the kind that its tag says.
-  pub fine-constant-tag : tagsOf (constantIn d s l t a e rest) ≡ withName l (kindOf t ∷ tagsOf rest)
+  pub fine-constant-tag : constantTags (constantIn d s l t a e rest) ≡ withName l (kindOf t ∷ constantTags rest)
   fine-constant-tag = constant-fine d s l n t a e rest h p .tags
 
   -- Every name and identifier in a fine constant is what 01 allows, at every depth.
@@ -373,7 +375,7 @@ module _ (d : ℕ) (s : List ℕ) (a e : ℕ) (h : e ≤ length s) where
 
   -- Each is of the kind that its tag says, in order.
   pub fine-element-tags : judgeElements d s a e ≡ Fine
-      → tagsOf (elementsIn (constantIn d s) (walk s a e)) ≡ map kindOf (tagsIn (walk s a e))
+      → constantTags (elementsIn (constantIn d s) (walk s a e)) ≡ map kindOf (tagsIn (walk s a e))
   unfolding judgeElements
   fine-element-tags p = elements-fine d s (walk s a e) (walk-within s e h a) p .tags
 
@@ -388,7 +390,7 @@ module _ (d : ℕ) (s : List ℕ) (a e : ℕ) (h : e ≤ length s) where
   fine-pairs p = pairs-fine d s (walk s a e) (walk-within s e h a) p .whole
 
   -- Each is a name and a constant of the kinds that their tags say, in order.
-  pub fine-pair-tags : judgePairs d s a e ≡ Fine → tagsOf (pairsIn (constantIn d s) (walk s a e)) ≡ map kindOf (tagsIn (walk s a e))
+  pub fine-pair-tags : judgePairs d s a e ≡ Fine → constantTags (pairsIn (constantIn d s) (walk s a e)) ≡ map kindOf (tagsIn (walk s a e))
   unfolding judgePairs
   fine-pair-tags p = pairs-fine d s (walk s a e) (walk-within s e h a) p .tags
 
@@ -410,7 +412,7 @@ module _ (d : ℕ) (s : List ℕ) (a e : ℕ) where
 
 module _ (d : ℕ) (s : List ℕ) (i to : ℕ) (p : judgeElements d s i to ≡ Fine) (h : i < to)
     (r : Field) (q : r ≡ fieldAt s i to) (t a e : ℕ) (g : r ≡ Whole t a e) where
-  element-opened : first (judgeConstant d s t a e) (judgeElements d s e to) ≡ Fine
+  element-opened : firstFault (judgeConstant d s t a e) (judgeElements d s e to) ≡ Fine
   unfolding judgeElements
   element-opened = ap (each BadRequest (judgeConstant d s)) (sym (walk-step s i to h r q t a e g)) ∙ p
 
@@ -424,11 +426,11 @@ module _ (d : ℕ) (s : List ℕ) (i to : ℕ) (p : judgeElements d s i to ≡ F
 
 module _ (d : ℕ) (s : List ℕ) (i to : ℕ) (p : judgePairs d s i to ≡ Fine)
     (r : Paired) (q : r ≡ pairAt s i to) (x : Pair) (g : r ≡ Pairs x) where
-  pair-opened : first (judgeConstant d s (x .tag) (x .constant .from) (x .constant .to)) (judgePairs d s (x .constant .to) to) ≡ Fine
+  pair-opened : firstFault (judgeConstant d s (x .tag) (x .constant .from) (x .constant .to)) (judgePairs d s (x .constant .to) to) ≡ Fine
   unfolding judgePairs
   pair-opened =
       first-fine-rest (judged BadRequest (goodPairName (x .by) (part s (x .name .from) (x .name .to))))
-      (first (judgeConstant d s (x .tag) (x .constant .from) (x .constant .to)) (judgePairs d s (x .constant .to) to))
+      (firstFault (judgeConstant d s (x .tag) (x .constant .from) (x .constant .to)) (judgePairs d s (x .constant .to) to))
       (ap (pairsOf (judgeConstant d s) s) (sym (pair-steps s i to r q x g)) ∙ p)
 
   -- Where a fine message has a pair, its constant is fine.

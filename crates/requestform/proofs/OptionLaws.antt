@@ -9,6 +9,7 @@ use native.Mathlib.Omega.{arith}
 use borrow.Author.Tests.{eq-eqb, ne-eqb, lt-ltb, le-ltb, not-true, not-false}
 use lib.Dec.{eqb}
 use lib.ListN.{length}
+use Rattle.basis.proofs.Never.{never}
 use Rattle.limits.specs.Figures.{mostOptions, mostParts, mostConstants}
 use Rattle.octets.specs.Octets.{part}
 use Rattle.reply.specs.declared.Refusal.{Refusal}
@@ -34,7 +35,8 @@ use Rattle.request.proofs.PartLaws.{rest-no-part, rest-part, rest-part-next, pa
 use Rattle.requestform.specs.declared.options.Parts.{Parts}
 use Rattle.requestform.specs.declared.options.Parts.the-variants.{After, Refuses}
 use Rattle.requestform.specs.Leaves.{goodPart}
-use Rattle.requestform.specs.Form.{malformed, beyond, judgeConstant, nextPart, partsFrom, judgeLast}
+use Rattle.reply.specs.Verdicts.{beyond}
+use Rattle.requestform.specs.Form.{badRequest, judgeConstant, nextPart, partsFrom, judgeLast}
 use Rattle.requestform.specs.Form.{afterName, judgeOption, judgeOptions, judgeName}
 
 -- ---- check_parts
@@ -76,7 +78,7 @@ module _ (v : Parts) (s : List ℕ) (to x : ℕ) (g : v ≡ After x) where
   same-place at p = cc
 
   not-refused : (w : Refusal) → Refuses w ≡ v → x ≤ to
-  not-refused w p = absurd (let z : _≡_ {A = ℕ} 0 1 = cc in omega arith)
+  not-refused w p = never cc
 
   module _ (m : ℕ) (more : (n at : ℕ) → Rest v (partsFrom s n at) s to at → to - at ≤ m → x ≤ to)
       (n at : ℕ) (k : Rest v (partsFrom s n at) s to at) (l : to - at ≤ suc m) where
@@ -105,7 +107,7 @@ parts-inside s from to v q x g h k =
 
 -- ---- check_last
 module _ (s : List ℕ) (at end : ℕ) (r : Field) (q : r ≡ fieldAt s at end) where
-  pub last-cut : r ≡ Cut → malformed ≡ judgeLast s at end
+  pub last-cut : r ≡ Cut → badRequest ≡ judgeLast s at end
   unfolding judgeLast
   last-cut g = rw (← q, g)
 
@@ -122,7 +124,7 @@ pub ruleset last-laws = (last-cut, last-refused, last-fine, field-ordered, field
 
 -- ---- check_option
 module _ (s : List ℕ) (i t a e : ℕ) where
-  pub option-other : (t ≡ optionTag → ⊥) → malformed ≡ judgeOption s i t a e
+  pub option-other : (t ≡ optionTag → ⊥) → badRequest ≡ judgeOption s i t a e
   unfolding judgeOption
   option-other n = simp (judgeOption, ne-eqb t optionTag n)
 
@@ -140,7 +142,7 @@ module _ (s : List ℕ) (i t a e : ℕ) where
       option-refused w g = rw (option-open, g)
 
       module _ (at : ℕ) (g : r ≡ After at) where
-        pub option-unnamed : at ≡ a → malformed ≡ judgeOption s i t a e
+        pub option-unnamed : at ≡ a → badRequest ≡ judgeOption s i t a e
         option-unnamed x = rw (option-open, g) (simp (afterName, eq-eqb at a x))
 
         pub option-last : (at ≡ a → ⊥) → (v : Verdict) → v ≡ judgeLast s at e → v ≡ judgeOption s i t a e

@@ -16,7 +16,8 @@ use Rattle.field.specs.declared.Leaf.the-variants.{At, Not}
 use Rattle.field.specs.Leaf.{leafAt}
 use Rattle.field.proofs.LeafLaws.{leaf-inside}
 use Rattle.request.specs.Table.{scopeTag, optionsTypeTag}
-use Rattle.requestform.specs.Form.{malformed, beyond, judgeOptions, judgeRequest, judgeScope, judgeOptionsType, judgePath}
+use Rattle.reply.specs.Verdicts.{beyond}
+use Rattle.requestform.specs.Form.{badRequest, judgeOptions, judgeRequest, judgeScope, judgeOptionsType, judgePath}
 
 -- ---- check_request
 module _ (s : List ℕ) where
@@ -25,12 +26,12 @@ module _ (s : List ℕ) where
   request-long h = simp (judgeRequest, lt-ltb mostRequest (length s) h)
 
   module _ (h : length s ≤ mostRequest) (l : Leaf) (q : l ≡ leafAt scopeTag isRelOrEmpty s 0 (length s)) where
-    pub request-scope : l ≡ Not → malformed ≡ judgeRequest s
+    pub request-scope : l ≡ Not → badRequest ≡ judgeRequest s
     unfolding judgeRequest
     request-scope g = simp (judgeRequest, le-ltb mostRequest (length s) h, ← q, g)
 
     module _ (a types : ℕ) (g : l ≡ At a types) (m : Leaf) (p : m ≡ leafAt optionsTypeTag isRelPath s types (length s)) where
-      pub request-type : m ≡ Not → malformed ≡ judgeRequest s
+      pub request-type : m ≡ Not → badRequest ≡ judgeRequest s
       unfolding judgeRequest
       request-type k = simp (judgeRequest, le-ltb mostRequest (length s) h, ← q, g, ← p, k)
 

@@ -5,9 +5,9 @@
 --   goodConstants s c <=> so it is of the constants, at every depth
 --           countOf c ==  how many constants follow one another, at the first level
 --            kindOf t ==  the tag t, but one for signed and unsigned integers
---          valueTag c ==  the tag of a constant, of integers as above
+--          constantTag c ==  the tag of a constant, of integers as above
 --        withName l r ==  the tag of a pair's name, where it has one, before the tags r
---            tagsOf c ==  the tags of the constants that follow one another and of their names, at the first level, in order
+--            constantTags c ==  the tags of the constants that follow one another and of their names, at the first level, in order
 --      goodParts s ps <=> every part is what 01 allows
 --      goodOption s o <=> an option has 1 to 16 good parts and one good constant
 --    goodOptions s os <=> every option is good
@@ -65,15 +65,15 @@ countOf (list l i r) = 1 + countOf r
 abbrev pub kindOf : ℕ → ℕ
 kindOf t = elim (eqb t signedTag) [ true ↦ unsignedTag | false ↦ t ]
 
-abbrev pub valueTag : Constant → ℕ
-valueTag (BoolOf b) = boolTag
-valueTag (Integer m n) = unsignedTag
-valueTag (Float x) = floatTag
-valueTag (NotANumber b) = floatTag
-valueTag (Text p) = stringTag
-valueTag (Ident p) = identTag
-valueTag (Message p) = messageConstantTag
-valueTag (ListOf p) = listTag
+abbrev pub constantTag : Constant → ℕ
+constantTag (BoolOf b) = boolTag
+constantTag (Integer m n) = unsignedTag
+constantTag (Float x) = floatTag
+constantTag (NotANumber b) = floatTag
+constantTag (Text p) = stringTag
+constantTag (Ident p) = identTag
+constantTag (Message p) = messageConstantTag
+constantTag (ListOf p) = listTag
 
 abbrev pub withName : PairName → List ℕ → List ℕ
 withName unnamed r = r
@@ -81,11 +81,11 @@ withName (byField p) r = pairFieldTag ∷ r
 withName (byExtension p) r = pairExtensionTag ∷ r
 withName (byUrl p) r = pairUrlTag ∷ r
 
-abbrev pub tagsOf : Constants → List ℕ
-tagsOf none = []
-tagsOf (scalar l c r) = withName l (valueTag c ∷ tagsOf r)
-tagsOf (message l i r) = withName l (messageConstantTag ∷ tagsOf r)
-tagsOf (list l i r) = withName l (listTag ∷ tagsOf r)
+abbrev pub constantTags : Constants → List ℕ
+constantTags none = []
+constantTags (scalar l c r) = withName l (constantTag c ∷ constantTags r)
+constantTags (message l i r) = withName l (messageConstantTag ∷ constantTags r)
+constantTags (list l i r) = withName l (listTag ∷ constantTags r)
 
 abbrev pub goodParts : List ℕ → List Part → Bool
 goodParts s [] = true

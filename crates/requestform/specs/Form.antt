@@ -1,7 +1,7 @@
 -- The verdict of a request, and of a path or a name that a call is given alone: 01, Replies, "by over-length, then .. the first fault from
 -- the front (a container holds its children's faults; a limit is a fault where it is passed)".
 --
---            malformed, beyond == a fault of form, and a limit that is passed
+--                    badRequest == a fault of form
 --            pairsOf inner s w == the pairs among the fields w, `inner` judging a constant
 --   constantWith inner s t a e == a constant, `inner` judging those inside it
 --      judgeConstant d s t a e == a constant, with d levels of constants left
@@ -33,7 +33,7 @@ use Rattle.path.specs.Path.{isRelPath, isRelOrEmpty, isPath}
 use Rattle.reply.specs.declared.Refusal.the-variants.{BadRequest, BeyondLimit}
 use Rattle.reply.specs.declared.Verdict.{Verdict}
 use Rattle.reply.specs.declared.Verdict.the-variants.{Fine, Refused}
-use Rattle.reply.specs.Verdicts.{first, judged}
+use Rattle.reply.specs.Verdicts.{firstFault, judged, beyond}
 use Rattle.field.specs.declared.Field.{Field}
 use Rattle.field.specs.declared.Field.the-variants.{Whole, Cut}
 use Rattle.field.specs.Field.{fieldAt}
@@ -48,20 +48,17 @@ use Rattle.requestform.specs.declared.options.Parts.{Parts}
 use Rattle.requestform.specs.declared.options.Parts.the-variants.{After, Refuses}
 use Rattle.requestform.specs.Leaves.{isConstant, goodScalar, goodPairName, goodPart}
 
-abbrev pub malformed : Verdict
-malformed = Refused BadRequest
-
-abbrev pub beyond : Verdict
-beyond = Refused BeyondLimit
+abbrev pub badRequest : Verdict
+badRequest = Refused BadRequest
 
 -- "26 message, pairs of a name .. and a constant"
 abbrev pub pairsOf : (ℕ → ℕ → ℕ → Verdict) → List ℕ → Walk → Verdict
 pairsOf inner s done = Fine
-pairsOf inner s cut = malformed
-pairsOf inner s (step t a e done) = malformed
-pairsOf inner s (step t a e cut) = malformed
+pairsOf inner s cut = badRequest
+pairsOf inner s (step t a e done) = badRequest
+pairsOf inner s (step t a e cut) = badRequest
 pairsOf inner s (step t a e (step k b f w)) =
-    first (judged BadRequest (goodPairName t (part s a e))) (first (inner k b f) (pairsOf inner s w))
+    firstFault (judged BadRequest (goodPairName t (part s a e))) (firstFault (inner k b f) (pairsOf inner s w))
 
 abbrev pub constantWith : (ℕ → ℕ → ℕ → Verdict) → List ℕ → ℕ → ℕ → ℕ → Verdict
 constantWith inner s t a e = elim (eqb t messageConstantTag) [
@@ -71,8 +68,8 @@ constantWith inner s t a e = elim (eqb t messageConstantTag) [
 
 -- "constants of any kind nested 16 deep"; "The outermost .. constant is depth 1"; scalars count too, and a wrong tag is form at any depth
 abbrev pub judgeConstant : ℕ → List ℕ → ℕ → ℕ → ℕ → Verdict
-judgeConstant zero s t a e = elim (isConstant t) [ true ↦ beyond | false ↦ malformed ]
-judgeConstant (suc d) s t a e = elim (isConstant t) [ true ↦ constantWith (judgeConstant d s) s t a e | false ↦ malformed ]
+judgeConstant zero s t a e = elim (isConstant t) [ true ↦ beyond | false ↦ badRequest ]
+judgeConstant (suc d) s t a e = elim (isConstant t) [ true ↦ constantWith (judgeConstant d s) s t a e | false ↦ badRequest ]
 
 unfoldable pub judgeElements : ℕ → List ℕ → ℕ → ℕ → Verdict
 judgeElements d s a e = each BadRequest (judgeConstant d s) (walk s a e)
@@ -94,8 +91,8 @@ partsFrom s n at cut = After at
 partsFrom s n at (step t a e w) = nextPart s n at (partOf t a e) (partsFrom s (n + 1) e w)
 
 abbrev pub lastField : List ℕ → ℕ → Field → Verdict
-lastField s end Cut = malformed
-lastField s end (Whole t a e) = first (judgeConstant mostConstants s t a e) (judged BadRequest (eqb e end))
+lastField s end Cut = badRequest
+lastField s end (Whole t a e) = firstFault (judgeConstant mostConstants s t a e) (judged BadRequest (eqb e end))
 
 unfoldable pub judgeLast : List ℕ → ℕ → ℕ → Verdict
 judgeLast s at end = lastField s end (fieldAt s at end)
@@ -103,13 +100,13 @@ judgeLast s at end = lastField s end (fieldAt s at end)
 -- tag 08: "one or more of 1A direct part, 1B extension part; one constant"
 abbrev pub afterName : List ℕ → ℕ → ℕ → Parts → Verdict
 afterName s a e (Refuses w) = Refused w
-afterName s a e (After at) = elim (eqb at a) [ true ↦ malformed | false ↦ judgeLast s at e ]
+afterName s a e (After at) = elim (eqb at a) [ true ↦ badRequest | false ↦ judgeLast s at e ]
 
 -- "at most 128 options in a request"
 unfoldable pub judgeOption : List ℕ → ℕ → ℕ → ℕ → ℕ → Verdict
 judgeOption s i t a e = elim (eqb t optionTag) [
   | true ↦ elim (ltb i mostOptions) [ true ↦ afterName s a e (partsFrom s 0 a (walk s a e)) | false ↦ beyond ]
-  | false ↦ malformed
+  | false ↦ badRequest
 ]
 
 unfoldable pub judgeOptions : List ℕ → ℕ → ℕ → Verdict
@@ -120,8 +117,8 @@ unfoldable pub judgeRequest : List ℕ → Verdict
 judgeRequest s = elim (ltb mostRequest (length s)) [
   | true ↦ beyond
   | false ↦
-      onLeaf malformed (leafAt scopeTag isRelOrEmpty s 0 (length s)) λ a types.
-      onLeaf malformed (leafAt optionsTypeTag isRelPath s types (length s)) λ m options.
+      onLeaf badRequest (leafAt scopeTag isRelOrEmpty s 0 (length s)) λ a types.
+      onLeaf badRequest (leafAt optionsTypeTag isRelPath s types (length s)) λ m options.
       judgeOptions s options (length s)
 ]
 

@@ -7,11 +7,11 @@ use crate::leaves::good_pair_name;
 use crate::leaves::good_scalar;
 use crate::leaves::is_constant;
 use field::Field;
+use reply::Refusal;
+use reply::Verdict;
 use request::constant::Paired;
 use request::constant::pair_at;
 use request::table;
-use reply::Refusal;
-use reply::Verdict;
 
 // A constant's field, with `left` levels of constants left.
 pub fn check_constant(s: &[u8], tag: u8, from: usize, to: usize, left: usize) -> Verdict

@@ -2,10 +2,10 @@
 ghost use mathlib.Core.Path.{_≡_};
 ghost use Rattle.requestform.specs.Leaves.{isConstant, isBool, isUrl, goodScalar, goodPairName, goodPart};
 use limits::MOST_URL;
-use request::table;
 use path::protobuf_ident::is_ident;
 use path::protobuf_path::is_path;
 use path::protobuf_rel_path::is_rel_path;
+use request::table;
 
 // Whether the tag is a constant's.
 pub fn is_constant(tag: u8) -> bool

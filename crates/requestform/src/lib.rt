@@ -11,12 +11,12 @@ use crate::options::check_options;
 use crate::options::check_parts;
 use field::Leaf;
 use limits::MOST_REQUEST;
-use request::table;
 use path::protobuf_path::is_path;
 use path::protobuf_rel_path::is_rel_or_empty;
 use path::protobuf_rel_path::is_rel_path;
 use reply::Refusal;
 use reply::Verdict;
+use request::table;
 
 // Whether a request is fine, or its first fault.
 pub fn check_request(s: &[u8]) -> Verdict

@@ -10,11 +10,11 @@ use field::Field;
 use limits::MOST_CONSTANTS;
 use limits::MOST_OPTIONS;
 use limits::MOST_PARTS;
+use reply::Refusal;
+use reply::Verdict;
 use request::name::Parted;
 use request::name::part_at;
 use request::table;
-use reply::Refusal;
-use reply::Verdict;
 
 // What the parts that stand from a place on come to.
 pub enum Parts {

@@ -9,7 +9,7 @@ use mathlib.Core.Bool.{Bool, true, false}
 use mathlib.Core.List.{List, _++_}
 use mathlib.Core.Option.{Option, none, some}
 use Prim.Native.Nat.{ℕ}
-use native.Mathlib.Omega.{arith}
+use Rattle.basis.proofs.Never.{never}
 use Rattle.field.specs.declared.Leaf.{Leaf}
 use Rattle.field.specs.declared.Leaf.the-variants.{At, Not}
 use Rattle.sheet.specs.declared.declaration.Declaration.{Declaration}
@@ -43,21 +43,21 @@ orValued (Values v) w = Values v
 module _ (r : Reached) where
   pub placed-nowhere : (o : Option Scope) → r ≡ placed o → r ≡ Nowhere → o ≡ none
   placed-nowhere none q g = refl
-  placed-nowhere (some c) q g = absurd (let z : _≡_ {A = ℕ} 0 1 = cc in omega arith)
+  placed-nowhere (some c) q g = never cc
 
   -- of a scope the answer is the place alone
   pub placed-to : (o : Option Scope) → r ≡ placed o → (p : LookupScope) → r ≡ To p → (P : Type 0)
       → ((c : Scope) → o ≡ some c → p ≡ c .place → P) → P
-  placed-to none q p g P k = absurd (let z : _≡_ {A = ℕ} 0 1 = cc in omega arith)
+  placed-to none q p g P k = never cc
   placed-to (some c) q p g P k = let u : p ≡ c .place = cc in k c refl u
 
 module _ (r : Declared) where
   pub declared-none : (o : Option Declaration) → r ≡ declared o → r ≡ NoDeclaration → o ≡ none
   declared-none none q g = refl
-  declared-none (some d) q g = absurd (let z : _≡_ {A = ℕ} 0 1 = cc in omega arith)
+  declared-none (some d) q g = never cc
 
   pub declared-some : (o : Option Declaration) → r ≡ declared o → (d : Declaration) → r ≡ Declares d → o ≡ some d
-  declared-some none q d g = absurd (let z : _≡_ {A = ℕ} 0 1 = cc in omega arith)
+  declared-some none q d g = never cc
   declared-some (some x) q d g = let u : x ≡ d = cc in rw u
 
 -- ---- the first declaration of two lists, and of one declaration

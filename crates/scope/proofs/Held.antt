@@ -12,6 +12,7 @@ use mathlib.Core.Option.{Option, none, some}
 use Prim.Native.Nat.{ℕ, _-_, _≤_}
 use native.Mathlib.Omega.{arith}
 use lib.ListN.{length}
+use Rattle.basis.proofs.Never.{never}
 use Rattle.field.specs.declared.Leaf.{Leaf}
 use Rattle.field.specs.declared.Leaf.the-variants.{At, Not}
 use Rattle.field.specs.declared.Span.{Span}
@@ -143,14 +144,14 @@ module _ (s n : List ℕ) (p : LookupScope) where
       where
         go : (o : Option Enumeration) → r ≡ bodied o → r ≡ Not → o ≡ none
         go none q g = refl
-        go (some x) q g = absurd (let z : _≡_ {A = ℕ} 0 1 = cc in omega arith)
+        go (some x) q g = never cc
 
     module _ (a e : ℕ) (g : r ≡ At a e) where
       pub enum-at : FoundEnum s n (holding s p) (span a e)
       enum-at = go (enumNamed s n (holding s p)) refl q
         where
           go : (o : Option Enumeration) → enumNamed s n (holding s p) ≡ o → r ≡ bodied o → FoundEnum s n (holding s p) (span a e)
-          go none f q = absurd (let z : _≡_ {A = ℕ} 0 1 = cc in omega arith)
+          go none f q = never cc
           go (some x) f q =
               let u : a ≡ x .body .from = cc in
               let v : e ≡ x .body .to = cc in

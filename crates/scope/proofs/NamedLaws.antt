@@ -10,9 +10,9 @@ use mathlib.Core.Path.{_≡_, refl, sym, _∙_}
 use mathlib.Core.Bool.{Bool, true, false}
 use mathlib.Core.List.{List, [], _++_}
 use Prim.Native.Nat.{ℕ}
-use native.Mathlib.Omega.{arith}
 use borrow.Author.Tests.{eq-eqb, ne-eqb}
 use lib.Dec.{eqb}
+use Rattle.basis.proofs.Never.{never}
 use Rattle.octets.specs.Octets.{bigAt}
 use Rattle.field.specs.declared.Leaf.{Leaf}
 use Rattle.field.specs.declared.Leaf.the-variants.{At, Not}
@@ -30,8 +30,8 @@ use Rattle.sheet.specs.declared.declaration.Value.{Value}
 use Rattle.sheet.specs.declared.declaration.Valued.{Valued}
 use Rattle.sheet.specs.declared.declaration.Valued.the-variants.{Values, NoValue}
 use Rattle.sheet.specs.Table.{nameTag, extendeeTag, extensionTag, fieldTag, valueTag, signedNumberTag}
-use Rattle.sheet.specs.Declaration.{lastAt, shapeAt, declared as declaredWith, extensionAt, messageFieldAt, valueAt}
-use Rattle.sheet.specs.Tree.{Items, none, valued as valuedWith, valueIn, valuesIn, itemIn, messageIn, itemsIn}
+use Rattle.sheet.specs.Declaration.{lastAt, shapeAt, declaredWith, extensionAt, messageFieldAt, valueAt}
+use Rattle.sheet.specs.Tree.{Items, none, valueOnto as valuedWith, valueIn, valuesIn, itemIn, messageIn, itemsIn}
 use Rattle.sheet.specs.Members.{declarationsOf}
 use Rattle.sheet.proofs.MemberLaws.{listed, extensions-item, fields-item}
 use Rattle.scope.specs.declared.lookup.LookupScope.{LookupScope}
@@ -67,11 +67,11 @@ Named s a e p = leafAt nameTag anyBytes s a e ≡ At (p .from) (p .to)
 module _ (s : List ℕ) (a e : ℕ) (d : Declaration) where
   declared-name : (n m : ℕ) (x : Span) → leafAt nameTag anyBytes s a e ≡ At n m → (h : Shaped) → Declares d ≡ declaredWith (span n m) x h
       → Named s a e (d .name)
-  declared-name n m x y NoShape p = absurd (let z : _≡_ {A = ℕ} 0 1 = cc in omega arith)
+  declared-name n m x y NoShape p = never cc
   declared-name n m x y (Shapes h) p = let u : d ≡ record { name = span n m; extendee = x; shape = h } = cc in rw u y
 
   none-declared : Declares d ≡ NoDeclaration → ⊥
-  none-declared p = let z : _≡_ {A = ℕ} 0 1 = cc in omega arith
+  none-declared p = never cc
 
   extension-name : Declares d ≡ extensionAt s a e → Named s a e (d .name)
   unfolding extensionAt
@@ -104,7 +104,7 @@ module _ (s : List ℕ) (a e : ℕ) (d : Declaration) where
 
 module _ (s : List ℕ) (a e : ℕ) (v : Value) where
   none-valued : Values v ≡ NoValue → ⊥
-  none-valued p = let z : _≡_ {A = ℕ} 0 1 = cc in omega arith
+  none-valued p = never cc
 
   value-name : Values v ≡ valueAt s a e → Named s a e (v .name)
   unfolding valueAt
@@ -124,7 +124,7 @@ module _ (s : List ℕ) (a e : ℕ) (p : Span) (g : Named s a e p) (test : List 
       go false z = z
       go true z =
           let y = leaf-good nameTag test s a e (At (p .from) (p .to)) (sym g) (p .from) (p .to) refl true (sym z) refl in
-          absurd (let z : _≡_ {A = ℕ} 0 1 = cc in omega arith)
+          never cc
 
   name-yes : (x y : ℕ) → l ≡ At x y → test (text s p) ≡ true
   name-yes x y w =

@@ -12,6 +12,7 @@ use native.Mathlib.Omega.{arith}
 use borrow.Author.Tests.{ne-eqb, eqb-true}
 use lib.Dec.{eqb}
 use lib.ListN.{length, getD, take, drop}
+use Rattle.basis.proofs.Never.{never}
 use Rattle.octets.specs.Octets.{part}
 use Rattle.field.specs.declared.Field.{Field}
 use Rattle.field.specs.declared.Field.the-variants.{Whole, Cut}
@@ -60,12 +61,12 @@ module _ (L : Cursor → List Scope) (s t : List ℕ) (c : Cursor) (r : Next) (n
 -- ---- what a step answers
 module _ (L : Cursor → List Scope) (s t : List ℕ) (c : Cursor) where
   pub nexts-no-more : L c ≡ [] → Nexts L s t c NoMore
-  nexts-no-more e = record { some = λ p c′ q. absurd (let z : _≡_ {A = ℕ} 0 1 = cc in omega arith); none = λ q. e }
+  nexts-no-more e = record { some = λ p c′ q. never cc; none = λ q. e }
 
   pub nexts-at : (p : LookupScope) (c′ : Cursor) → Steps L s t c p c′ → Nexts L s t c (At p c′)
   nexts-at p c′ k = record {
     some = λ p₁ c₁ q. let u : p₁ ≡ p = cc in let v : c₁ ≡ c′ = cc in rw (u, v) k;
-    none = λ q. absurd (let z : _≡_ {A = ℕ} 0 1 = cc in omega arith);
+    none = λ q. never cc;
   }
 
 -- ---- the names before a place
@@ -215,7 +216,7 @@ module _ (s t : List ℕ) (c : Cursor) (at file : ℕ)
 
 -- it stays at its packages
 pub level-none : (next : ℕ) (p : LookupScope) (c : Cursor) → NoMore ≡ At p c → c .next ≡ next
-level-none next p c g = absurd (let z : _≡_ {A = ℕ} 0 1 = cc in omega arith)
+level-none next p c g = never cc
 
 pub level-at : (p : LookupScope) (c : Cursor) (next : ℕ) → c .next ≡ next
     → (p′ : LookupScope) (c′ : Cursor) → At p c ≡ At p′ c′ → c′ .next ≡ next

@@ -7,6 +7,7 @@ use mathlib.Core.Option.{Option, none, some}
 use Prim.Native.Nat.{ℕ, _<_}
 use native.Mathlib.Omega.{arith}
 use lib.ListN.{length}
+use Rattle.basis.proofs.Never.{never}
 use Rattle.reply.specs.declared.Refusal.the-variants.{ExtensionNotFound}
 use Rattle.path.specs.Path.{Path, isPath, parent, last}
 use Rattle.path.specs.Candidates.{candidates}
@@ -29,7 +30,7 @@ use Rattle.search.proofs.CandidateOrder.{candidates-fall, candidates-so
 -- ---- in a scope
 given-none : {A B : Type 0} (o : Option A) (g : A → B) → given o (λ a. some (g a)) ≡ none → o ≡ none
 given-none none g e = refl
-given-none (some a) g e = absurd (let z : _≡_ {A = ℕ} 0 1 = cc in omega arith)
+given-none (some a) g e = never cc
 
 module _ (s : List ℕ) (p : Path) (c : Scope) where
   abbrev named : Declaration → Bool
@@ -84,7 +85,7 @@ module _ (s : List ℕ) where
 
   pub find-some : (p : Path) (f : Found) → findExtensionByAbsPath s p ≡ some f → Makes (foundIn s (last p)) f (scopes s (parent p))
   unfolding findExtensionByAbsPath
-  find-some [] f e = absurd (let z : _≡_ {A = ℕ} 0 1 = cc in omega arith)
+  find-some [] f e = never cc
   find-some (n ∷ p) f e = firsts-some (foundIn s (last (n ∷ p))) (scopes s (parent (n ∷ p))) e
 
   pub some-find : (p : Path) (c : Scope) (f : Found) → 0 < length p → foundIn s (last p) c ≡ some f
@@ -126,5 +127,5 @@ compared-none s m none e = refl
 compared-none s m (some f) e = absurd (go (extends s m (f .declaration)) e)
   where
     go : (b : Bool) → extended b f ≡ Refused ExtensionNotFound → ⊥
-    go true q = let z : _≡_ {A = ℕ} 0 1 = cc in omega arith
-    go false q = let z : _≡_ {A = ℕ} 0 1 = cc in omega arith
+    go true q = never cc
+    go false q = never cc

@@ -6,9 +6,9 @@ use mathlib.Core.Bool.{true, false}
 use mathlib.Core.List.{List, [], _∷_}
 use mathlib.Core.Option.{none, some}
 use Prim.Native.Nat.{ℕ, _-_}
-use native.Mathlib.Omega.{arith}
 use lib.Dec.{eqb}
 use lib.ListN.{length, take}
+use Rattle.basis.proofs.Never.{never}
 use Rattle.octets.specs.Octets.{part}
 use Rattle.field.specs.declared.Leaf.{Leaf}
 use Rattle.field.specs.declared.Leaf.the-variants as leaf
@@ -81,12 +81,12 @@ pub ruleset message-by-name-laws = (start-stands, nexts-stands, messages-none, m
 -- ---- next_enum
 module _ (L : Cursor → List Enumeration) (s t : List ℕ) (c : Cursor) where
   enums-no-more : L c ≡ [] → NextsEnum L s t c enum.NoMore
-  enums-no-more e = record { some = λ p c′ q. absurd (let z : _≡_ {A = ℕ} 0 1 = cc in omega arith); none = λ q. e }
+  enums-no-more e = record { some = λ p c′ q. never cc; none = λ q. e }
 
   enums-at : (p : Span) (c′ : Cursor) → StepsEnum L s t c p c′ → NextsEnum L s t c (enum.At p c′)
   enums-at p c′ k = record {
     some = λ p₁ c₁ q. let u : p₁ ≡ p = cc in let v : c₁ ≡ c′ = cc in rw (u, v) k;
-    none = λ q. absurd (let z : _≡_ {A = ℕ} 0 1 = cc in omega arith);
+    none = λ q. never cc;
   }
 
   pub enums-stands : (r : NextEnum) → NextsEnum L s t c r → (p : Span) (c′ : Cursor) → r ≡ enum.At p c′ → Stands s t c′

@@ -14,6 +14,7 @@ use mathlib.Core.Option.{Option, none, some}
 use Prim.Native.Nat.{ℕ, _+_, _≤_}
 use native.Mathlib.Omega.{arith}
 use lib.ListN.{length}
+use Rattle.basis.proofs.Never.{never}
 use Rattle.octets.specs.Octets.{sameBytes}
 use Rattle.field.specs.declared.Span.{Span}
 use Rattle.field.specs.Leaf.{text}
@@ -40,7 +41,7 @@ use Rattle.search.specs.declared.full_name.LookedUpEnum.{LookedUpEnum}
 use Rattle.search.specs.declared.full_name.LookedUpEnum.the-variants.{Values}
 use Rattle.basis.specs.First.{orElse, firstSome, onto, collect}
 use Rattle.scope.specs.Scope.{Scope, holding, fileScope, isNamed, down, declarationNamed, enumNamed, declared}
-use Rattle.search.specs.Number.{hasNumber, extends, isExtension, fieldNumbered, extensionNumbered, declarationOf}
+use Rattle.search.specs.Number.{hasNumber, extends, isExtensionOf, fieldNumbered, extensionNumbered, declarationOf}
 use Rattle.search.specs.Scopes.{follow, scopeIn, scopesIn, scopesFrom, scopes}
 use Rattle.search.specs.Lookup.{foundIn, findExtensionByAbsPath, findExtensionByPath, searched, extended, compared, extResolveField}
 use Rattle.search.specs.Lookup.{messageOf, messagesAt, enumsAt, lookedUp, lookedUpEnum}
@@ -70,7 +71,7 @@ module _ {A B : Type 0} (P : A → Type 0) (f : A → Option B) where
   every-collect Q h (one-of {x = x} k t) = every-onto Q (f x) (h x k) (every-collect Q h t)
 
   first-some-holds : (b : B) (Q : Type 0) → ((x : A) → P x → f x ≡ some b → Q) → {xs : List A} → Every P xs → firstSome f xs ≡ some b → Q
-  first-some-holds b Q h none-of q = absurd (let z : _≡_ {A = ℕ} 0 1 = cc in omega arith)
+  first-some-holds b Q h none-of q = never cc
   first-some-holds b Q h (one-of {x = x} {xs = xs} k t) q = go (f x) refl (first-some-holds b Q h t) q
     where
       go : (o : Option B) → f x ≡ o → (firstSome f xs ≡ some b → Q) → orElse o (firstSome f xs) ≡ some b → Q
@@ -182,7 +183,7 @@ module _ (s : List ℕ) (p : LookupScope) (h : p .body .to ≤ length s) (d : De
   declaration-places m k = go (fieldNumbered k (holding s p)) (field-numbered-places k)
     where
       extension : extensionNumbered s m k ≡ some d → Places (length s) d
-      extension = first-holds (Places (length s)) (isExtension s m k) (every-file-lies s (tree-lies s)) d
+      extension = first-holds (Places (length s)) (isExtensionOf s m k) (every-file-lies s (tree-lies s)) d
 
       go : (o : Option Declaration) → (o ≡ some d → Places (length s) d) → orElse o (extensionNumbered s m k) ≡ some d
           → Places (length s) d
@@ -257,10 +258,10 @@ pub ruleset declaration-places-laws = (
 -- ---- an extension that was found
 pub searched-none : (o : Option Found) (r : Search) → r ≡ searched o → r ≡ Nowhere → o ≡ none
 searched-none none r q g = refl
-searched-none (some f) r q g = absurd (let z : _≡_ {A = ℕ} 0 1 = cc in omega arith)
+searched-none (some f) r q g = never cc
 
 pub searched-some : (o : Option Found) (r : Search) → r ≡ searched o → (f : Found) → r ≡ Is f → o ≡ some f
-searched-some none r q f g = absurd (let z : _≡_ {A = ℕ} 0 1 = cc in omega arith)
+searched-some none r q f g = never cc
 searched-some (some x) r q f g = let u : x ≡ f = cc in rw u
 
 pub record FoundLies (s : List ℕ) (f : Found) : Type 0 where
@@ -277,7 +278,7 @@ module _ (s : List ℕ) (f : Found) where
 
   pub found-abs-lies : (p : Path) → findExtensionByAbsPath s p ≡ some f → FoundLies s f
   unfolding findExtensionByAbsPath
-  found-abs-lies [] q = absurd (let z : _≡_ {A = ℕ} 0 1 = cc in omega arith)
+  found-abs-lies [] q = never cc
   found-abs-lies (n ∷ ns) q =
       first-some-holds (Standing s) (foundIn s (last (n ∷ ns))) f (FoundLies s f) (found-in-lies (last (n ∷ ns)))
       (scopes-stand s (parent (n ∷ ns))) q
@@ -326,12 +327,12 @@ pub ruleset found-places-laws = (
 
 -- and of an extension that was compared
 compared-some : (s m : List ℕ) (o : Option Found) (f : Found) → Field f ≡ compared s m o → o ≡ some f
-compared-some s m none f q = absurd (let z : _≡_ {A = ℕ} 0 1 = cc in omega arith)
+compared-some s m none f q = never cc
 compared-some s m (some x) f q = go (extends s m (x .declaration)) q
   where
     go : (b : Bool) → Field f ≡ extended b x → some x ≡ some f
     go true q = let u : x ≡ f = cc in rw u
-    go false q = absurd (let z : _≡_ {A = ℕ} 0 1 = cc in omega arith)
+    go false q = never cc
 
 module _ (s scope m name : List ℕ) (r : Resolved) (q : r ≡ extResolveField s scope m name) (f : Found) (g : r ≡ Field f) where
   resolved-found : searched (findExtensionByPath s scope name) ≡ Is f
@@ -369,8 +370,8 @@ pub record OneScope (s : List ℕ) (cs : List Scope) (p : LookupScope) : Type 0 
   pub counted : p .file ≤ length s
 
 one-scope : (s : List ℕ) (cs : List Scope) → Every (Standing s) cs → (p : LookupScope) → looked.Message p ≡ lookedUp cs → OneScope s cs p
-one-scope s [] none-of p q = absurd (let z : _≡_ {A = ℕ} 0 1 = cc in omega arith)
-one-scope s (c ∷ d ∷ cs) k p q = absurd (let z : _≡_ {A = ℕ} 0 1 = cc in omega arith)
+one-scope s [] none-of p q = never cc
+one-scope s (c ∷ d ∷ cs) k p q = never cc
 one-scope s (c ∷ []) (one-of k t) p q =
     let u : p ≡ c .place = cc in
     rw u record { is = ap (λ (x : Scope). x ∷ []) (k .held); ordered = k .ordered; within = k .within; counted = k .counted }
@@ -412,8 +413,8 @@ pub record OneEnum (s : List ℕ) (es : List Enumeration) (p : Span) : Type 0 wh
 
 one-enum : (s : List ℕ) (es : List Enumeration) → Every (HeldEnum s (length s)) es → (p : Span) → Values p ≡ lookedUpEnum es
     → OneEnum s es p
-one-enum s [] none-of p q = absurd (let z : _≡_ {A = ℕ} 0 1 = cc in omega arith)
-one-enum s (x ∷ y ∷ es) k p q = absurd (let z : _≡_ {A = ℕ} 0 1 = cc in omega arith)
+one-enum s [] none-of p q = never cc
+one-enum s (x ∷ y ∷ es) k p q = never cc
 one-enum s (x ∷ []) (one-of k t) p q =
     let u : p ≡ x .body = cc in
     rw u record { next = x; is = refl; body = refl; values = k .values; ordered = k .ordered; within = k .within }

@@ -33,7 +33,7 @@ use Rattle.scope.specs.declared.lookup.LookupScope.{LookupScope}
 use Rattle.basis.specs.First.{first}
 use Rattle.scope.specs.Scope.{Scope, holding, declared}
 use Rattle.scope.specs.Steps.{declarationAt, whose, itemAt, messageAt, fileAt}
-use Rattle.search.specs.Number.{hasNumber, isExtension, fieldNumbered, extensionNumbered, declarationOf}
+use Rattle.search.specs.Number.{hasNumber, isExtensionOf, fieldNumbered, extensionNumbered, declarationOf}
 use Rattle.scope.proofs.Answers.{orDeclared, declared-or-else, declared-append, declared-listed, whose-laws}
 use Rattle.scope.proofs.NamedLaws.{declares-extension, declarationWhere, declarations-seek}
 
@@ -42,14 +42,14 @@ pub ruleset field-numbered-at-laws = (whose-laws, eq-eqb, ne-eqb)
 
 -- ---- extension_numbered_at
 module _ (s m : List ℕ) (k : ℕ) (d : Declaration) where
-  pub extension-of-other-number : (d .shape .number ≡ k → ⊥) → isExtension s m k d ≡ false
+  pub extension-of-other-number : (d .shape .number ≡ k → ⊥) → isExtensionOf s m k d ≡ false
   extension-of-other-number h = rw (ne-eqb (d .shape .number) k h)
 
   module _ (h : d .shape .number ≡ k) (b : Bool) (q : b ≡ sameBytes (text s (d .extendee)) m) where
-    pub extension-of-other-message : b ≡ false → isExtension s m k d ≡ false
+    pub extension-of-other-message : b ≡ false → isExtensionOf s m k d ≡ false
     extension-of-other-message g = rw (eq-eqb (d .shape .number) k h, ← q, g)
 
-    pub extension-of-both : b ≡ true → isExtension s m k d ≡ true
+    pub extension-of-both : b ≡ true → isExtensionOf s m k d ≡ true
     extension-of-both g = rw (eq-eqb (d .shape .number) k h, ← q, g)
 
 -- the extendee of an extension lies in the sheet
@@ -140,20 +140,20 @@ abbrev pub fileWhere : (Declaration → Bool) → List ℕ → ℕ → ℕ → �
 fileWhere good s t a e = declared (first good (everyExtension (fileAt s t a e)))
 
 module _ (s m : List ℕ) (k to : ℕ) (h : to ≡ length s) where
-  pub extension-numbered-start : Seeking NoDeclaration orDeclared (fileWhere (isExtension s m k) s) s 0 to 0
+  pub extension-numbered-start : Seeking NoDeclaration orDeclared (fileWhere (isExtensionOf s m k) s) s 0 to 0
   extension-numbered-start =
-      seek-start NoDeclaration orDeclared (fileWhere (isExtension s m k) s) s 0 to (omega arith) (omega arith)
+      seek-start NoDeclaration orDeclared (fileWhere (isExtensionOf s m k) s) s 0 to (omega arith) (omega arith)
 
   -- the loop is a premise so that a search reads from it where the sheet ends
-  pub extension-numbered-is : (r : Declared) (i : ℕ) → Seeking NoDeclaration orDeclared (fileWhere (isExtension s m k) s) s 0 to i
-      → r ≡ seek NoDeclaration orDeclared (fileWhere (isExtension s m k) s) (walk s 0 to) → r ≡ declared (extensionNumbered s m k)
+  pub extension-numbered-is : (r : Declared) (i : ℕ) → Seeking NoDeclaration orDeclared (fileWhere (isExtensionOf s m k) s) s 0 to i
+      → r ≡ seek NoDeclaration orDeclared (fileWhere (isExtensionOf s m k) s) (walk s 0 to) → r ≡ declared (extensionNumbered s m k)
   extension-numbered-is r i _ q = q ∙ rw (h, tree-files s) (sym (files (walk s 0 (length s))))
     where
-      files : (w : Walk) → declared (first (isExtension s m k) (everyExtension (filesIn s w)))
-          ≡ seek NoDeclaration orDeclared (fileWhere (isExtension s m k) s) w
+      files : (w : Walk) → declared (first (isExtensionOf s m k) (everyExtension (filesIn s w)))
+          ≡ seek NoDeclaration orDeclared (fileWhere (isExtensionOf s m k) s) w
       files =
-          seek-is NoDeclaration orDeclared (fileWhere (isExtension s m k) s)
-          (λ w. declared (first (isExtension s m k) (everyExtension (filesIn s w)))) refl refl
+          seek-is NoDeclaration orDeclared (fileWhere (isExtensionOf s m k) s)
+          (λ w. declared (first (isExtensionOf s m k) (everyExtension (filesIn s w)))) refl refl
           λ t a e w. rw (every-extension-file s t a e (filesIn s w), declared-append)
 
 pub ruleset extension-numbered-laws = (extension-numbered-start, extension-numbered-is, seek-laws)

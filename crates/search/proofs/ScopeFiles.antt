@@ -7,6 +7,7 @@ use mathlib.Core.Option.{Option, some}
 use Prim.Native.Nat.{ℕ, zero, suc, _+_, _<_}
 use native.Mathlib.Omega.{arith}
 use lib.ListN.{getElem?}
+use Rattle.basis.proofs.Never.{never}
 use Rattle.octets.specs.Octets.{sameBytes}
 use Rattle.octets.proofs.SameBytes.{same-refl, same-sound}
 use Rattle.field.specs.Leaf.{text}
@@ -31,7 +32,7 @@ components-same t p e = rw (← e, spell-components t) (same-refl t)
 -- ---- the scope that a file gives
 pub only-some : {A : Type 0} (b : Bool) (o : Option A) (x : A) → onlyWhere b o ≡ some x → (b ≡ true) × (o ≡ some x)
 only-some true o x e = (refl, e)
-only-some false o x e = absurd (let z : _≡_ {A = ℕ} 0 1 = cc in omega arith)
+only-some false o x e = never cc
 
 module _ (s : List ℕ) where
   -- a message is in the file of the scope that it stands in
@@ -71,7 +72,7 @@ module _ (s : List ℕ) where
     goes i fs c r = go i fs (r .k) (r .counted) (r .is)
       where
         go : (i : ℕ) (fs : List File) (k : ℕ) → i + k ≡ r .at → getElem? fs k ≡ some (r .file) → Among c (scopesIn s t ns i fs)
-        go i [] k n e = absurd (let z : _≡_ {A = ℕ} 0 1 = cc in omega arith)
+        go i [] k n e = never cc
         go i (f ∷ fs) zero n e =
             let q : f ≡ r .file = cc in
             let p : i ≡ r .at = omega arith in

@@ -7,6 +7,7 @@ use mathlib.Core.Option.{some}
 use Prim.Native.Nat.{ℕ, zero, suc, _≤_, _<_}
 use native.Mathlib.Omega.{arith}
 use lib.ListN.{length, getD, getElem?, length-append}
+use Rattle.basis.proofs.Never.{never}
 use Rattle.field.specs.Leaf.{text}
 use Rattle.path.specs.Path.{Name, Path, components, spell, allIdent}
 use Rattle.path.proofs.PathLaws.{ident-first, ident-rest, ident-cons, idents-append}
@@ -19,7 +20,7 @@ use Rattle.basis.proofs.AmongLaws.{among-append-left, among-append-right, among
 use Rattle.search.proofs.ScopeFiles.{same-components, components-same, Comes, comes, goes, follows, index, files-rise}
 
 getD-map-some : {A B : Type 0} (g : A → B) (xs : List A) (k : ℕ) (x : A) (d : B) → getElem? xs k ≡ some x → getD (map g xs) k d ≡ g x
-getD-map-some g [] k x d e = absurd (let z : _≡_ {A = ℕ} 0 1 = cc in omega arith)
+getD-map-some g [] k x d e = never cc
 getD-map-some g (y ∷ xs) zero x d e = let q : y ≡ x = cc in ap g q
 getD-map-some g (y ∷ xs) (suc k) x d e = getD-map-some g xs k x d e
 

@@ -18,6 +18,7 @@ use lib.Dec.{eqb}
 use mir.Syntax.{w64}
 use mir.Val.{Fits}
 use lib.ListN.{length, take, drop}
+use Rattle.basis.proofs.Never.{never}
 use Rattle.limits.specs.Figures.{mostMessages}
 use Rattle.octets.specs.Octets.{part, sameBytes}
 use Rattle.field.specs.declared.Leaf.{Leaf}
@@ -67,8 +68,8 @@ module _ (s : List ℕ) (tag a e : ℕ) where
       go : (b : Bool) → l ≡ elim b [ true ↦ leafAt packageTag anyBytes s a e | false ↦ Not ] → Within l e
       go true q = record { ordered = leaf-ordered packageTag anyBytes s a e l q; inside = leaf-inside packageTag anyBytes s a e l q }
       go false q = record {
-        ordered = λ n m g. absurd (let z : _≡_ {A = ℕ} 0 1 = cc in omega arith);
-        inside = λ n m g. absurd (let z : _≡_ {A = ℕ} 0 1 = cc in omega arith);
+        ordered = λ n m g. never cc;
+        inside = λ n m g. never cc;
       }
 
   -- it says whether the field is a file, and which
@@ -119,7 +120,7 @@ module _ (s : List ℕ) where
   -- so it is the scope at the place that a look-up answers
   placed-to : (o : Option Scope) → ((c : Scope) → o ≡ some c → Placed s c) → (r : Reached) → r ≡ placed o
       → (p : LookupScope) → r ≡ To p → o ≡ some (holding s p)
-  placed-to none k r q p g = absurd (let z : _≡_ {A = ℕ} 0 1 = cc in omega arith)
+  placed-to none k r q p g = never cc
   placed-to (some c) k r q p g = let u : p ≡ c .place = cc in rw u (ap some (k c refl .held))
 
 -- ---- follow
@@ -193,12 +194,12 @@ module _ (s t : List ℕ) (next i : ℕ) (l : Leaf) (e : ℕ) (w : Within l e) (
   scope-placed c = go l w
     where
       at : (m : ℕ) → m ≤ e → (b : Bool) → onlyWhere b (follow s (namesFrom t next) (holding s (filePlace i m e))) ≡ some c → Placed s c
-      at m k false q = absurd (let z : _≡_ {A = ℕ} 0 1 = cc in omega arith)
+      at m k false q = never cc
       at m k true q =
           followed-placed s (namesFrom t next) (holding s (filePlace i m e)) (record { held = refl; lies = (k, h) }) c q
 
       go : (l : Leaf) → Within l e → scopeAt s t next i l e ≡ some c → Placed s c
-      go Not w q = absurd (let z : _≡_ {A = ℕ} 0 1 = cc in omega arith)
+      go Not w q = never cc
       go (At n m) w q = at m (w .inside n m refl) (sameBytes (part s n m) (take (next - 1) t)) q
 
   -- what `scope_at` answers, to its caller

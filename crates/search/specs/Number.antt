@@ -3,7 +3,7 @@
 --
 --             hasNumber k d <=> the declaration is of the number k
 --             extends s m d <=> the extension is of the message whose full name is m
---       isExtension s m k d <=> it is of that message and that number
+--       isExtensionOf s m k d <=> it is of that message and that number
 --         fieldNumbered k c ==  the first field of the number k in the scope c
 --   extensionNumbered s m k ==  the first extension of the message m, wherever the sheet declares it, of the number k
 --     declarationOf s c m k ==  what declares the number k at the message that the scope c is and whose full name is m; the caller hands on
@@ -33,11 +33,11 @@ extends s m d = sameBytes (text s (d .extendee)) m
 abbrev pub fieldNumbered : ℕ → Scope → Option Declaration
 fieldNumbered k c = first (hasNumber k) (fieldsOf (c .items))
 
-abbrev pub isExtension : List ℕ → List ℕ → ℕ → Declaration → Bool
-isExtension s m k d = hasNumber k d && extends s m d
+abbrev pub isExtensionOf : List ℕ → List ℕ → ℕ → Declaration → Bool
+isExtensionOf s m k d = hasNumber k d && extends s m d
 
 abbrev pub extensionNumbered : List ℕ → List ℕ → ℕ → Option Declaration
-extensionNumbered s m k = first (isExtension s m k) (everyExtension (treeOf s))
+extensionNumbered s m k = first (isExtensionOf s m k) (everyExtension (treeOf s))
 
 unfoldable pub declarationOf : List ℕ → Scope → List ℕ → ℕ → Option Declaration
 declarationOf s c m k = orElse (fieldNumbered k c) (extensionNumbered s m k)

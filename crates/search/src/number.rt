@@ -10,12 +10,12 @@ ghost use Rattle.sheet.specs.Members.{everyExtensionOf, everyExtension};
 ghost use Rattle.basis.specs.First.{first};
 ghost use Rattle.scope.specs.Scope.{holding, declared};
 ghost use Rattle.scope.specs.Steps.{declarationAt, whose, itemAt, messageAt, fileAt};
-ghost use Rattle.search.specs.Number.{hasNumber, isExtension, fieldNumbered, extensionNumbered, declarationOf};
-use scope::lookup::LookupScope;
-use scope::named::declaration_at;
+ghost use Rattle.search.specs.Number.{hasNumber, isExtensionOf, fieldNumbered, extensionNumbered, declarationOf};
 use field::Field;
 use field::Leaf;
 use limits::MOST_MESSAGES;
+use scope::lookup::LookupScope;
+use scope::named::declaration_at;
 use sheet::declaration::Declared;
 use sheet::table;
 
@@ -62,7 +62,7 @@ fn extension_numbered_at(
     number: u32,
 ) -> Declared
     requires { ⌜ (from ≤ to) × (to ≤ length (now s)) ⌝ }
-    ensures { λ r. ⌜ r ≡ whose (isExtension (now (s .entry)) (now (message .entry)) number)
+    ensures { λ r. ⌜ r ≡ whose (isExtensionOf (now (s .entry)) (now (message .entry)) number)
         (declarationAt true (now (s .entry)) tag from to) ⌝ }
 {
     let Declared::Declares(d) = declaration_at(s, tag, from, to, true) else {
@@ -90,7 +90,7 @@ fn extension_in_item(
     number: u32,
 ) -> Declared
     requires { ⌜ (from ≤ to) × (to ≤ length (now s)) ⌝ }
-    ensures { λ r. ⌜ r ≡ declared (first (isExtension (now (s .entry)) (now (message .entry)) number)
+    ensures { λ r. ⌜ r ≡ declared (first (isExtensionOf (now (s .entry)) (now (message .entry)) number)
         (everyExtensionOf (itemAt left (now (s .entry)) tag from to))) ⌝ }
 {
     if tag == table::MESSAGE {
@@ -109,7 +109,7 @@ fn extension_in_message(
     number: u32,
 ) -> Declared
     requires { ⌜ (from ≤ to) × (to ≤ length (now s)) ⌝ }
-    ensures { λ r. ⌜ r ≡ declared (first (isExtension (now (s .entry)) (now (message .entry)) number)
+    ensures { λ r. ⌜ r ≡ declared (first (isExtensionOf (now (s .entry)) (now (message .entry)) number)
         (everyExtensionOf (messageAt left (now (s .entry)) from to))) ⌝ }
 {
     if left == 0 {
@@ -131,7 +131,7 @@ fn extension_in_items(
     number: u32,
 ) -> Declared
     requires { ⌜ (from ≤ to) × (to ≤ length (now s)) ⌝ }
-    ensures { λ r. ⌜ r ≡ declared (first (isExtension (now (s .entry)) (now (message .entry)) number)
+    ensures { λ r. ⌜ r ≡ declared (first (isExtensionOf (now (s .entry)) (now (message .entry)) number)
         (everyExtensionOf (itemsIn left (now (s .entry)) (walk (now (s .entry)) from to)))) ⌝ }
 {
     let mut at = from;
@@ -162,7 +162,7 @@ fn extension_in_file(
     number: u32,
 ) -> Declared
     requires { ⌜ (from ≤ to) × (to ≤ length (now s)) ⌝ }
-    ensures { λ r. ⌜ r ≡ declared (first (isExtension (now (s .entry)) (now (message .entry)) number)
+    ensures { λ r. ⌜ r ≡ declared (first (isExtensionOf (now (s .entry)) (now (message .entry)) number)
         (everyExtension (fileAt (now (s .entry)) tag from to))) ⌝ }
 {
     if tag != table::FILE {

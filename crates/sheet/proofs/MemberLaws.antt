@@ -11,6 +11,7 @@ use Prim.Native.Nat.{ℕ, zero, suc, _-_}
 use native.Mathlib.Omega.{arith}
 use borrow.Author.Tests.{eqb-true, eqb-false}
 use lib.Dec.{eqb}
+use Rattle.basis.proofs.Never.{never}
 use Rattle.limits.specs.Figures.{mostMessages}
 use Rattle.field.specs.declared.Leaf.{Leaf}
 use Rattle.field.specs.declared.Leaf.the-variants.{At, Not}
@@ -107,7 +108,7 @@ module _ (d : ℕ) (s : List ℕ) (t a e : ℕ) (rest : Items) where
 
   module _ (r : Leaf) (q : r ≡ leafAt nameTag anyBytes s a e) where
     pub messages-unnamed : r ≡ Not → messagesOf (itemIn (messageIn d s) s t a e rest) ≡ messagesOf rest
-    messages-unnamed g = no-message λ _ _ n m p. let z : _≡_ {A = ℕ} 0 1 = cc in omega arith
+    messages-unnamed g = no-message λ _ _ n m p. never cc
 
     pub messages-named : t ≡ messageTag → (d ≡ 0 → ⊥) → (n m : ℕ) → r ≡ At n m
         → messagesOf (itemIn (messageIn d s) s t a e rest)
@@ -128,7 +129,7 @@ module _ (d : ℕ) (s : List ℕ) (t a e : ℕ) (rest : Items) where
 
   module _ (r : Leaf) (q : r ≡ leafAt nameTag anyBytes s a e) where
     pub enums-unnamed : r ≡ Not → enumsOf (itemIn (messageIn d s) s t a e rest) ≡ enumsOf rest
-    enums-unnamed g = no-enum λ _ n m p. let z : _≡_ {A = ℕ} 0 1 = cc in omega arith
+    enums-unnamed g = no-enum λ _ n m p. never cc
 
     pub enums-named : t ≡ enumTag → (n m : ℕ) → r ≡ At n m
         → enumsOf (itemIn (messageIn d s) s t a e rest)
@@ -148,7 +149,7 @@ tagged t k r ds rest other own = go (eqb t k) refl r refl
   where
     go : (b : Bool) → eqb t k ≡ b → (u : Declared) → r ≡ u → ds ≡ listed (elim b [ true ↦ u | false ↦ NoDeclaration ]) ++ rest
     go false p u q = other λ h _ _. eqb-false t k p h
-    go true p NoDeclaration q = other λ _ x w. let z : _≡_ {A = ℕ} 0 1 = cc in omega arith
+    go true p NoDeclaration q = other λ _ x w. never cc
     go true p (Declares x) q = own (eqb-true t k p) x q
 
 module _ (d : ℕ) (s : List ℕ) (t a e : ℕ) (rest : Items) where

@@ -5,6 +5,7 @@ use mathlib.Core.List.{List}
 use Prim.Native.Nat.{ℕ, _≤_}
 use native.Mathlib.Omega.{arith}
 use lib.ListN.{length}
+use Rattle.basis.proofs.Never.{never}
 use Rattle.octets.specs.Octets.{bigAt}
 use Rattle.field.specs.declared.Leaf.the-variants.{At}
 use Rattle.field.specs.declared.Span.{Span}
@@ -19,7 +20,7 @@ use Rattle.sheet.specs.declared.declaration.Value.{Value}
 use Rattle.sheet.specs.declared.declaration.Valued.{Valued}
 use Rattle.sheet.specs.declared.declaration.Valued.the-variants.{Values, NoValue}
 use Rattle.sheet.specs.Table.{nameTag, extendeeTag, signedNumberTag}
-use Rattle.sheet.specs.Declaration.{lastAt, shapeAt, declared, extensionAt, messageFieldAt, valueAt}
+use Rattle.sheet.specs.Declaration.{lastAt, shapeAt, declaredWith, extensionAt, messageFieldAt, valueAt}
 use Rattle.sheet.proofs.ShapeLaws.{Placed, shape-lies}
 
 name-lies : (k : ℕ) (s : List ℕ) (a e n m : ℕ) → leafAt k anyBytes s a e ≡ At n m → Placed e n m
@@ -35,14 +36,14 @@ pub record Places (end : ℕ) (d : Declaration) : Type 0 where
   pub path : Placed end (d .shape .path .from) (d .shape .path .to)
 
 declared-places : (s : List ℕ) (at end : ℕ) (n x : Span) (d : Declaration) → Placed end (n .from) (n .to) → Placed end (x .from) (x .to)
-    → (p : Shaped) → p ≡ shapeAt s at end → Declares d ≡ declared n x p → Places end d
-declared-places s at end n x d i j NoShape q p = absurd (let z : _≡_ {A = ℕ} 0 1 = cc in omega arith)
+    → (p : Shaped) → p ≡ shapeAt s at end → Declares d ≡ declaredWith n x p → Places end d
+declared-places s at end n x d i j NoShape q p = never cc
 declared-places s at end n x d i j (Shapes h) q p =
     let u : d ≡ record { name = n; extendee = x; shape = h } = cc in
     rw u record { name = i; extendee = j; path = shape-lies s at end h q }
 
 none-declared : (d : Declaration) → Declares d ≡ NoDeclaration → ⊥
-none-declared d p = let z : _≡_ {A = ℕ} 0 1 = cc in omega arith
+none-declared d p = never cc
 
 pub extension-places : (s : List ℕ) (a e : ℕ) (d : Declaration) → Declares d ≡ extensionAt s a e → Places e d
 unfolding extensionAt
@@ -71,7 +72,7 @@ value-name-lies s a e v =
     L = Placed e (v .name .from) (v .name .to)
 
     none : Values v ≡ NoValue → ⊥
-    none p = let z : _≡_ {A = ℕ} 0 1 = cc in omega arith
+    none p = never cc
 
 module _ (s : List ℕ) (a e : ℕ) (r : Declared) (q : r ≡ extensionAt s a e) (d : Declaration) (g : r ≡ Declares d) where
   pub extension-name-ordered : d .name .from ≤ d .name .to

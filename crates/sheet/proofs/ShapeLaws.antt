@@ -8,6 +8,7 @@ use native.Mathlib.Omega.{arith}
 use borrow.Author.Tests.{not-true, not-false, eq-eqb, ne-eqb}
 use lib.Dec.{eqb}
 use lib.ListN.{length, getD}
+use Rattle.basis.proofs.Never.{never}
 use Rattle.octets.specs.Octets.{bigAt}
 use Rattle.types.specs.Types.{TYPE_GROUP, TYPE_MESSAGE, TYPE_ENUM}
 use Rattle.field.specs.declared.Leaf.{Leaf}
@@ -88,7 +89,7 @@ unfolding typePathAt
 type-path-lies t s at end a e p = go (hasTypePath t) (eqb at end) (leafAt typePathTag anyBytes s at end) refl p
   where
     last : (n m : ℕ) → At n m ≡ leafAt typePathTag anyBytes s at end → (b : Bool) → At a e ≡ onlyIf b (At n m) → Placed end a e
-    last n m q false p = absurd (let z : _≡_ {A = ℕ} 0 1 = cc in omega arith)
+    last n m q false p = never cc
     last n m q true p =
         record {
           ordered = leaf-ordered typePathTag anyBytes s at end (At a e) (p ∙ q) a e refl;
@@ -97,12 +98,12 @@ type-path-lies t s at end a e p = go (hasTypePath t) (eqb at end) (leafAt typePa
 
     go : (b b′ : Bool) (l : Leaf) → l ≡ leafAt typePathTag anyBytes s at end
         → At a e ≡ elim b [ true ↦ lastAt end l | false ↦ onlyIf b′ (At 0 0) ] → Placed end a e
-    go false false l q p = absurd (let z : _≡_ {A = ℕ} 0 1 = cc in omega arith)
+    go false false l q p = never cc
     go false true l q p =
         let u : a ≡ 0 = cc in
         let v : e ≡ 0 = cc in
         record { ordered = omega arith; inside = omega arith }
-    go true b′ Not q p = absurd (let z : _≡_ {A = ℕ} 0 1 = cc in omega arith)
+    go true b′ Not q p = never cc
     go true b′ (At n m) q p = last n m q (eqb m end) p
 
 pub shape-lies : (s : List ℕ) (at end : ℕ) (h : Shape) → Shapes h ≡ shapeAt s at end → Placed end (h .path .from) (h .path .to)
@@ -119,7 +120,7 @@ shape-lies s at end h =
     L = Placed end (h .path .from) (h .path .to)
 
     none : Shapes h ≡ NoShape → ⊥
-    none p = let z : _≡_ {A = ℕ} 0 1 = cc in omega arith
+    none p = never cc
 
 module _ (s : List ℕ) (at end : ℕ) (r : Shaped) (q : r ≡ shapeAt s at end) (h : Shape) (g : r ≡ Shapes h) where
   pub shape-path-ordered : h .path .from ≤ h .path .to

@@ -6,7 +6,7 @@
 --    typePathAt t s at e ==  the type path where the type t has one, and nothing after it
 --    shape number .. a e ==  a shape, its type path from a to e
 --         shapeAt s at e ==  number, type, label and type path, from the place `at` up to the end e
---         declared n x h ==  the declaration of the name n, the extendee x and the shape h, where there is one
+--         declaredWith n x h ==  the declaration of the name n, the extendee x and the shape h, where there is one
 --      extensionAt s a e ==  the extension whose payload is from a to e
 --   messageFieldAt s a e ==  the field of a message whose payload is from a to e
 --          valueAt s a e ==  the enum value whose payload is from a to e
@@ -58,22 +58,22 @@ shapeAt s at end =
     onLeaf NoShape (typePathAt (getD s t 0) s paths end) λ a e.
     Shapes (shape (bigAt 4 s n) (getD s t 0) (getD s l 0) a e)
 
-abbrev pub declared : Span → Span → Shaped → Declared
-declared name extendee NoShape = NoDeclaration
-declared name extendee (Shapes h) = Declares (record { name = name; extendee = extendee; shape = h })
+abbrev pub declaredWith : Span → Span → Shaped → Declared
+declaredWith name extendee NoShape = NoDeclaration
+declaredWith name extendee (Shapes h) = Declares (record { name = name; extendee = extendee; shape = h })
 
 -- tag 03: "11, 12 extendee path, 13 number ..": name and extendee, then the shape
 unfoldable pub extensionAt : List ℕ → ℕ → ℕ → Declared
 extensionAt s a e =
     onLeaf NoDeclaration (leafAt nameTag anyBytes s a e) λ n extendees.
     onLeaf NoDeclaration (leafAt extendeeTag anyBytes s extendees e) λ x shapes.
-    declared (span n extendees) (span x shapes) (shapeAt s shapes e)
+    declaredWith (span n extendees) (span x shapes) (shapeAt s shapes e)
 
 -- tag 05: "as 03 without 12"
 unfoldable pub messageFieldAt : List ℕ → ℕ → ℕ → Declared
 messageFieldAt s a e =
     onLeaf NoDeclaration (leafAt nameTag anyBytes s a e) λ n shapes.
-    declared (span n shapes) (span 0 0) (shapeAt s shapes e)
+    declaredWith (span n shapes) (span 0 0) (shapeAt s shapes e)
 
 -- tag 06: "11, 17 signed number (4 bytes)"
 unfoldable pub valueAt : List ℕ → ℕ → ℕ → Valued

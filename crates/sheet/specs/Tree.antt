@@ -5,7 +5,7 @@
 --                        Items == what a file or a message holds, in order: the first one, and what follows it
 --                         File == a package, and what the file holds
 --         valueIn s t a e rest == the enum value that a field is, and what follows it
---                valued v rest == an enum value, where there is one, and what follows it
+--                valueOnto v rest == an enum value, where there is one, and what follows it
 --                 valuesIn s w == the values among the fields w
 --            enumIn s a e rest == the enum whose payload is from a to e, and what follows it
 --           extensionIn d rest == an extension, where there is one, and what follows it
@@ -52,12 +52,12 @@ pub record File : Type 0 where
   pub body : Span
   pub items : Items
 
-abbrev pub valued : Valued → List Value → List Value
-valued NoValue rest = rest
-valued (Values v) rest = v ∷ rest
+abbrev pub valueOnto : Valued → List Value → List Value
+valueOnto NoValue rest = rest
+valueOnto (Values v) rest = v ∷ rest
 
 unfoldable pub valueIn : List ℕ → ℕ → ℕ → ℕ → List Value → List Value
-valueIn s t a e rest = elim (eqb t valueTag) [ true ↦ valued (valueAt s a e) rest | false ↦ rest ]
+valueIn s t a e rest = elim (eqb t valueTag) [ true ↦ valueOnto (valueAt s a e) rest | false ↦ rest ]
 
 abbrev pub valuesIn : List ℕ → Walk → List Value
 valuesIn s done = []

@@ -17,7 +17,8 @@ use Rattle.sheet.specs.Table.{fileTag, messageTag, extensionTag, enumTag, field
 use Rattle.sheet.specs.Table.{extendeeTag, numberTag, typeTag, labelTag, typePathTag, signedNumberTag}
 use Rattle.sheet.specs.Declaration.{hasTypePath, typePathAt, shapeAt, extensionAt, messageFieldAt, valueAt}
 use Rattle.sheetform.specs.Declarations.{goodShape, goodField, isField, isExtension, isValue}
-use Rattle.sheetform.specs.Form.{malformed, beyond, judgeValue, judgeEnum, judgeItem, judgeItems, judgeFile, judgeSheet}
+use Rattle.reply.specs.Verdicts.{beyond}
+use Rattle.sheetform.specs.Form.{badSheet, judgeValue, judgeEnum, judgeItem, judgeItems, judgeFile, judgeSheet}
 
 -- a sheet's verdict, with all that it is computed by
 verdict : List ℕ → Verdict
@@ -35,7 +36,7 @@ no-files : verdict [] ≡ Fine
 unfolding verdict
 no-files = refl
 
-cut : verdict (0x01 ∷ []) ≡ malformed
+cut : verdict (0x01 ∷ []) ≡ badSheet
 unfolding verdict
 cut = refl
 
@@ -43,11 +44,11 @@ empty-package : verdict (0x01 ∷ 0x00 ∷ 0x03 ∷ 0x10 ∷ 0x00 ∷ 0x00 ∷ [
 unfolding verdict
 empty-package = refl
 
-no-package : verdict (0x01 ∷ 0x00 ∷ 0x00 ∷ []) ≡ malformed
+no-package : verdict (0x01 ∷ 0x00 ∷ 0x00 ∷ []) ≡ badSheet
 unfolding verdict
 no-package = refl
 
-dot-package : verdict (0x01 ∷ 0x00 ∷ 0x04 ∷ 0x10 ∷ 0x00 ∷ 0x01 ∷ 0x2E ∷ []) ≡ malformed
+dot-package : verdict (0x01 ∷ 0x00 ∷ 0x04 ∷ 0x10 ∷ 0x00 ∷ 0x01 ∷ 0x2E ∷ []) ≡ badSheet
 unfolding verdict
 dot-package = refl
 
@@ -82,26 +83,26 @@ aPath = aField typePathTag (77 ∷ 46 ∷ 78 ∷ [])
 -- a type path exactly for the types that have one
 paths : map (λ (s : List ℕ). verdict (file (anExtension s)))
     (shapeOf one TYPE_MESSAGE 1 aPath ∷ shapeOf one TYPE_MESSAGE 1 [] ∷ shapeOf one TYPE_UINT32 1 [] ∷ shapeOf one TYPE_UINT32 1 aPath ∷ [])
-    ≡ Fine ∷ malformed ∷ Fine ∷ malformed ∷ []
+    ≡ Fine ∷ badSheet ∷ Fine ∷ badSheet ∷ []
 unfolding verdict
 paths = refl
 
 -- numbers are 1 to 536,870,911
 numbers : map (λ (n : List ℕ). verdict (file (anExtension (shapeOf n TYPE_UINT32 1 []))))
     ((0 ∷ 0 ∷ 0 ∷ 0 ∷ []) ∷ one ∷ (0x1F ∷ 0xFF ∷ 0xFF ∷ 0xFF ∷ []) ∷ (0x20 ∷ 0 ∷ 0 ∷ 0 ∷ []) ∷ [])
-    ≡ malformed ∷ Fine ∷ Fine ∷ malformed ∷ []
+    ≡ badSheet ∷ Fine ∷ Fine ∷ badSheet ∷ []
 unfolding verdict
 numbers = refl
 
 -- types are 1 to 18
 types : map (λ (t : ℕ). verdict (file (anExtension (shapeOf one t 1 [])))) (0 ∷ 1 ∷ 18 ∷ 19 ∷ [])
-    ≡ malformed ∷ Fine ∷ Fine ∷ malformed ∷ []
+    ≡ badSheet ∷ Fine ∷ Fine ∷ badSheet ∷ []
 unfolding verdict
 types = refl
 
 -- labels are 1 to 3
 labels : map (λ (l : ℕ). verdict (file (anExtension (shapeOf one TYPE_UINT32 l [])))) (0 ∷ 1 ∷ 3 ∷ 4 ∷ [])
-    ≡ malformed ∷ Fine ∷ Fine ∷ malformed ∷ []
+    ≡ badSheet ∷ Fine ∷ Fine ∷ badSheet ∷ []
 unfolding verdict
 labels = refl
 
@@ -109,7 +110,7 @@ labels = refl
 abbrev field : List ℕ
 field = aField fieldTag (aField nameTag (102 ∷ []) ++ shapeOf one TYPE_UINT32 1 [])
 
-fields : map verdict (file field ∷ file (message field) ∷ []) ≡ malformed ∷ Fine ∷ []
+fields : map verdict (file field ∷ file (message field) ∷ []) ≡ badSheet ∷ Fine ∷ []
 unfolding verdict
 fields = refl
 
@@ -121,7 +122,7 @@ abbrev anEnum : List ℕ → List ℕ
 anEnum values = aField enumTag (aField nameTag (69 ∷ []) ++ values)
 
 enums : map (λ (v : List ℕ). verdict (file (anEnum v))) ([] ∷ (value valueTag ++ value valueTag) ∷ (value valueTag ++ value fieldTag) ∷ [])
-    ≡ Fine ∷ Fine ∷ malformed ∷ []
+    ≡ Fine ∷ Fine ∷ badSheet ∷ []
 unfolding verdict
 enums = refl
 
@@ -130,7 +131,7 @@ abbrev files : ℕ → List ℕ
 files zero = []
 files (suc n) = file [] ++ files n
 
-many-files : map verdict (files 8 ∷ files 9 ∷ (files 8 ++ aField messageTag []) ∷ []) ≡ Fine ∷ beyond ∷ malformed ∷ []
+many-files : map verdict (files 8 ∷ files 9 ∷ (files 8 ++ aField messageTag []) ∷ []) ≡ Fine ∷ beyond ∷ badSheet ∷ []
 unfolding verdict
 many-files = refl
 
@@ -143,6 +144,6 @@ unfolding verdict
 deep-messages = refl
 
 -- ---- the first fault from the front: a message too deep before a cut, a tag that is no item's before a message too deep
-first-faults : map verdict ((file (deep 17) ++ fileTag ∷ []) ∷ file (aField packageTag [] ++ deep 17) ∷ []) ≡ beyond ∷ malformed ∷ []
+first-faults : map verdict ((file (deep 17) ++ fileTag ∷ []) ∷ file (aField packageTag [] ++ deep 17) ∷ []) ≡ beyond ∷ badSheet ∷ []
 unfolding verdict
 first-faults = refl

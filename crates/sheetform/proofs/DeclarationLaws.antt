@@ -4,9 +4,9 @@ use mathlib.Core.Path.{_≡_, refl}
 use mathlib.Core.Bool.{Bool, true, false, _||_}
 use mathlib.Core.List.{List}
 use Prim.Native.Nat.{ℕ}
-use native.Mathlib.Omega.{arith}
 use borrow.Author.Tests.{ltb-true, ltb-false, le-leb, lt-leb, not-true, not-false}
 use lib.Dec.{ltb}
+use Rattle.basis.proofs.Never.{never}
 use Rattle.limits.specs.Figures.{mostNumber, mostType, mostLabel}
 use Rattle.octets.specs.Octets.{part}
 use Rattle.path.specs.Ident.{isIdent}
@@ -29,14 +29,14 @@ out-of-range n most h = go (ltb n 1) refl (ltb most n) refl h
     go : (b : Bool) → ltb n 1 ≡ b → (b′ : Bool) → ltb most n ≡ b′ → (b || b′) ≡ true → inRange n most ≡ false
     go true p b′ p′ h = simp (lt-leb 1 n (ltb-true n 1 p))
     go false p true p′ h = simp (le-leb 1 n (ltb-false n 1 p), lt-leb n most (ltb-true most n p′))
-    go false p false p′ h = absurd (let z : _≡_ {A = ℕ} 0 1 = cc in omega arith)
+    go false p false p′ h = never cc
 
 in-range : (n most : ℕ) → (ltb n 1 || ltb most n) ≡ false → inRange n most ≡ true
 in-range n most h = go (ltb n 1) refl (ltb most n) refl h
   where
     go : (b : Bool) → ltb n 1 ≡ b → (b′ : Bool) → ltb most n ≡ b′ → (b || b′) ≡ false → inRange n most ≡ true
-    go true p b′ p′ h = absurd (let z : _≡_ {A = ℕ} 0 1 = cc in omega arith)
-    go false p true p′ h = absurd (let z : _≡_ {A = ℕ} 0 1 = cc in omega arith)
+    go true p b′ p′ h = never cc
+    go false p true p′ h = never cc
     go false p false p′ h = simp (le-leb 1 n (ltb-false n 1 p), le-leb n most (ltb-false most n p′))
 
 -- ---- good_shape

@@ -27,10 +27,10 @@ use Rattle.sheet.specs.declared.declaration.Valued.{Valued}
 use Rattle.sheet.specs.declared.declaration.Valued.the-variants.{Values, NoValue}
 use Rattle.sheet.specs.Table.{messageTag, extensionTag, enumTag, fieldTag, valueTag, nameTag}
 use Rattle.sheet.specs.Declaration.{extensionAt, messageFieldAt, valueAt}
-use Rattle.sheet.specs.Tree.{Items, valued, valueIn, valuesIn, enumIn, extensionIn, fieldIn, itemIn, itemsWith, messageIn}
+use Rattle.sheet.specs.Tree.{Items, valueOnto, valueIn, valuesIn, enumIn, extensionIn, fieldIn, itemIn, itemsWith, messageIn}
 use Rattle.sheetform.specs.Declarations.{goodField, isExtension, isField, isValue}
-use Rattle.sheetform.specs.Form.{malformed, judgeValue, judgeEnum, judgeItem, judgeMessage, judgeItems}
-use Rattle.sheetform.specs.Fine.{goodValues, goodItems, tagsOf}
+use Rattle.sheetform.specs.Form.{badSheet, judgeValue, judgeEnum, judgeItem, judgeMessage, judgeItems}
+use Rattle.sheetform.specs.Fine.{goodValues, goodItems, itemTags}
 use Rattle.sheetform.proofs.MessageLaws.{value-other, item-other}
 
 -- ---- a leaf r that is there and passed its test, and what stands after it, judged by f from where the leaf ends
@@ -42,9 +42,9 @@ pub record Inside (r : Leaf) (good : List ℕ → Bool) (s : List ℕ) (f : ℕ 
   pub fine : f to ≡ Fine
 
 pub leaf-fine : (k : ℕ) (good : List ℕ → Bool) (s : List ℕ) (a e : ℕ) (f : ℕ → Verdict)
-    → onLeaf malformed (leafAt k good s a e) (λ n m. f m) ≡ Fine → Inside (leafAt k anyBytes s a e) good s f
+    → onLeaf badSheet (leafAt k good s a e) (λ n m. f m) ≡ Fine → Inside (leafAt k anyBytes s a e) good s f
 leaf-fine k good s a e f p =
-    on-leaf-some malformed Fine (leafAt k good s a e) (λ n m. f m) (Inside (leafAt k anyBytes s a e) good s f)
+    on-leaf-some badSheet Fine (leafAt k good s a e) (λ n m. f m) (Inside (leafAt k anyBytes s a e) good s f)
     (λ q. refused-fine BadSheet (sym q))
     (λ n m l q. record {
       from = n;
@@ -69,7 +69,7 @@ value-more s t a e w vs p h = elim (ℕ-discrete t valueTag) [
 ]
   where
     go : (r : Valued) → elim r [ Values v ↦ isIdent (text s (v .name)) | NoValue ↦ false ] ≡ true
-        → FineValues s (step valueTag a e w) (valued r vs)
+        → FineValues s (step valueTag a e w) (valueOnto r vs)
     go (Values v) q = record { good = rw (q, h .good); whole = ap suc (h .whole) }
     go NoValue q = absurd (false≢true q)
 
@@ -93,7 +93,7 @@ enum-inside s a e p = leaf-fine nameTag isIdent s a e (λ m. each BadSheet (judg
 -- ---- one item: it is in front of what follows it, and nothing in it is bad
 record FineItem (s : List ℕ) (t : ℕ) (rest i : Items) : Type 0 where
   good : goodItems s rest ≡ true → goodItems s i ≡ true
-  whole : tagsOf i ≡ t ∷ tagsOf rest
+  whole : itemTags i ≡ t ∷ itemTags rest
 
 module _ (s : List ℕ) (rest : Items) where
   extension-fine : (a e : ℕ) → isExtension s a e ≡ true → FineItem s extensionTag rest (extensionIn (extensionAt s a e) rest)
@@ -136,7 +136,7 @@ by-tag t P m x n f o = elim (ℕ-discrete t messageTag) [
 -- ---- items, where the messages among them are known to be fine
 pub record FineItems (s : List ℕ) (w : Walk) (i : Items) : Type 0 where
   pub good : goodItems s i ≡ true
-  pub whole : tagsOf i ≡ tagsIn w
+  pub whole : itemTags i ≡ tagsIn w
 
 Messages : ℕ → List ℕ → Type 0
 Messages d s = (a e : ℕ) (rest : Items) → judgeMessage d s a e ≡ Fine → FineItem s messageTag rest (messageIn d s a e rest)
@@ -154,7 +154,7 @@ module _ (d : ℕ) (fields : Bool) (s : List ℕ) (messages : Messages d s) wher
       (in-message fields)
       (λ m x n f p. absurd (refused-fine BadSheet (item-other d fields s t a e m x n f ∙ p)))
     where
-      in-message : (b : Bool) → elim b [ true ↦ judged BadSheet (isField s a e) | false ↦ malformed ] ≡ Fine
+      in-message : (b : Bool) → elim b [ true ↦ judged BadSheet (isField s a e) | false ↦ badSheet ] ≡ Fine
           → FineItem s fieldTag rest (fieldIn (messageFieldAt s a e) rest)
       in-message true p = field-fine s rest a e (judged-fine BadSheet (isField s a e) p)
       in-message false p = absurd (refused-fine BadSheet p)

@@ -25,8 +25,9 @@ use Rattle.form.specs.Each.{each, eachFrom}
 use Rattle.field.proofs.WalkLaws.{walk-step}
 use Rattle.sheet.specs.Table.{fileTag, messageTag, enumTag, packageTag, nameTag}
 use Rattle.sheet.specs.Tree.{File, valuesIn, itemsIn, fileIn, filesIn, treeOf}
-use Rattle.sheetform.specs.Form.{malformed, beyond, judgeValue, judgeEnum, judgeItem, judgeMessage, judgeItems, judgeFile, judgeSheet}
-use Rattle.sheetform.specs.Fine.{goodItems, goodFiles, tagsOf}
+use Rattle.reply.specs.Verdicts.{beyond}
+use Rattle.sheetform.specs.Form.{badSheet, judgeValue, judgeEnum, judgeItem, judgeMessage, judgeItems, judgeFile, judgeSheet}
+use Rattle.sheetform.specs.Fine.{goodItems, goodFiles, itemTags}
 use Rattle.sheetform.proofs.SheetLaws.{file-other}
 use Rattle.sheetform.proofs.FineItems.{Inside, leaf-fine, values-fine, enum-inside, FineItems, message-inside, items-fine}
 
@@ -48,7 +49,7 @@ fine-file s i a e = go (ltb i mostFiles)
   where
     go : (b : Bool)
         → elim b [
-          | true ↦ onLeaf malformed (leafAt packageTag isRelOrEmpty s a e) λ n m. judgeItems mostMessages false s m e
+          | true ↦ onLeaf badSheet (leafAt packageTag isRelOrEmpty s a e) λ n m. judgeItems mostMessages false s m e
           | false ↦ beyond
         ] ≡ Fine
         → Inside (leafAt packageTag anyBytes s a e) isRelOrEmpty s (λ m. judgeItems mostMessages false s m e)
@@ -87,7 +88,7 @@ file-few s i a e = go (ltb i mostFiles) refl
   where
     go : (b : Bool) → ltb i mostFiles ≡ b
         → elim b [
-          | true ↦ onLeaf malformed (leafAt packageTag isRelOrEmpty s a e) λ n m. judgeItems mostMessages false s m e
+          | true ↦ onLeaf badSheet (leafAt packageTag isRelOrEmpty s a e) λ n m. judgeItems mostMessages false s m e
           | false ↦ beyond
         ] ≡ Fine
         → i < mostFiles
@@ -133,7 +134,7 @@ fine-files s p = files-fine s 0 (walk s 0 (length s)) (fine-sheet s p) .whole
 
 -- Every field of a fine file or message is an item of its own kind in the tree, in order.
 pub fine-whole : (d : ℕ) (fields : Bool) (s : List ℕ) (a e : ℕ) → judgeItems d fields s a e ≡ Fine
-    → tagsOf (itemsIn d s (walk s a e)) ≡ tagsIn (walk s a e)
+    → itemTags (itemsIn d s (walk s a e)) ≡ tagsIn (walk s a e)
 fine-whole d fields s a e p = level-fine d fields s a e p .whole
 
 -- Every field of a fine enum, after its name, is a value in the tree.

@@ -22,11 +22,12 @@ use Rattle.field.proofs.Rest.{Rest, rest-start}
 use Rattle.form.proofs.EachLaws.{each-laws}
 use Rattle.sheet.specs.Table.{messageTag, extensionTag, enumTag, fieldTag, valueTag, nameTag}
 use Rattle.sheetform.specs.Declarations.{isExtension, isField, isValue}
-use Rattle.sheetform.specs.Form.{malformed, beyond, judgeValue, judgeEnum, judgeItem, judgeMessage, judgeItems}
+use Rattle.reply.specs.Verdicts.{beyond}
+use Rattle.sheetform.specs.Form.{badSheet, judgeValue, judgeEnum, judgeItem, judgeMessage, judgeItems}
 
 -- ---- check_value
 module _ (s : List ℕ) (t a e : ℕ) where
-  pub value-other : (t ≡ valueTag → ⊥) → malformed ≡ judgeValue s t a e
+  pub value-other : (t ≡ valueTag → ⊥) → badSheet ≡ judgeValue s t a e
   unfolding judgeValue
   value-other n = simp (judgeValue, ne-eqb t valueTag n)
 
@@ -41,7 +42,7 @@ abbrev pub values : List ℕ → Walk → Verdict
 values s = each BadSheet (judgeValue s)
 
 module _ (s : List ℕ) (a e : ℕ) (r : Leaf) (q : r ≡ leafAt nameTag isIdent s a e) where
-  pub enum-unnamed : r ≡ Not → malformed ≡ judgeEnum s a e
+  pub enum-unnamed : r ≡ Not → badSheet ≡ judgeEnum s a e
   unfolding judgeEnum
   enum-unnamed g = rw (← q, g)
 
@@ -69,13 +70,13 @@ module _ (d : ℕ) (fields : Bool) (s : List ℕ) (t a e : ℕ) where
       item-enum y v q = simp (judgeItem, ne-eqb t messageTag m, ne-eqb t extensionTag x, eq-eqb t enumTag y) q
 
       module _ (n : t ≡ enumTag → ⊥) where
-        pub item-other : (t ≡ fieldTag → ⊥) → malformed ≡ judgeItem (judgeMessage d s) fields s t a e
+        pub item-other : (t ≡ fieldTag → ⊥) → badSheet ≡ judgeItem (judgeMessage d s) fields s t a e
         unfolding judgeItem
         item-other y =
             simp (judgeItem, ne-eqb t messageTag m, ne-eqb t extensionTag x, ne-eqb t enumTag n, ne-eqb t fieldTag y)
 
         module _ (y : t ≡ fieldTag) where
-          pub item-outside : fields ≡ false → malformed ≡ judgeItem (judgeMessage d s) fields s t a e
+          pub item-outside : fields ≡ false → badSheet ≡ judgeItem (judgeMessage d s) fields s t a e
           unfolding judgeItem
           item-outside f =
               simp (judgeItem, ne-eqb t messageTag m, ne-eqb t extensionTag x, ne-eqb t enumTag n, eq-eqb t fieldTag y, f)
@@ -102,7 +103,7 @@ pub ruleset items-laws = (items-start, field-ordered, each-laws)
 
 -- ---- check_message
 module _ (s : List ℕ) (a e : ℕ) where
-  none-named : (d : ℕ) → (d ≡ 0 → ⊥) → leafAt nameTag isIdent s a e ≡ Not → malformed ≡ judgeMessage d s a e
+  none-named : (d : ℕ) → (d ≡ 0 → ⊥) → leafAt nameTag isIdent s a e ≡ Not → badSheet ≡ judgeMessage d s a e
   none-named zero z q = absurd (z refl)
   none-named (suc d) z q = simp (judgeMessage, q)
 
@@ -117,7 +118,7 @@ module _ (d : ℕ) (s : List ℕ) (a e : ℕ) where
   message-beyond z = rw z
 
   module _ (z : d ≡ 0 → ⊥) (r : Leaf) (q : r ≡ leafAt nameTag isIdent s a e) where
-    pub message-unnamed : r ≡ Not → malformed ≡ judgeMessage d s a e
+    pub message-unnamed : r ≡ Not → badSheet ≡ judgeMessage d s a e
     message-unnamed g = none-named s a e d z (sym q ∙ g)
 
     pub message-named : (n body : ℕ) → r ≡ At n body → (v : Verdict) → v ≡ judgeItems (d - 1) true s body e → v ≡ judgeMessage d s a e

@@ -8,6 +8,7 @@ use native.Mathlib.Omega.{arith}
 use borrow.Author.Tests.{eq-eqb, ne-eqb, lt-ltb, le-ltb, ltb-true}
 use lib.Dec.{eqb, ltb}
 use lib.ListN.{length}
+use Rattle.basis.proofs.Never.{never}
 use Rattle.limits.specs.Figures.{mostSheet, mostFiles, mostMessages}
 use Rattle.path.specs.Path.{isRelOrEmpty}
 use Rattle.reply.specs.declared.Refusal.the-variants.{BadSheet}
@@ -23,11 +24,12 @@ use Rattle.field.proofs.LeafLaws.{leaf-inside}
 use Rattle.field.proofs.Rest.{Rest, rest-start}
 use Rattle.form.proofs.EachLaws.{each-from-laws}
 use Rattle.sheet.specs.Table.{fileTag, packageTag}
-use Rattle.sheetform.specs.Form.{malformed, beyond, judgeItems, judgeFile, judgeSheet}
+use Rattle.reply.specs.Verdicts.{beyond}
+use Rattle.sheetform.specs.Form.{badSheet, judgeItems, judgeFile, judgeSheet}
 
 -- ---- check_file
 module _ (s : List ℕ) (i t a e : ℕ) where
-  pub file-other : (t ≡ fileTag → ⊥) → malformed ≡ judgeFile s i t a e
+  pub file-other : (t ≡ fileTag → ⊥) → badSheet ≡ judgeFile s i t a e
   unfolding judgeFile
   file-other n = simp (judgeFile, ne-eqb t fileTag n)
 
@@ -37,7 +39,7 @@ module _ (s : List ℕ) (i t a e : ℕ) where
     file-beyond h = simp (judgeFile, eq-eqb t fileTag y, le-ltb i mostFiles h)
 
     module _ (h : i < mostFiles) (r : Leaf) (q : r ≡ leafAt packageTag isRelOrEmpty s a e) where
-      pub file-unnamed : r ≡ Not → malformed ≡ judgeFile s i t a e
+      pub file-unnamed : r ≡ Not → badSheet ≡ judgeFile s i t a e
       unfolding judgeFile
       file-unnamed g = simp (judgeFile, eq-eqb t fileTag y, lt-ltb i mostFiles h, ← q, g)
 
@@ -66,10 +68,10 @@ unfolding judgeFile
 file-early s i t a e = go (eqb t fileTag) (ltb i mostFiles) refl _
   where
     go : (b b′ : Bool) → ltb i mostFiles ≡ b′ → (v : Verdict)
-        → Fine ≡ elim b [ true ↦ elim b′ [ true ↦ v | false ↦ beyond ] | false ↦ malformed ] → i < mostFiles
+        → Fine ≡ elim b [ true ↦ elim b′ [ true ↦ v | false ↦ beyond ] | false ↦ badSheet ] → i < mostFiles
     go true true p v h = ltb-true i mostFiles p
-    go true false p v h = absurd (let z : _≡_ {A = ℕ} 0 1 = cc in omega arith)
-    go false b′ p v h = absurd (let z : _≡_ {A = ℕ} 0 1 = cc in omega arith)
+    go true false p v h = never cc
+    go false b′ p v h = never cc
 
 pub file-counted : (s : List ℕ) (i t a e : ℕ) (u : Verdict) → u ≡ judgeFile s i t a e → u ≡ Fine → i + 1 < 2 ^ 64
 file-counted s i t a e u q g = omega (arith, file-early s i t a e (sym g ∙ q))

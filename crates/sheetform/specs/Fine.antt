@@ -3,7 +3,7 @@
 --   goodValues s vs <=> every value's name is an identifier
 --     goodItems s i <=> every name, path, number, type and label among the items, at every depth, is what 01 allows
 --    goodFiles s fs <=> so it is in all files, their packages too
---          tagsOf i ==  the tags of the items, in order
+--          itemTags i ==  the tags of the items, in order
 --
 -- Assumes nothing.
 use mathlib.Core.Bool.{Bool, true, _&&_}
@@ -32,9 +32,9 @@ abbrev pub goodFiles : List ℕ → List File → Bool
 goodFiles s [] = true
 goodFiles s (f ∷ fs) = isRelOrEmpty (text s (f .packageName)) && goodItems s (f .items) && goodFiles s fs
 
-abbrev pub tagsOf : Items → List ℕ
-tagsOf none = []
-tagsOf (message n b i r) = messageTag ∷ tagsOf r
-tagsOf (extension d r) = extensionTag ∷ tagsOf r
-tagsOf (enumeration n b vs r) = enumTag ∷ tagsOf r
-tagsOf (field d r) = fieldTag ∷ tagsOf r
+abbrev pub itemTags : Items → List ℕ
+itemTags none = []
+itemTags (message n b i r) = messageTag ∷ itemTags r
+itemTags (extension d r) = extensionTag ∷ itemTags r
+itemTags (enumeration n b vs r) = enumTag ∷ itemTags r
+itemTags (field d r) = fieldTag ∷ itemTags r

@@ -1,7 +1,7 @@
 -- The verdict of a sheet: 01, Replies, "by over-length, then .. the first fault from the front (a container holds its children's faults; a
 -- limit is a fault where it is passed)".
 --
---           malformed, beyond == a fault of form, and a limit that is passed
+--                   badSheet == a fault of form
 --          judgeValue s t a e == one field of an enum, after its name
 --             judgeEnum s a e == an enum
 --   judgeItem inner b s t a e == one field of a file or, where b holds, of a message; `inner` judges a message
@@ -22,25 +22,22 @@ use Rattle.path.specs.Path.{isRelOrEmpty}
 use Rattle.reply.specs.declared.Refusal.the-variants.{BadSheet, BeyondLimit}
 use Rattle.reply.specs.declared.Verdict.{Verdict}
 use Rattle.reply.specs.declared.Verdict.the-variants.{Refused}
-use Rattle.reply.specs.Verdicts.{judged}
+use Rattle.reply.specs.Verdicts.{judged, beyond}
 use Rattle.field.specs.Walk.{walk}
 use Rattle.field.specs.Leaf.{onLeaf, leafAt}
 use Rattle.form.specs.Each.{each, eachFrom}
 use Rattle.sheet.specs.Table.{fileTag, messageTag, extensionTag, enumTag, fieldTag, valueTag, packageTag, nameTag}
 use Rattle.sheetform.specs.Declarations.{isExtension, isField, isValue}
 
-abbrev pub malformed : Verdict
-malformed = Refused BadSheet
-
-abbrev pub beyond : Verdict
-beyond = Refused BeyondLimit
+abbrev pub badSheet : Verdict
+badSheet = Refused BadSheet
 
 -- tag 04: "11, then 06 values"
 unfoldable pub judgeValue : List ℕ → ℕ → ℕ → ℕ → Verdict
-judgeValue s t a e = elim (eqb t valueTag) [ true ↦ judged BadSheet (isValue s a e) | false ↦ malformed ]
+judgeValue s t a e = elim (eqb t valueTag) [ true ↦ judged BadSheet (isValue s a e) | false ↦ badSheet ]
 
 unfoldable pub judgeEnum : List ℕ → ℕ → ℕ → Verdict
-judgeEnum s a e = onLeaf malformed (leafAt nameTag isIdent s a e) λ n body. each BadSheet (judgeValue s) (walk s body e)
+judgeEnum s a e = onLeaf badSheet (leafAt nameTag isIdent s a e) λ n body. each BadSheet (judgeValue s) (walk s body e)
 
 -- "any of 02, 03, 04" in a file, "any of 02, 03, 04, 05" in a message
 unfoldable pub judgeItem : (ℕ → ℕ → Verdict) → Bool → List ℕ → ℕ → ℕ → ℕ → Verdict
@@ -51,8 +48,8 @@ judgeItem inner fields s t a e = elim (eqb t messageTag) [
     | false ↦ elim (eqb t enumTag) [
       | true ↦ judgeEnum s a e
       | false ↦ elim (eqb t fieldTag) [
-        | true ↦ elim fields [ true ↦ judged BadSheet (isField s a e) | false ↦ malformed ]
-        | false ↦ malformed
+        | true ↦ elim fields [ true ↦ judged BadSheet (isField s a e) | false ↦ badSheet ]
+        | false ↦ badSheet
       ]
     ]
   ]
@@ -62,7 +59,7 @@ judgeItem inner fields s t a e = elim (eqb t messageTag) [
 abbrev pub judgeMessage : ℕ → List ℕ → ℕ → ℕ → Verdict
 judgeMessage zero s a e = beyond
 judgeMessage (suc d) s a e =
-    onLeaf malformed (leafAt nameTag isIdent s a e) λ n body. each BadSheet (judgeItem (judgeMessage d s) true s) (walk s body e)
+    onLeaf badSheet (leafAt nameTag isIdent s a e) λ n body. each BadSheet (judgeItem (judgeMessage d s) true s) (walk s body e)
 
 unfoldable pub judgeItems : ℕ → Bool → List ℕ → ℕ → ℕ → Verdict
 judgeItems d fields s a e = each BadSheet (judgeItem (judgeMessage d s) fields s) (walk s a e)
@@ -71,10 +68,10 @@ judgeItems d fields s a e = each BadSheet (judgeItem (judgeMessage d s) fields s
 unfoldable pub judgeFile : List ℕ → ℕ → ℕ → ℕ → ℕ → Verdict
 judgeFile s i t a e = elim (eqb t fileTag) [
   | true ↦ elim (ltb i mostFiles) [
-    | true ↦ onLeaf malformed (leafAt packageTag isRelOrEmpty s a e) λ n body. judgeItems mostMessages false s body e
+    | true ↦ onLeaf badSheet (leafAt packageTag isRelOrEmpty s a e) λ n body. judgeItems mostMessages false s body e
     | false ↦ beyond
   ]
-  | false ↦ malformed
+  | false ↦ badSheet
 ]
 
 -- "A sheet is files or none"; "sheet 32,768 bytes"

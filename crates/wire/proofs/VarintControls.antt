@@ -5,7 +5,7 @@ use mathlib.Core.Bool.{true, false}
 use mathlib.Core.List.{List, [], _∷_}
 use Prim.Native.Nat.{ℕ, _-_, _^_}
 use Rattle.wire.specs.declared.varint.Read.the-variants.{Varint, Bad}
-use Rattle.wire.specs.Varint.{varintWithin, varint, readWithin, readVarint, placed, varintAt}
+use Rattle.wire.specs.Varint.{varintWithin, varint, readWithin, readVarint, atPlace, varintAt}
 use Rattle.wire.specs.Tag.{tagOf, numberOf, wireTypeOf, tagGood}
 use Rattle.wire.specs.Fixed.{littleOf, little}
 
@@ -51,7 +51,7 @@ read-cut : (readVarint (0x80 ∷ []) ≡ Bad) × (readVarint (nine 0x80 []) ≡ 
 unfolding readVarint readWithin
 read-cut = (refl, refl, refl)
 
-placed-next : (placed 7 (Varint 150 2) ≡ Varint 150 9) × (placed 7 Bad ≡ Bad)
+placed-next : (atPlace 7 (Varint 150 2) ≡ Varint 150 9) × (atPlace 7 Bad ≡ Bad)
 placed-next = (refl, refl)
 
 -- between two places: up to the second, and cut by it

@@ -12,7 +12,7 @@ use Rattle.limits.specs.Figures.{mostVarint}
 use Rattle.octets.specs.Octets.{part}
 use Rattle.wire.specs.declared.varint.Read.{Read}
 use Rattle.wire.specs.declared.varint.Read.the-variants.{Varint, Bad}
-use Rattle.wire.specs.Varint.{varintWithin, varint, onto, readWithin, readVarint, placed, varintAt}
+use Rattle.wire.specs.Varint.{varintWithin, varint, continued, readWithin, readVarint, atPlace, varintAt}
 use Rattle.octets.proofs.Bytes.{Bytes, bytes-one, bytes-cons}
 
 -- ---- the definitions as equations
@@ -39,7 +39,7 @@ module _ (b : ℕ) (bs : List ℕ) where
   unfolding readWithin
   read-one k h = rw (readWithin, lt-ltb b 128 h)
 
-  pub read-more : (k : ℕ) → 128 ≤ b → readWithin (suc k) (b ∷ bs) ≡ onto b (readWithin k bs)
+  pub read-more : (k : ℕ) → 128 ≤ b → readWithin (suc k) (b ∷ bs) ≡ continued b (readWithin k bs)
   unfolding readWithin
   read-more k h = rw (readWithin, le-ltb b 128 h)
 
@@ -138,7 +138,7 @@ abbrev Unless-bad : ℕ → List ℕ → Read → Type 0
 Unless-bad k bs (Varint v n) = Reads k bs v n
 Unless-bad k bs Bad = Unit {0}
 
-onto-reads : (k b : ℕ) (bs : List ℕ) → 128 ≤ b → (r : Read) → Unless-bad k bs r → Unless-bad (suc k) (b ∷ bs) (onto b r)
+onto-reads : (k b : ℕ) (bs : List ℕ) → 128 ≤ b → (r : Read) → Unless-bad k bs r → Unless-bad (suc k) (b ∷ bs) (continued b r)
 onto-reads k b bs h (Varint v n) r = more h r refl
 onto-reads k b bs h Bad r = tt
 
@@ -219,7 +219,7 @@ Bounded at end Bad = Unit {0}
 part-length-le : (s : List ℕ) (at end : ℕ) → length (part s at end) ≤ end - at
 part-length-le s at end = rw (length-take (end - at) (drop at s)) (min-le-left (end - at) (length (drop at s)))
 
-placed-bounded : (s : List ℕ) (at end : ℕ) (r : Read) → readVarint (part s at end) ≡ r → Bounded at end (placed at r)
+placed-bounded : (s : List ℕ) (at end : ℕ) (r : Read) → readVarint (part s at end) ≡ r → Bounded at end (atPlace at r)
 placed-bounded s at end (Varint v n) e =
     let some = read-some (part s at end) v n e in
     let few : n ≤ end - at = le-trans (read-inside (part s at end) v n e) (part-length-le s at end) in

@@ -14,7 +14,7 @@ use Rattle.limits.specs.Figures.{mostVarint}
 use Rattle.octets.specs.Octets.{part}
 use Rattle.wire.specs.declared.varint.Read.{Read}
 use Rattle.wire.specs.declared.varint.Read.the-variants.{Varint, Bad}
-use Rattle.wire.specs.Varint.{onto, readWithin, readVarint, varintAt}
+use Rattle.wire.specs.Varint.{continued, readWithin, readVarint, varintAt}
 use Rattle.octets.proofs.Parts.{part-nil, part-cons}
 use Rattle.wire.proofs.VarintLaws.{read-last, read-over, read-one, read-more}
 
@@ -28,7 +28,7 @@ carried-start (Varint v n) = ap₂ Varint (omega arith) (omega arith)
 carried-start Bad = refl
 
 carried-onto : (value scale k b : ℕ) (r : Read)
-    → carried value scale k (onto b r) ≡ carried (value + b % 128 * scale) (scale * 128) (k + 1) r
+    → carried value scale k (continued b r) ≡ carried (value + b % 128 * scale) (scale * 128) (k + 1) r
 carried-onto value scale k b (Varint v n) = ap₂ Varint (tidy (b % 128)) (omega arith)
   where
     tidy : (c : ℕ) → value + scale * (c + 128 * v) ≡ value + c * scale + scale * 128 * v

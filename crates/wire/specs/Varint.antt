@@ -3,10 +3,10 @@
 --
 --    varintWithin k v == the shortest varint of v, where k bytes at the most follow its first
 --            varint v == the shortest varint of v
---            onto b r == a byte b with its top bit set, in front of what r is
+--            continued b r == a byte b with its top bit set, in front of what r is
 --     readWithin k bs == the varint at the front of bs, where k bytes at the most follow its first: its value and how many bytes it has
 --       readVarint bs == the varint at the front of bs, or that there is none
---         placed at r == what was read at the place `at`, with the place after it
+--         atPlace at r == what was read at the place `at`, with the place after it
 --   varintAt s at end == the varint of s between two places that starts at the first, with the place after it
 --
 -- Assumes nothing.
@@ -26,23 +26,23 @@ varintWithin (suc k) v = elim (ltb v 128) [ true ↦ v ∷ [] | false ↦ (128 +
 unfoldable pub varint : ℕ → List ℕ
 varint v = varintWithin (mostVarint - 1) v
 
-abbrev pub onto : ℕ → Read → Read
-onto b (Varint v n) = Varint (b % 128 + 128 * v) (suc n)
-onto b Bad = Bad
+abbrev pub continued : ℕ → Read → Read
+continued b (Varint v n) = Varint (b % 128 + 128 * v) (suc n)
+continued b Bad = Bad
 
 -- the tenth byte holds one bit: above 1 it would pass 64 bits, or an eleventh byte would follow
 unfoldable pub readWithin : ℕ → List ℕ → Read
 readWithin k [] = Bad
 readWithin zero (b ∷ bs) = elim (ltb b 2) [ true ↦ Varint b 1 | false ↦ Bad ]
-readWithin (suc k) (b ∷ bs) = elim (ltb b 128) [ true ↦ Varint b 1 | false ↦ onto b (readWithin k bs) ]
+readWithin (suc k) (b ∷ bs) = elim (ltb b 128) [ true ↦ Varint b 1 | false ↦ continued b (readWithin k bs) ]
 
 -- 01, Listing: "Varints may be overlong, up to ten bytes and 64 bits"
 unfoldable pub readVarint : List ℕ → Read
 readVarint bs = readWithin (mostVarint - 1) bs
 
-abbrev pub placed : ℕ → Read → Read
-placed at (Varint v n) = Varint v (at + n)
-placed at Bad = Bad
+abbrev pub atPlace : ℕ → Read → Read
+atPlace at (Varint v n) = Varint v (at + n)
+atPlace at Bad = Bad
 
 unfoldable pub varintAt : List ℕ → ℕ → ℕ → Read
-varintAt s at end = placed at (readVarint (part s at end))
+varintAt s at end = atPlace at (readVarint (part s at end))

@@ -2,11 +2,11 @@
 ghost use mathlib.Core.Path.{_≡_};
 ghost use Prim.Native.Nat.{_<_};
 ghost use Rattle.wire.specs.Tag.{tagOf, numberOf, wireTypeOf, tagGood as tagGoodOf};
+use limits::MOST_NUMBER;
 use types::I32;
 use types::I64;
 use types::LEN;
 use types::VARINT;
-use limits::MOST_NUMBER;
 
 // The tag of a field number and a wire type.
 pub fn tag_of(number: u32, wire: u8) -> u64

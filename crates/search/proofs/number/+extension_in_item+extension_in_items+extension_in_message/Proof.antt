@@ -4,7 +4,7 @@
 use Prim.Native.Nat.{_+_, _*_, _-_, ℕ, _<_}
 use Rattle.field.proofs.Seek.{Seeking}
 use Rattle.sheet.specs.declared.declaration.Declared.the-variants.{NoDeclaration}
-use Rattle.search.specs.Number.{isExtension}
+use Rattle.search.specs.Number.{isExtensionOf}
 use Rattle.scope.proofs.Answers.{orDeclared}
 use Rattle.search.proofs.NumberLaws.{itemWhere, in-item-laws, in-items-laws, in-message-laws}
 use borrow.Author.Needs.{needs}
@@ -54,7 +54,7 @@ in-message-below t = and 2 in-message-kinds.ps (falls 2 in-message-kinds.ps _<_ 
 
 abbrev Inv-loop : in-items-lts.InvT-loop
 Inv-loop s from to left message number at₀ at =
-    Seeking NoDeclaration orDeclared (itemWhere (isExtension s message number) left s) s from to at
+    Seeking NoDeclaration orDeclared (itemWhere (isExtensionOf s message number) left s) s from to at
 
 abbrev μ-loop : in-items-lts.MeasureT-loop
 μ-loop s from to left message number at₀ at = to - at

@@ -1,0 +1,13 @@
+-- `constant::integer_of` meets its contract.
+-- Assumes nothing.
+use Rattle.request.proofs.ConstantLaws.{signed-laws}
+use borrow.Author.Needs.{needs}
+use Rattle.request.proofs.constant.integer_of.Statement.{statement}
+use Rattle.request.proofs.constant.integer_of.Tie as tie
+
+pub integer-of-spec : {M : Type 1} → statement M
+integer-of-spec = tie.close (tie.spec
+    (λ c. search (needs, signed-laws))
+    (λ c. search (needs, signed-laws))
+    (λ c. search (needs, signed-laws))
+    (λ c. search (needs, signed-laws)))
