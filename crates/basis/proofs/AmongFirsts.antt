@@ -6,7 +6,7 @@ use mathlib.Core.List.{List, [], _∷_, _++_}
 use mathlib.Core.Option.{Option, none, some}
 use Prim.Native.Nat.{ℕ}
 use Rattle.basis.proofs.Never.{never}
-use Rattle.basis.specs.First.{pick, first, given, orElse, firstSome}
+use Rattle.basis.specs.First.{onlyIf, first, given, orElse, firstSome}
 use Rattle.basis.proofs.FirstLaws.{given-holds, or-else-last}
 use Rattle.basis.specs.Among.{Among, here, there, Behind}
 use Rattle.basis.proofs.AmongLaws.{behind-here, behind-next}
@@ -54,7 +54,7 @@ module _ {A B : Type 0} (f : A → Option B) where
       go (z ∷ front) h = rw (h z here) (go front λ w m. h w (there m))
 
 -- ---- the first that passes a test
-pick-none : {A : Type 0} (b : Bool) (x : A) (o : Option A) → pick b x o ≡ none → (b ≡ false) × (o ≡ none)
+pick-none : {A : Type 0} (b : Bool) (x : A) (o : Option A) → onlyIf b (some x) o ≡ none → (b ≡ false) × (o ≡ none)
 pick-none true x o e = never cc
 pick-none false x o e = (refl, e)
 
@@ -76,7 +76,7 @@ module _ {A : Type 0} (good : A → Bool) where
   first-some [] e = never cc
   first-some {x} (y ∷ xs) e = go (good y) refl e (first-some xs)
     where
-      go : (b : Bool) → good y ≡ b → pick b y (first good xs) ≡ some x → (first good xs ≡ some x → Passes x xs) → Passes x (y ∷ xs)
+      go : (b : Bool) → good y ≡ b → onlyIf b (some y) (first good xs) ≡ some x → (first good xs ≡ some x → Passes x xs) → Passes x (y ∷ xs)
       go true h q ih = let u : y ≡ x = cc in rw (← u) (record { passes = h; behind = behind-here y xs })
       go false h q ih = record { passes = ih q .passes; behind = behind-next (λ t. true≢false (sym t ∙ h)) (ih q .behind) }
 

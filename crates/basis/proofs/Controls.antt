@@ -6,14 +6,14 @@ use mathlib.Core.List.{List, [], _∷_, map}
 use mathlib.Core.Option.{Option, none, some}
 use Prim.Native.Nat.{ℕ, _*_}
 use lib.Dec.{ltb}
-use Rattle.basis.specs.First.{pick, first, firstSome, collect}
+use Rattle.basis.specs.First.{onlyIf, first, firstSome, collect}
 
 -- ---- lists: what is above 2, and ten times that
 abbrev lists : List (List ℕ)
 lists = (1 ∷ 3 ∷ []) ∷ (1 ∷ 4 ∷ 3 ∷ []) ∷ (1 ∷ 2 ∷ []) ∷ []
 
 abbrev tenfold : ℕ → Option ℕ
-tenfold n = pick (ltb 2 n) (10 * n) none
+tenfold n = onlyIf (ltb 2 n) (some (10 * n)) none
 
 firsts : map (first (ltb 2)) lists ≡ some 3 ∷ some 4 ∷ none ∷ []
 firsts = refl

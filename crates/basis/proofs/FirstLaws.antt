@@ -10,7 +10,7 @@ use mathlib.Core.List.{List, [], _∷_, _++_}
 use mathlib.Core.Option.{Option, none, some}
 use Prim.Native.Nat.{ℕ}
 use Rattle.basis.proofs.Never.{never}
-use Rattle.basis.specs.First.{pick, first, given, orElse, onto, collect}
+use Rattle.basis.specs.First.{onlyIf, first, given, orElse, onto, collect}
 
 -- ---- one thing, or nothing: what holds of all that f makes holds of what is given
 pub given-holds : {A B : Type 0} (o : Option A) (f : A → Option B) (b : B) (P : Type 0) → ((a : A) → o ≡ some a → f a ≡ some b → P)
@@ -35,7 +35,7 @@ module _ {A : Type 0} (good : A → Bool) where
   first-append [] ys = refl
   first-append (x ∷ xs) ys = picked (good x) (first good xs) (first good (xs ++ ys)) (first-append xs ys)
     where
-      picked : (b : Bool) (o p : Option A) → p ≡ orElse o (first good ys) → pick b x p ≡ orElse (pick b x o) (first good ys)
+      picked : (b : Bool) (o p : Option A) → p ≡ orElse o (first good ys) → onlyIf b (some x) p ≡ orElse (onlyIf b (some x) o) (first good ys)
       picked true o p q = refl
       picked false o p q = q
 
@@ -56,6 +56,6 @@ pub first-holds : {A : Type 0} (P : A → Type 0) (good : A → Bool) {xs : List
 first-holds P good none-of x q = never cc
 first-holds P good (one-of {x = y} {xs = ys} h t) x q = go (good y) (first-holds P good t x) q
   where
-    go : (b : Bool) → (first good ys ≡ some x → P x) → pick b y (first good ys) ≡ some x → P x
+    go : (b : Bool) → (first good ys ≡ some x → P x) → onlyIf b (some y) (first good ys) ≡ some x → P x
     go true k q = let u : x ≡ y = cc in rw u h
     go false k q = k q

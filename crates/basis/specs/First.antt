@@ -1,6 +1,7 @@
--- The first of a list, with regard to a test or to what comes of its elements.
+-- One of two, and the first of a list, with regard to a test or to what comes of its elements.
 --
---       pick b x o == x where b holds, else o
+--     onlyIf b x y == x where b holds, else y
+--       told x f o == what is answered of o: f of that which it holds, x where it holds nothing
 --    first good xs == the first of xs that passes the test
 --        given o f == what f makes of that which o holds, none where o holds nothing
 --       orElse o p == o, or p where o holds nothing
@@ -13,13 +14,17 @@ use mathlib.Core.Bool.{Bool, true, false}
 use mathlib.Core.List.{List, [], _∷_}
 use mathlib.Core.Option.{Option, none, some}
 
-abbrev pub pick : {A : Type 0} → Bool → A → Option A → Option A
-pick true x o = some x
-pick false x o = o
+abbrev pub onlyIf : {A : Type 0} → Bool → A → A → A
+onlyIf true x y = x
+onlyIf false x y = y
+
+abbrev pub told : {A B : Type 0} → (lacking : B) (having : A → B) → Option A → B
+told lacking having none = lacking
+told lacking having (some a) = having a
 
 abbrev pub first : {A : Type 0} → (A → Bool) → List A → Option A
 first good [] = none
-first good (x ∷ xs) = pick (good x) x (first good xs)
+first good (x ∷ xs) = onlyIf (good x) (some x) (first good xs)
 
 abbrev pub given : {A B : Type 0} → Option A → (A → Option B) → Option B
 given none f = none

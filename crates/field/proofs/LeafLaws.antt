@@ -8,6 +8,7 @@ use native.Mathlib.Omega.{arith}
 use borrow.Author.Tests.{eq-eqb, ne-eqb, eqb-true}
 use lib.Dec.{eqb}
 use lib.ListN.{length}
+use Rattle.basis.specs.First.{onlyIf}
 use Rattle.basis.proofs.Never.{never}
 use Rattle.octets.specs.Octets.{part}
 use Rattle.octets.proofs.Parts.{part-length}
@@ -16,7 +17,7 @@ use Rattle.field.specs.declared.Field.the-variants.{Whole, Cut}
 use Rattle.field.specs.declared.Leaf.{Leaf}
 use Rattle.field.specs.declared.Leaf.the-variants.{At, Not}
 use Rattle.field.specs.Field.{fieldAt}
-use Rattle.field.specs.Leaf.{anyBytes, ofSize, onlyIf, onLeaf, leafOf, leafAt}
+use Rattle.field.specs.Leaf.{anyBytes, ofSize, onLeaf, leafOf, leafAt}
 use Rattle.field.proofs.FieldLaws.{Bounds, field-bounds}
 
 -- ---- from the field
@@ -40,7 +41,7 @@ leaf-inv : (k : ℕ) (good : List ℕ → Bool) (s : List ℕ) (at end a e : ℕ
 leaf-inv k good s at end a e Cut q p = never cc
 leaf-inv k good s at end a e (Whole t n m) q p = go (eqb t k) (good (part s n m)) p
   where
-    go : (b b′ : Bool) → At a e ≡ onlyIf (b && b′) (At n m) → Bounds at end a e
+    go : (b b′ : Bool) → At a e ≡ onlyIf (b && b′) (At n m) Not → Bounds at end a e
     go false b′ p = never cc
     go true false p = never cc
     go true true p =
@@ -69,16 +70,16 @@ module _ (k : ℕ) (good : List ℕ → Bool) (s : List ℕ) (at end : ℕ) wher
   any-other Cut p = refl
   any-other (Whole t a e) p = go (eqb t k) (good (part s a e)) p
     where
-      go : (b b′ : Bool) → Not ≡ onlyIf (b && true) (At a e) → Not ≡ onlyIf (b && b′) (At a e)
+      go : (b b′ : Bool) → Not ≡ onlyIf (b && true) (At a e) Not → Not ≡ onlyIf (b && b′) (At a e) Not
       go true b′ p = never cc
       go false b′ p = refl
 
   any-same : (f : Field) (a e : ℕ) → At a e ≡ leafOf k anyBytes s f → (b : Bool) → b ≡ good (part s a e)
-      → leafOf k good s f ≡ onlyIf b (At a e)
+      → leafOf k good s f ≡ onlyIf b (At a e) Not
   any-same Cut a e p b x = never cc
   any-same (Whole t n m) a e p b x = go (eqb t k) p
     where
-      go : (c : Bool) → At a e ≡ onlyIf (c && true) (At n m) → onlyIf (c && good (part s n m)) (At n m) ≡ onlyIf b (At a e)
+      go : (c : Bool) → At a e ≡ onlyIf (c && true) (At n m) Not → onlyIf (c && good (part s n m)) (At n m) Not ≡ onlyIf b (At a e) Not
       go false p = never cc
       go true p =
           let u : a ≡ n = cc in
@@ -91,7 +92,7 @@ module _ (k : ℕ) (good : List ℕ → Bool) (s : List ℕ) (at end : ℕ) wher
     leaf-none g = any-other (fieldAt s at end) (sym g ∙ q)
 
     module _ (a e : ℕ) (g : r ≡ At a e) (b : Bool) (x : b ≡ good (part s a e)) where
-      leaf-open : leafAt k good s at end ≡ onlyIf b (At a e)
+      leaf-open : leafAt k good s at end ≡ onlyIf b (At a e) Not
       unfolding leafAt
       leaf-open = any-same (fieldAt s at end) a e (sym g ∙ q) b x
 
@@ -123,7 +124,7 @@ leaf-passed : (k : ℕ) (good : List ℕ → Bool) (s : List ℕ) (a e : ℕ) (f
 leaf-passed k good s a e Cut p = never cc
 leaf-passed k good s a e (Whole t n m) p = go (eqb t k) (good (part s n m)) refl p
   where
-    go : (b b′ : Bool) → good (part s n m) ≡ b′ → At a e ≡ onlyIf (b && b′) (At n m) → good (part s a e) ≡ true
+    go : (b b′ : Bool) → good (part s n m) ≡ b′ → At a e ≡ onlyIf (b && b′) (At n m) Not → good (part s a e) ≡ true
     go false b′ x p = never cc
     go true false x p = never cc
     go true true x p =
@@ -136,7 +137,7 @@ leaf-dropped : (k : ℕ) (good : List ℕ → Bool) (s : List ℕ) (a e : ℕ) (
 leaf-dropped k good s a e Cut p = p
 leaf-dropped k good s a e (Whole t n m) p = go (eqb t k) (good (part s n m)) p
   where
-    go : (b b′ : Bool) → At a e ≡ onlyIf (b && b′) (At n m) → At a e ≡ onlyIf (b && true) (At n m)
+    go : (b b′ : Bool) → At a e ≡ onlyIf (b && b′) (At n m) Not → At a e ≡ onlyIf (b && true) (At n m) Not
     go false b′ p = p
     go true false p = never cc
     go true true p = p

@@ -5,7 +5,6 @@
 --                 Lies p s <-> the span is one of s: it ends no earlier than it starts, and no later than s does
 --              anyBytes bs <=> nothing is asked of the bytes
 --              ofSize n bs <=> there are n bytes
---               onlyIf b l ==  the leaf l where b holds
 --        leafOf k good s f ==  the payload of the field f, where that is whole, has the tag k and passes the test
 --   leafAt k good s at end ==  the payload of the field at a place, where that is whole, has the tag k and passes the test
 --       onLeaf none l some ==  `some` of a leaf's two places, `none` where there is no leaf
@@ -16,6 +15,7 @@ use mathlib.Core.List.{List}
 use Prim.Native.Nat.{ℕ, _≤_}
 use lib.Dec.{eqb}
 use lib.ListN.{length}
+use Rattle.basis.specs.First.{onlyIf}
 use Rattle.octets.specs.Octets.{part}
 use Rattle.field.specs.declared.Field.{Field}
 use Rattle.field.specs.declared.Field.the-variants.{Whole, Cut}
@@ -39,13 +39,9 @@ anyBytes bs = true
 abbrev pub ofSize : ℕ → List ℕ → Bool
 ofSize n bs = eqb (length bs) n
 
-abbrev pub onlyIf : Bool → Leaf → Leaf
-onlyIf true l = l
-onlyIf false l = Not
-
 abbrev pub leafOf : ℕ → (List ℕ → Bool) → List ℕ → Field → Leaf
 leafOf k good s Cut = Not
-leafOf k good s (Whole t a e) = onlyIf (eqb t k && good (part s a e)) (At a e)
+leafOf k good s (Whole t a e) = onlyIf (eqb t k && good (part s a e)) (At a e) Not
 
 unfoldable pub leafAt : ℕ → (List ℕ → Bool) → List ℕ → ℕ → ℕ → Leaf
 leafAt k good s at end = leafOf k good s (fieldAt s at end)

@@ -11,6 +11,7 @@ use mir.Syntax.{w32}
 use mir.Val.{Fits}
 use lib.Dec.{ltb, leb}
 use lib.ListN.{length}
+use Rattle.basis.specs.First.{onlyIf}
 use Rattle.basis.proofs.Never.{never}
 use Rattle.limits.specs.Figures.{mostSheet}
 use Rattle.octets.specs.Octets.{part}
@@ -26,7 +27,6 @@ use Rattle.reply.proofs.VerdictLaws.{refused-fine, first-fine-front}
 use Rattle.field.specs.declared.Leaf.{Leaf}
 use Rattle.field.specs.declared.Leaf.the-variants.{At, Not}
 use Rattle.field.specs.declared.Span.{Span}
-use Rattle.field.specs.Leaf.{onlyIf}
 use Rattle.sheetform.specs.Form.{judgeSheet}
 use Rattle.search.specs.declared.extension.Found.{Found}
 use Rattle.search.specs.declared.extension.Resolved.{Resolved}
@@ -153,7 +153,7 @@ unfolding spanIn
 span-inside t p a e = go (leb (p .from) (p .to)) refl (leb (p .to) (length t)) refl
   where
     go : (b : Bool) → leb (p .from) (p .to) ≡ b → (b′ : Bool) → leb (p .to) (length t) ≡ b′
-        → At a e ≡ onlyIf (b && b′) (At (p .from) (p .to)) → Inside t a e
+        → At a e ≡ onlyIf (b && b′) (At (p .from) (p .to)) Not → Inside t a e
     go false x b′ x′ q = never cc
     go true x false x′ q = never cc
     go true x true x′ q =

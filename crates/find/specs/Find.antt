@@ -19,6 +19,7 @@ use mathlib.Core.Option.{Option, none, some}
 use Prim.Native.Nat.{ℕ, _-_}
 use lib.Dec.{leb}
 use lib.ListN.{length}
+use Rattle.basis.specs.First.{onlyIf}
 use Rattle.octets.specs.Octets.{part}
 use Rattle.reply.specs.declared.Refusal.the-variants.{ExtensionNotFound}
 use Rattle.reply.specs.declared.Verdict.{Verdict}
@@ -27,8 +28,8 @@ use Rattle.reply.specs.Verdicts.{firstFault}
 use Rattle.reply.specs.Outcome.{Outcome, refuse, give}
 use Rattle.field.specs.declared.Span.{Span}
 use Rattle.field.specs.declared.Leaf.{Leaf}
-use Rattle.field.specs.declared.Leaf.the-variants.{At}
-use Rattle.field.specs.Leaf.{text, onlyIf, onLeaf}
+use Rattle.field.specs.declared.Leaf.the-variants.{At, Not}
+use Rattle.field.specs.Leaf.{text, onLeaf}
 use Rattle.sheetform.specs.Form.{judgeSheet}
 use Rattle.requestform.specs.Form.{judgeScope, judgePath}
 use Rattle.search.specs.declared.extension.Found.{Found}
@@ -78,7 +79,7 @@ foundName s c p = nameIn s (finding s c p)
 
 -- the span as a leaf of t
 unfoldable pub spanIn : List ℕ → Span → Leaf
-spanIn t p = onlyIf (leb (p .from) (p .to) && leb (p .to) (length t)) (At (p .from) (p .to))
+spanIn t p = onlyIf (leb (p .from) (p .to) && leb (p .to) (length t)) (At (p .from) (p .to)) Not
 
 -- on a refusal a part is empty
 unfoldable pub nameFor : List ℕ → List ℕ → Span → Span → List ℕ

@@ -1,15 +1,21 @@
 -- What tests of form say together, from 01's "Replies": "the first fault from the front".
 --
---   firstFault u v == u, and v where u is fine
---       judged w b == fine where b holds, else refused by w
---           beyond == a limit that is passed
+--   firstFault u v ==  u, and v where u is fine
+--       judged w b ==  fine where b holds, else refused by w
+--           beyond ==  a limit that is passed
+--        replyOf v ==  the number of a verdict in 01's table, 0 where it is fine
+--       secondOf v ==  its second word
+--         Says v r <-> the answer r is the verdict v, and so has its number and its second word
 --
 -- Assumes nothing.
+use mathlib.Core.Path.{_≡_}
 use mathlib.Core.Bool.{Bool, true, false}
+use Prim.Native.Nat.{ℕ}
 use Rattle.reply.specs.declared.Refusal.{Refusal}
 use Rattle.reply.specs.declared.Refusal.the-variants.{BeyondLimit}
 use Rattle.reply.specs.declared.Verdict.{Verdict}
 use Rattle.reply.specs.declared.Verdict.the-variants.{Fine, Refused}
+use Rattle.reply.specs.Reply.{number, second}
 
 abbrev pub firstFault : Verdict → Verdict → Verdict
 firstFault Fine v = v
@@ -22,3 +28,17 @@ judged w false = Refused w
 -- 01, Replies: 3, "a figure of "Most allowed" .. passed"
 abbrev pub beyond : Verdict
 beyond = Refused BeyondLimit
+
+-- 01: "Where an answer is an enum, a definition gives this paper's number and values for each of its cases. The promises use that definition."
+abbrev pub replyOf : Verdict → ℕ
+replyOf Fine = 0
+replyOf (Refused w) = number w
+
+abbrev pub secondOf : Verdict → ℕ
+secondOf Fine = 0
+secondOf (Refused w) = second w
+
+pub record Says (v r : Verdict) : Type 0 where
+  pub is : r ≡ v
+  pub reply : replyOf r ≡ replyOf v
+  pub second : secondOf r ≡ secondOf v

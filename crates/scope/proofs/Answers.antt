@@ -21,9 +21,9 @@ use Rattle.sheet.proofs.MemberLaws.{listed}
 use Rattle.scope.specs.declared.lookup.LookupScope.{LookupScope}
 use Rattle.scope.specs.declared.lookup.Reached.{Reached}
 use Rattle.scope.specs.declared.lookup.Reached.the-variants.{To, Nowhere}
-use Rattle.basis.specs.First.{pick, first, orElse}
+use Rattle.basis.specs.First.{onlyIf, first, orElse}
 use Rattle.scope.specs.Scope.{Scope, placed, declared}
-use Rattle.scope.specs.Steps.{kept, whose}
+use Rattle.scope.specs.Steps.{whose}
 use Rattle.basis.proofs.FirstLaws.{first-append}
 
 -- ---- the first of two
@@ -74,7 +74,7 @@ module _ (good : Declaration → Bool) where
   declared-listed NoDeclaration = refl
   declared-listed (Declares d) = go (good d)
     where
-      go : (b : Bool) → declared (pick b d none) ≡ kept b d
+      go : (b : Bool) → declared (onlyIf b (some d) none) ≡ onlyIf b (Declares d) NoDeclaration
       go true = refl
       go false = refl
 

@@ -8,6 +8,7 @@
 -- Assumes nothing.
 use mathlib.Core.Path.{_≡_, refl, sym, _∙_}
 use mathlib.Core.Bool.{Bool, true, false}
+use mathlib.Core.Option.{some}
 use mathlib.Core.List.{List, [], _++_}
 use Prim.Native.Nat.{ℕ}
 use borrow.Author.Tests.{eq-eqb, ne-eqb}
@@ -35,9 +36,9 @@ use Rattle.sheet.specs.Tree.{Items, none, valueOnto as valuedWith, valueIn, val
 use Rattle.sheet.specs.Members.{declarationsOf}
 use Rattle.sheet.proofs.MemberLaws.{listed, extensions-item, fields-item}
 use Rattle.scope.specs.declared.lookup.LookupScope.{LookupScope}
-use Rattle.basis.specs.First.{pick, first}
+use Rattle.basis.specs.First.{onlyIf, first}
 use Rattle.scope.specs.Scope.{holding, isNamed, declarationNamed, valueNamed, declared, valued}
-use Rattle.scope.specs.Steps.{named, declarationAt, whose, keptValue, whoseValue, valueNamedAt}
+use Rattle.scope.specs.Steps.{named, declarationAt, whose, whoseValue, valueNamedAt}
 use Rattle.scope.proofs.Answers.{orDeclared, orValued, declared-append, declared-listed}
 
 -- ---- declaration_at
@@ -218,7 +219,7 @@ module _ (s n : List ℕ) where
   unfolding valueIn valueNamedAt
   value-step t a e rest = go (eqb t valueTag) (valueAt s a e)
     where
-      named-go : (b : Bool) (v : Value) → valued (pick b v (valueNamed s n rest)) ≡ orValued (keptValue b v) (valued (valueNamed s n rest))
+      named-go : (b : Bool) (v : Value) → valued (onlyIf b (some v) (valueNamed s n rest)) ≡ orValued (onlyIf b (Values v) NoValue) (valued (valueNamed s n rest))
       named-go true v = refl
       named-go false v = refl
 

@@ -16,7 +16,7 @@
 -- Assumes nothing.
 use mathlib.Core.Bool.{Bool, true, false}
 use mathlib.Core.List.{List}
-use mathlib.Core.Option.{Option, none, some}
+use mathlib.Core.Option.{Option, some}
 use Prim.Native.Nat.{ℕ, _-_}
 use Rattle.limits.specs.Figures.{mostMessages}
 use Rattle.octets.specs.Octets.{sameBytes}
@@ -36,7 +36,7 @@ use Rattle.sheet.specs.Members.{Message, Enumeration, messagesOf, enumsOf, decl
 use Rattle.scope.specs.declared.lookup.LookupScope.{LookupScope}
 use Rattle.scope.specs.declared.lookup.Reached.{Reached}
 use Rattle.scope.specs.declared.lookup.Reached.the-variants.{To, Nowhere}
-use Rattle.basis.specs.First.{first, given}
+use Rattle.basis.specs.First.{told, first, given}
 
 pub record Scope : Type 0 where
   pub place : LookupScope
@@ -70,17 +70,13 @@ abbrev pub valueNamed : List ℕ → List ℕ → List Value → Option Value
 valueNamed s n vs = first (λ v. isNamed s n (v .name)) vs
 
 abbrev pub placed : Option Scope → Reached
-placed none = Nowhere
-placed (some c) = To (c .place)
+placed = told Nowhere (λ c. To (c .place))
 
 abbrev pub declared : Option Declaration → Declared
-declared none = NoDeclaration
-declared (some d) = Declares d
+declared = told NoDeclaration Declares
 
 abbrev pub valued : Option Value → Valued
-valued none = NoValue
-valued (some v) = Values v
+valued = told NoValue Values
 
 abbrev pub bodied : Option Enumeration → Leaf
-bodied none = Not
-bodied (some e) = At (e .body .from) (e .body .to)
+bodied = told Not (λ e. At (e .body .from) (e .body .to))

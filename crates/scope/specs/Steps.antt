@@ -3,7 +3,6 @@
 --                named n bs <=> the bytes are the name n
 --        bodyAt k n s t a e ==  what stands after the name in a field of the tag k and of the name n
 --   declarationAt x s t a e ==  the extension that a field of a scope is, where x holds; else the message's field
---         kept, keptValue b ==  the declaration, the value, where b holds
 --              whose good d ==  the declaration d, where it passes the test; whoseValue likewise
 --    valueNamedAt n s t a e ==  the enum value that a field is, where its name is n
 --          itemAt d s t a e ==  what a field of a scope holds, with d levels of messages left
@@ -15,6 +14,7 @@ use mathlib.Core.Bool.{Bool, true, false}
 use mathlib.Core.List.{List, []}
 use Prim.Native.Nat.{ℕ}
 use lib.Dec.{eqb}
+use Rattle.basis.specs.First.{onlyIf}
 use Rattle.octets.specs.Octets.{sameBytes}
 use Rattle.field.specs.declared.Leaf.{Leaf}
 use Rattle.field.specs.declared.Leaf.the-variants.{At, Not}
@@ -40,21 +40,13 @@ unfoldable pub declarationAt : Bool → List ℕ → ℕ → ℕ → ℕ → Dec
 declarationAt true s t a e = elim (eqb t extensionTag) [ true ↦ extensionAt s a e | false ↦ NoDeclaration ]
 declarationAt false s t a e = elim (eqb t fieldTag) [ true ↦ messageFieldAt s a e | false ↦ NoDeclaration ]
 
-abbrev pub kept : Bool → Declaration → Declared
-kept true d = Declares d
-kept false d = NoDeclaration
-
 abbrev pub whose : (Declaration → Bool) → Declared → Declared
 whose good NoDeclaration = NoDeclaration
-whose good (Declares d) = kept (good d) d
-
-abbrev pub keptValue : Bool → Value → Valued
-keptValue true v = Values v
-keptValue false v = NoValue
+whose good (Declares d) = onlyIf (good d) (Declares d) NoDeclaration
 
 abbrev pub whoseValue : (Value → Bool) → Valued → Valued
 whoseValue good NoValue = NoValue
-whoseValue good (Values v) = keptValue (good v) v
+whoseValue good (Values v) = onlyIf (good v) (Values v) NoValue
 
 unfoldable pub valueNamedAt : List ℕ → List ℕ → ℕ → ℕ → ℕ → Valued
 valueNamedAt n s t a e = elim (eqb t valueTag) [ true ↦ whoseValue (λ v. isNamed s n (v .name)) (valueAt s a e) | false ↦ NoValue ]

@@ -3,7 +3,7 @@
 use mathlib.Core.Path.{_≡_, refl, sym, ap, _∙_}
 use mathlib.Core.Bool.{Bool, true, false}
 use mathlib.Core.List.{List, [], _∷_}
-use mathlib.Core.Option.{Option, some}
+use mathlib.Core.Option.{Option, none, some}
 use Prim.Native.Nat.{ℕ, zero, suc, _+_, _<_}
 use native.Mathlib.Omega.{arith}
 use lib.ListN.{getElem?}
@@ -15,9 +15,9 @@ use Rattle.path.specs.Path.{Name, Path, components, spell, allIdent}
 use Rattle.path.proofs.PathLaws.{spell-components, components-spell}
 use Rattle.sheet.specs.Tree.{File}
 use Rattle.sheet.specs.Members.{messagesOf}
-use Rattle.basis.specs.First.{first}
+use Rattle.basis.specs.First.{onlyIf, first}
 use Rattle.scope.specs.Scope.{Scope, fileScope, messageScope, isNamed, down}
-use Rattle.search.specs.Scopes.{follow, onlyWhere, scopeIn, scopesIn}
+use Rattle.search.specs.Scopes.{follow, scopeIn, scopesIn}
 use Rattle.basis.specs.Among.{Among, Ordered}
 use Rattle.basis.proofs.AmongLaws.{among-nil, among-onto-first, among-onto, among-onto-cases, ordered-onto}
 use Rattle.basis.proofs.AmongFirsts.{given-some}
@@ -30,7 +30,7 @@ pub components-same : (t : List ℕ) (p : Path) → components t ≡ p → sameB
 components-same t p e = rw (← e, spell-components t) (same-refl t)
 
 -- ---- the scope that a file gives
-pub only-some : {A : Type 0} (b : Bool) (o : Option A) (x : A) → onlyWhere b o ≡ some x → (b ≡ true) × (o ≡ some x)
+pub only-some : {A : Type 0} (b : Bool) (o : Option A) (x : A) → onlyIf b o none ≡ some x → (b ≡ true) × (o ≡ some x)
 only-some true o x e = (refl, e)
 only-some false o x e = never cc
 

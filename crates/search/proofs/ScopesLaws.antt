@@ -34,9 +34,9 @@ use Rattle.scope.specs.declared.lookup.LookupScope.{LookupScope}
 use Rattle.scope.specs.declared.lookup.Reached.{Reached}
 use Rattle.scope.specs.declared.lookup.Reached.the-variants.{To, Nowhere}
 use Rattle.search.specs.declared.scopes.Cursor.{Cursor}
-use Rattle.basis.specs.First.{onto}
+use Rattle.basis.specs.First.{onlyIf, onto}
 use Rattle.scope.specs.Scope.{Scope, holding, down, placed}
-use Rattle.search.specs.Scopes.{follow, onlyWhere, scopesIn}
+use Rattle.search.specs.Scopes.{follow, scopesIn}
 use Rattle.search.specs.Cursor.{startOf, packageAt, scopeAt, Within}
 use Rattle.basis.proofs.FirstLaws.{given-holds}
 use Rattle.scope.proofs.Answers.{placed-nowhere}
@@ -168,7 +168,7 @@ module _ (s t : List ℕ) (next i : ℕ) (l : Leaf) (e : ℕ) where
   scope-none g = rw g
 
   module _ (n m : ℕ) (g : l ≡ At n m) (x : List ℕ) (f : x ≡ take (next - 1) t) (b : Bool) (y : b ≡ sameBytes (part s n m) x) where
-    scope-open : scopeAt s t next i l e ≡ onlyWhere b (follow s (namesFrom t next) (holding s (filePlace i m e)))
+    scope-open : scopeAt s t next i l e ≡ onlyIf b (follow s (namesFrom t next) (holding s (filePlace i m e))) none
     scope-open = rw (g, ← f, ← y)
 
     pub scope-elsewhere : b ≡ false → Nowhere ≡ placed (scopeAt s t next i l e)
@@ -193,7 +193,7 @@ module _ (s t : List ℕ) (next i : ℕ) (l : Leaf) (e : ℕ) (w : Within l e) (
   scope-placed : (c : Scope) → scopeAt s t next i l e ≡ some c → Placed s c
   scope-placed c = go l w
     where
-      at : (m : ℕ) → m ≤ e → (b : Bool) → onlyWhere b (follow s (namesFrom t next) (holding s (filePlace i m e))) ≡ some c → Placed s c
+      at : (m : ℕ) → m ≤ e → (b : Bool) → onlyIf b (follow s (namesFrom t next) (holding s (filePlace i m e))) none ≡ some c → Placed s c
       at m k false q = never cc
       at m k true q =
           followed-placed s (namesFrom t next) (holding s (filePlace i m e)) (record { held = refl; lies = (k, h) }) c q

@@ -22,7 +22,7 @@ use Rattle.reply.specs.declared.Refusal.the-variants.{MessageNotFound, MessageF
 use Rattle.path.specs.Path.{Name, Path, parent, last}
 use Rattle.path.specs.Candidates.{candidates}
 use Rattle.sheet.specs.Members.{Enumeration}
-use Rattle.basis.specs.First.{given, firstSome, collect}
+use Rattle.basis.specs.First.{onlyIf, given, firstSome, collect}
 use Rattle.scope.specs.Scope.{Scope, declarationNamed, enumNamed}
 use Rattle.search.specs.Number.{extends}
 use Rattle.search.specs.declared.extension.Found.{Found}
@@ -34,7 +34,7 @@ use Rattle.search.specs.declared.full_name.LookedUp.{LookedUp}
 use Rattle.search.specs.declared.full_name.LookedUp.the-variants.{Message, NoMessage}
 use Rattle.search.specs.declared.full_name.LookedUpEnum.{LookedUpEnum}
 use Rattle.search.specs.declared.full_name.LookedUpEnum.the-variants.{Values, NoEnum}
-use Rattle.search.specs.Scopes.{onlyWhere, scopes}
+use Rattle.search.specs.Scopes.{scopes}
 
 abbrev pub foundIn : List ℕ → Name → Scope → Option Found
 foundIn s n c = given (declarationNamed true s n c) λ d. some (record { file = c .place .file; declaration = d })
@@ -65,7 +65,7 @@ extResolveField s scope m name = compared s m (findExtensionByPath s scope name)
 
 -- "A message by full name: the scopes at that path that are messages"
 abbrev pub messageOf : Scope → Option Scope
-messageOf c = onlyWhere (c .place .message) (some c)
+messageOf c = onlyIf (c .place .message) (some c) none
 
 unfoldable pub messagesAt : List ℕ → Path → List Scope
 messagesAt s p = collect messageOf (scopes s p)

@@ -1,7 +1,6 @@
 -- The scopes at a path, from 01's "The search".
 --
 --           follow s ns c == the scope that the message names ns lead to from the scope c
---           onlyWhere b o == o where b holds
 --      scopeIn s p ns i f == the scope that the i-th file gives: its package is the text p, and the names ns are followed
 --    scopesIn s p ns i fs == the scopes that files give, the i-th file first
 --   scopesFrom s front ns == the scopes at the path `front ++ ns`, of the files whose package has these components `front`, or more
@@ -16,7 +15,7 @@ use Rattle.octets.specs.Octets.{sameBytes}
 use Rattle.field.specs.Leaf.{text}
 use Rattle.path.specs.Path.{Path, spell}
 use Rattle.sheet.specs.Tree.{File, treeOf}
-use Rattle.basis.specs.First.{given, onto}
+use Rattle.basis.specs.First.{onlyIf, given, onto}
 use Rattle.scope.specs.Scope.{Scope, fileScope, down}
 
 -- "follows the rest as message names, the first of that name at each level; if all are found, it gives one scope"
@@ -24,13 +23,9 @@ abbrev pub follow : List ℕ → Path → Scope → Option Scope
 follow s [] c = some c
 follow s (n ∷ ns) c = given (down s n c) (follow s ns)
 
-abbrev pub onlyWhere : {A : Type 0} → Bool → Option A → Option A
-onlyWhere true o = o
-onlyWhere false o = none
-
 -- paths are compared as they are written: two paths of identifiers are the same where their texts are
 abbrev pub scopeIn : List ℕ → List ℕ → Path → ℕ → File → Option Scope
-scopeIn s p ns i f = onlyWhere (sameBytes (text s (f .packageName)) p) (follow s ns (fileScope i f))
+scopeIn s p ns i f = onlyIf (sameBytes (text s (f .packageName)) p) (follow s ns (fileScope i f)) none
 
 abbrev pub scopesIn : List ℕ → List ℕ → Path → ℕ → List File → List Scope
 scopesIn s p ns i [] = []

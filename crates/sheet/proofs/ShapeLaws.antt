@@ -8,12 +8,13 @@ use native.Mathlib.Omega.{arith}
 use borrow.Author.Tests.{not-true, not-false, eq-eqb, ne-eqb}
 use lib.Dec.{eqb}
 use lib.ListN.{length, getD}
+use Rattle.basis.specs.First.{onlyIf}
 use Rattle.basis.proofs.Never.{never}
 use Rattle.octets.specs.Octets.{bigAt}
 use Rattle.types.specs.Types.{TYPE_GROUP, TYPE_MESSAGE, TYPE_ENUM}
 use Rattle.field.specs.declared.Leaf.{Leaf}
 use Rattle.field.specs.declared.Leaf.the-variants.{At, Not}
-use Rattle.field.specs.Leaf.{anyBytes, ofSize, onlyIf, leafAt}
+use Rattle.field.specs.Leaf.{anyBytes, ofSize, leafAt}
 use Rattle.field.proofs.LeafLaws.{leaf-ordered, leaf-inside, size-laws, on-leaf-some}
 use Rattle.sheet.specs.declared.declaration.Shape.{Shape}
 use Rattle.sheet.specs.declared.declaration.Shaped.{Shaped}
@@ -88,7 +89,7 @@ type-path-lies : (t : ℕ) (s : List ℕ) (at end a e : ℕ) → At a e ≡ type
 unfolding typePathAt
 type-path-lies t s at end a e p = go (hasTypePath t) (eqb at end) (leafAt typePathTag anyBytes s at end) refl p
   where
-    last : (n m : ℕ) → At n m ≡ leafAt typePathTag anyBytes s at end → (b : Bool) → At a e ≡ onlyIf b (At n m) → Placed end a e
+    last : (n m : ℕ) → At n m ≡ leafAt typePathTag anyBytes s at end → (b : Bool) → At a e ≡ onlyIf b (At n m) Not → Placed end a e
     last n m q false p = never cc
     last n m q true p =
         record {
@@ -97,7 +98,7 @@ type-path-lies t s at end a e p = go (hasTypePath t) (eqb at end) (leafAt typePa
         }
 
     go : (b b′ : Bool) (l : Leaf) → l ≡ leafAt typePathTag anyBytes s at end
-        → At a e ≡ elim b [ true ↦ lastAt end l | false ↦ onlyIf b′ (At 0 0) ] → Placed end a e
+        → At a e ≡ elim b [ true ↦ lastAt end l | false ↦ onlyIf b′ (At 0 0) Not ] → Placed end a e
     go false false l q p = never cc
     go false true l q p =
         let u : a ≡ 0 = cc in

@@ -17,11 +17,12 @@ use mathlib.Core.List.{List}
 use Prim.Native.Nat.{ℕ}
 use lib.Dec.{eqb}
 use lib.ListN.{getD}
+use Rattle.basis.specs.First.{onlyIf}
 use Rattle.octets.specs.Octets.{bigAt}
 use Rattle.field.specs.declared.Leaf.{Leaf}
 use Rattle.field.specs.declared.Leaf.the-variants.{At, Not}
 use Rattle.field.specs.declared.Span.{Span}
-use Rattle.field.specs.Leaf.{span, anyBytes, ofSize, onlyIf, onLeaf, leafAt}
+use Rattle.field.specs.Leaf.{span, anyBytes, ofSize, onLeaf, leafAt}
 use Rattle.types.specs.Types.{TYPE_GROUP, TYPE_MESSAGE, TYPE_ENUM}
 use Rattle.sheet.specs.declared.declaration.Shape.{Shape}
 use Rattle.sheet.specs.declared.declaration.Shaped.{Shaped}
@@ -38,12 +39,12 @@ hasTypePath t = eqb t TYPE_GROUP || eqb t TYPE_MESSAGE || eqb t TYPE_ENUM
 
 abbrev pub lastAt : ℕ → Leaf → Leaf
 lastAt end Not = Not
-lastAt end (At a e) = onlyIf (eqb e end) (At a e)
+lastAt end (At a e) = onlyIf (eqb e end) (At a e) Not
 
 unfoldable pub typePathAt : ℕ → List ℕ → ℕ → ℕ → Leaf
 typePathAt t s at end = elim (hasTypePath t) [
   | true ↦ lastAt end (leafAt typePathTag anyBytes s at end)
-  | false ↦ onlyIf (eqb at end) (At 0 0)
+  | false ↦ onlyIf (eqb at end) (At 0 0) Not
 ]
 
 abbrev pub shape : ℕ → ℕ → ℕ → ℕ → ℕ → Shape
