@@ -7,7 +7,7 @@ use Prim.Native.Nat.{ℕ}
 use Rattle.octets.specs.Octets.{bigAt}
 use Rattle.field.specs.Field.{fieldAt}
 use Rattle.field.specs.Leaf.{leafAt}
-use Rattle.field.specs.Walk.{walk}
+use Rattle.field.specs.Walk.{walkBy}
 use Rattle.sheet.specs.Table.{fileTag, messageTag, extensionTag, enumTag, fieldTag, valueTag}
 use Rattle.sheet.proofs.Controls.{tree, p1, inside, deep}
 use Rattle.request.specs.Name.{partOf}
@@ -40,5 +40,5 @@ deepest = refl
 
 -- parts are counted over all options
 counted : partsOf (requestOf others .options) ∷ partsOf (requestOf (heading ++ option ++ option) .options) ∷ [] ≡ 2 ∷ 2 ∷ []
-unfolding requestOf headingOf leafAt fieldAt bigAt walk optionIn optionOf partOf
+unfolding requestOf headingOf leafAt fieldAt bigAt walkBy optionIn optionOf partOf
 counted = refl

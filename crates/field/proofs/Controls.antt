@@ -11,7 +11,7 @@ use Rattle.field.specs.declared.Leaf.{Leaf}
 use Rattle.field.specs.declared.Leaf.the-variants.{At, Not}
 use Rattle.field.specs.Field.{fieldAt}
 use Rattle.field.specs.Leaf.{anyBytes, ofSize, leafAt}
-use Rattle.field.specs.Walk.{done, cut, step, walk}
+use Rattle.field.specs.Walk.{done, cut, step, walkBy, walk}
 
 -- 10 00 00, an empty package
 empty : fieldAt (0x10 ∷ 0 ∷ 0 ∷ []) 0 3 ≡ Whole 0x10 3 3
@@ -62,13 +62,13 @@ fields : List ℕ
 fields = 1 ∷ 0 ∷ 0 ∷ 2 ∷ 0 ∷ 1 ∷ 7 ∷ 3 ∷ 0 ∷ []
 
 walk-whole : walk fields 0 7 ≡ step 1 3 3 (step 2 6 7 done)
-unfolding fields walk fieldAt bigAt
+unfolding fields walkBy fieldAt bigAt
 walk-whole = refl
 
 walk-ends-cut : walk fields 0 9 ≡ step 1 3 3 (step 2 6 7 cut)
-unfolding fields walk fieldAt bigAt
+unfolding fields walkBy fieldAt bigAt
 walk-ends-cut = refl
 
 walk-nothing : walk fields 7 7 ≡ done
-unfolding fields walk
+unfolding fields walkBy
 walk-nothing = refl

@@ -13,6 +13,7 @@ use Rattle.octets.specs.Octets.{bigAt}
 use Rattle.field.specs.declared.Field.{Field}
 use Rattle.field.specs.declared.Field.the-variants.{Whole, Cut}
 use Rattle.field.specs.Field.{header, fieldAt}
+use Rattle.field.proofs.ReaderLaws.{Reads, reads-ordered, reads-inside, reads-within, reads-less}
 
 module _ (s : List ℕ) (at end : ℕ) (k : at ≤ end) where
   pub field-short : end - at < header → Cut ≡ fieldAt s at end
@@ -56,14 +57,25 @@ module _ (s : List ℕ) (at end : ℕ) (r : Field) (q : r ≡ fieldAt s at end) 
           let fits : at + header + n ≤ end = ltb-false end (at + header + n) p′ in
           record { starts = x; ordered = omega arith; inside = omega arith }
 
+-- ---- `fieldAt` is a reader that every loop over siblings can have
+pub field-reads : Reads fieldAt
+field-reads = record {
+  ahead = λ s at end t a e g.
+      let b = field-bounds s at end (Whole t a e) (sym g) t a e refl in
+      record { starts = omega (arith, b .starts); ordered = b .ordered; inside = b .inside };
+}
+
+module _ (s : List ℕ) (at end : ℕ) (r : Field) (q : r ≡ fieldAt s at end) (t a e : ℕ) (g : r ≡ Whole t a e) where
   pub field-ordered : a ≤ e
-  field-ordered = field-bounds .ordered
+  field-ordered = reads-ordered field-reads s at end r q t a e g
 
   pub field-inside : e ≤ end
-  field-inside = field-bounds .inside
+  field-inside = reads-inside field-reads s at end r q t a e g
 
   pub field-within : end ≤ length s → e ≤ length s
-  field-within h = omega (arith, field-inside)
+  field-within = reads-within field-reads s at end r q t a e g
 
   pub field-less : at < end → end - e < end - at
-  field-less h = omega (arith, field-bounds .starts, field-ordered)
+  field-less = reads-less field-reads s at end r q t a e g
+
+pub ruleset field-place-laws = (field-ordered, field-within, field-less)

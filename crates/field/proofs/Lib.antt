@@ -1,3 +1,4 @@
+pub mod ReaderLaws
 pub mod FieldLaws
 pub mod WalkLaws
 pub mod LeafLaws

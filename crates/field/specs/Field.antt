@@ -16,7 +16,7 @@ use Rattle.field.specs.declared.Field.the-variants.{Whole, Cut}
 abbrev pub header : ℕ
 header = 3
 
-unfoldable pub fieldAt : List ℕ → ℕ → ℕ → Field
+unfoldable pub fieldAt : (s : List ℕ) (at end : ℕ) → Field
 fieldAt s at end =
     elim (ltb end (at + header)) [
       | true ↦ Cut

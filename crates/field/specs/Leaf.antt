@@ -24,7 +24,7 @@ use Rattle.field.specs.declared.Leaf.the-variants.{At, Not}
 use Rattle.field.specs.declared.Span.{Span}
 use Rattle.field.specs.Field.{fieldAt}
 
-abbrev pub span : ℕ → ℕ → Span
+abbrev pub span : (a e : ℕ) → Span
 span a e = record { from = a; to = e }
 
 abbrev pub text : List ℕ → Span → List ℕ
@@ -39,13 +39,13 @@ anyBytes bs = true
 abbrev pub ofSize : ℕ → List ℕ → Bool
 ofSize n bs = eqb (length bs) n
 
-abbrev pub leafOf : ℕ → (List ℕ → Bool) → List ℕ → Field → Leaf
+abbrev pub leafOf : (tag : ℕ) (good : List ℕ → Bool) (s : List ℕ) (f : Field) → Leaf
 leafOf k good s Cut = Not
 leafOf k good s (Whole t a e) = onlyIf (eqb t k && good (part s a e)) (At a e) Not
 
-unfoldable pub leafAt : ℕ → (List ℕ → Bool) → List ℕ → ℕ → ℕ → Leaf
+unfoldable pub leafAt : (tag : ℕ) (good : List ℕ → Bool) (s : List ℕ) (at end : ℕ) → Leaf
 leafAt k good s at end = leafOf k good s (fieldAt s at end)
 
-abbrev pub onLeaf : {A : Type 0} → A → Leaf → (ℕ → ℕ → A) → A
+abbrev pub onLeaf : {A : Type 0} (none : A) (l : Leaf) (some : (from to : ℕ) → A) → A
 onLeaf none Not some = none
 onLeaf none (At a e) some = some a e

@@ -10,7 +10,7 @@ use Rattle.reply.specs.declared.Refusal.the-variants.{BadSheet, BeyondLimit}
 use Rattle.reply.specs.declared.Verdict.{Verdict}
 use Rattle.reply.specs.declared.Verdict.the-variants.{Fine, Refused}
 use Rattle.field.specs.Field.{fieldAt}
-use Rattle.field.specs.Walk.{walk}
+use Rattle.field.specs.Walk.{walkBy, walk}
 use Rattle.form.specs.Each.{each, eachFrom}
 
 -- two fields, 1 with no payload and 2 with one byte, and a third that is cut
@@ -26,7 +26,7 @@ fine t a e = Fine
 
 first-fault : each BadSheet second (walk fields 0 7) ∷ each BadSheet fine (walk fields 0 9) ∷ each BadSheet second (walk fields 0 9) ∷ []
     ≡ Refused BeyondLimit ∷ Refused BadSheet ∷ Refused BeyondLimit ∷ []
-unfolding fields second fine walk fieldAt bigAt
+unfolding fields second fine walkBy fieldAt bigAt
 first-fault = refl
 
 -- a limit of one field
@@ -34,5 +34,5 @@ few : ℕ → ℕ → ℕ → ℕ → Verdict
 few n t a e = elim (ltb n 1) [ true ↦ Fine | false ↦ Refused BeyondLimit ]
 
 counted : eachFrom BadSheet few 0 (walk fields 0 3) ∷ eachFrom BadSheet few 0 (walk fields 0 7) ∷ [] ≡ Fine ∷ Refused BeyondLimit ∷ []
-unfolding fields few walk fieldAt bigAt
+unfolding fields few walkBy fieldAt bigAt
 counted = refl

@@ -10,7 +10,7 @@ use lib.ListN.{length}
 use Rattle.octets.specs.Octets.{bigAt}
 use Rattle.field.specs.Field.{fieldAt}
 use Rattle.field.specs.Leaf.{span}
-use Rattle.field.specs.Walk.{walk}
+use Rattle.field.specs.Walk.{walkBy}
 use Rattle.request.specs.declared.constant.Constant.the-variants.{Bool as BoolOf, Integer, Float, NotANumber}
 use Rattle.request.specs.declared.constant.Constant.the-variants.{Text, Ident, Message, List as ListOf}
 use Rattle.request.specs.declared.constant.Held.{Held}
@@ -80,17 +80,17 @@ tree :
     (list (byField (span 3 4)) (scalar unnamed (BoolOf true) (message unnamed none none))
     (scalar (byExtension (span 17 18)) (Ident (span 21 22)) none))
     none
-unfolding constantOf boolOf isPairName walk fieldAt bigAt
+unfolding constantOf boolOf isPairName walkBy fieldAt bigAt
 tree = refl
 
 -- two levels leave out what the list holds
 shallow :
     constantIn 2 nested unnamed messageConstantTag 0 22 none
     ≡ message unnamed (list (byField (span 3 4)) none (scalar (byExtension (span 17 18)) (Ident (span 21 22)) none)) none
-unfolding constantOf boolOf isPairName walk fieldAt bigAt
+unfolding constantOf boolOf isPairName walkBy fieldAt bigAt
 shallow = refl
 
 -- a list's elements are no pairs of a message
 no-pairs : constantIn 3 nested unnamed messageConstantTag 7 14 none ≡ message unnamed none none
-unfolding constantOf boolOf isPairName walk fieldAt bigAt
+unfolding constantOf boolOf isPairName walkBy fieldAt bigAt
 no-pairs = refl

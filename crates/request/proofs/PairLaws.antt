@@ -174,4 +174,4 @@ module _ {A : Type 0} (v : A) (F : Walk → A) (s : List ℕ) (to i : ℕ) (k : 
         ≡ G (walk s (p .constant .to) to)
         → Rest v G s to (p .constant .to)
     rest-pair-next G f =
-        record { within = pair-constant-inside s i to r q p g; inside = k .inside; rest = rest-pair ∙ f }
+        record { reads = k .reads; within = pair-constant-inside s i to r q p g; inside = k .inside; rest = rest-pair ∙ f }

@@ -138,4 +138,9 @@ module _ {A : Type 0} (v : A) (F : Walk → A) (s : List ℕ) (to i : ℕ) (k : 
         → F (step t (p .name .from) (p .name .to) (walk s (p .name .to) to)) ≡ G (walk s (p .name .to) to))
         → Rest v G s to (p .name .to)
     rest-part-next G f =
-        record { within = part-inside s i to r q p g; inside = k .inside; rest = rest-part (G (walk s (p .name .to) to)) f }
+        record {
+          reads = k .reads;
+          within = part-inside s i to r q p g;
+          inside = k .inside;
+          rest = rest-part (G (walk s (p .name .to) to)) f;
+        }

@@ -7,7 +7,7 @@ use Prim.Native.Nat.{ℕ}
 use Rattle.octets.specs.Octets.{bigAt}
 use Rattle.field.specs.Field.{fieldAt}
 use Rattle.field.specs.Leaf.{span, leafAt}
-use Rattle.field.specs.Walk.{walk}
+use Rattle.field.specs.Walk.{walkBy, walk}
 use Rattle.request.specs.declared.constant.Constant.the-variants.{Integer}
 use Rattle.request.specs.declared.heading.Headed.the-variants.{NoHeading}
 use Rattle.request.specs.Name.{partWith, partOf, afterParts}
@@ -31,16 +31,16 @@ p1 :
       optionsType = span 7 10;
       options = record { parts = partWith true 16 17 ∷ []; constant = scalar unnamed (Integer false 7) none } ∷ [];
     }
-unfolding requestOf headingOf leafAt fieldAt bigAt walk optionIn optionOf partOf constantOf numericOf
+unfolding requestOf headingOf leafAt fieldAt bigAt walkBy optionIn optionOf partOf constantOf numericOf
 p1 = refl
 
 p1-after : afterParts 13 (walk (heading ++ option) 13 28) ≡ 17
-unfolding fieldAt bigAt walk partOf
+unfolding fieldAt bigAt walkBy partOf
 p1-after = refl
 
 -- no options
 bare : requestOf heading ≡ record { scope = span 3 4; optionsType = span 7 10; options = [] }
-unfolding requestOf headingOf leafAt fieldAt bigAt walk
+unfolding requestOf headingOf leafAt fieldAt bigAt walkBy
 bare = refl
 
 -- no heading: the options type is missing, or comes first
@@ -58,5 +58,5 @@ abbrev pub others : List ℕ
 others = heading ++ (0x07 ∷ 0 ∷ 1 ∷ 9 ∷ 0x08 ∷ 0 ∷ 7 ∷ 0x1A ∷ 0 ∷ 0 ∷ 0x1A ∷ 0 ∷ 1 ∷ 0x61 ∷ 0x08 ∷ 0 ∷ 16 ∷ 0x1B ∷ [])
 
 left-out : requestOf others .options ≡ record { parts = partWith false 20 20 ∷ partWith false 23 24 ∷ []; constant = none } ∷ []
-unfolding requestOf headingOf leafAt fieldAt bigAt walk optionIn optionOf partOf
+unfolding requestOf headingOf leafAt fieldAt bigAt walkBy optionIn optionOf partOf
 left-out = refl

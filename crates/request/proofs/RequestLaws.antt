@@ -105,6 +105,10 @@ module _ (s : List ℕ) (r : Headed) (q : r ≡ headingOf s) (h : Heading) (g : 
 pub ruleset heading-spans = (scope-ordered, scope-inside, options-type-ordered, options-type-inside, options-inside)
 
 -- ---- the loop of `after_parts`
+pub after-start : (s : List ℕ) (from to : ℕ) → from ≤ to → to ≤ length s
+    → Rest (afterParts from (walk s from to)) (afterParts from) s to from
+after-start s from to h k = rest-start (afterParts from) s from to h k
+
 module _ (v : ℕ) (s : List ℕ) (to at : ℕ) (k : Rest v (afterParts at) s to at) where
   pub after-end : to ≤ at → at ≡ v
   after-end h = sym (rest-end v (afterParts at) s to at k h)
@@ -116,7 +120,7 @@ module _ (v : ℕ) (s : List ℕ) (to at : ℕ) (k : Rest v (afterParts at) s to
     pub after-next : (p : Part) → r ≡ Is p → Rest v (afterParts (p .name .to)) s to (p .name .to)
     after-next p g = rest-part-next v (afterParts at) s to at k r q p g (afterParts (p .name .to)) (λ t n. rw n)
 
-pub ruleset after-laws = (rest-start, after-end, after-stop, after-next, part-less)
+pub ruleset after-laws = (after-start, after-end, after-stop, after-next, part-less)
 
 -- ---- where the parts end: between the two places
 record Between (from to x : ℕ) : Type 0 where

@@ -10,7 +10,7 @@ use Rattle.path.specs.Ident.{isLetter, isDigit, allWord, isIdent}
 use Rattle.path.specs.Path.{dot, onFirst, split, components, allIdent, isRelPath, isRelOrEmpty, rootless, isPath}
 use Rattle.reply.specs.declared.Verdict.the-variants.{Fine}
 use Rattle.field.specs.Field.{fieldAt}
-use Rattle.field.specs.Walk.{walk}
+use Rattle.field.specs.Walk.{walkBy}
 use Rattle.field.specs.Leaf.{leafAt}
 use Rattle.request.specs.Table.{optionTag, scopeTag, optionsTypeTag, directPartTag, extensionPartTag, boolTag}
 use Rattle.request.specs.Table.{messageConstantTag, pairFieldTag, pairExtensionTag, pairUrlTag, listTag}
@@ -98,18 +98,18 @@ large = option direct (inLists 16 yes) ∷ option (times 17 direct) yes ∷ repl
 
 requests : map judgeRequest (fine ++ bad ++ large) ≡ replicate 6 Fine ++ replicate 8 badRequest ++ replicate 3 beyond
 unfolding judgeRequest judgeOptions judgeOption judgeLast isConstant isBool isUrl goodScalar goodPairName goodPart
-    leafAt fieldAt bigAt walk partOf
+    leafAt fieldAt bigAt walkBy partOf
     isRelOrEmpty isRelPath isPath rootless components split onFirst allIdent isIdent isLetter isDigit allWord
 requests = refl
 
 -- ---- the 128th and the 129th option
 indices : map (λ i. judgeOption (direct ++ yes) i optionTag 0 8) (127 ∷ 128 ∷ []) ≡ Fine ∷ beyond ∷ []
-unfolding judgeOption judgeLast isConstant isBool goodScalar goodPart fieldAt bigAt walk partOf isIdent isLetter allWord
+unfolding judgeOption judgeLast isConstant isBool goodScalar goodPart fieldAt bigAt walkBy partOf isIdent isLetter allWord
 indices = refl
 
 -- ---- names alone: a part; no bytes; a part and a constant
 names : map judgeName (direct ∷ [] ∷ (direct ++ yes) ∷ []) ≡ Fine ∷ badRequest ∷ badRequest ∷ []
-unfolding judgeName goodPart fieldAt bigAt walk partOf isIdent isLetter allWord
+unfolding judgeName goodPart fieldAt bigAt walkBy partOf isIdent isLetter allWord
 names = refl
 
 -- ---- type URLs of 1, 255, 0 and 256 bytes

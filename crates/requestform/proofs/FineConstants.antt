@@ -18,13 +18,10 @@ use Rattle.reply.specs.declared.Verdict.{Verdict}
 use Rattle.reply.specs.declared.Verdict.the-variants.{Fine}
 use Rattle.reply.specs.Verdicts.{firstFault, judged}
 use Rattle.reply.proofs.VerdictLaws.{refused-fine, first-fine-front, first-fine-rest, judged-fine}
-use Rattle.field.specs.declared.Field.{Field}
-use Rattle.field.specs.declared.Field.the-variants.{Whole, Cut}
-use Rattle.field.specs.Field.{fieldAt}
 use Rattle.field.specs.Leaf.{span}
-use Rattle.field.specs.Walk.{Walk, done, cut, step, walkOn, walkFor, walk, tagsIn}
+use Rattle.field.specs.Walk.{Walk, done, cut, step, walk, tagsIn}
 use Rattle.form.specs.Each.{each}
-use Rattle.field.proofs.FieldLaws.{field-inside}
+use Rattle.field.proofs.WalkLaws.{walk-holds}
 use Rattle.request.specs.declared.constant.Constant.{Constant}
 use Rattle.request.specs.declared.constant.Constant.the-variants.{Bool as BoolOf, Integer, Float, NotANumber}
 use Rattle.request.specs.declared.constant.Constant.the-variants.{Text, Ident}
@@ -47,23 +44,9 @@ Within s done = Unit {0}
 Within s cut = Unit {0}
 Within s (step t a e w) = (e ≤ length s) × Within s w
 
-module _ (s : List ℕ) (end : ℕ) (h : end ≤ length s) where
-  follow-within : (at : ℕ) (next : ℕ → Walk) → ((e : ℕ) → Within s (next e)) → (f : Field) → f ≡ fieldAt s at end → Within s (walkOn f next)
-  follow-within at next ih Cut q = tt
-  follow-within at next ih (Whole t a e) q = (omega (arith, field-inside s at end (Whole t a e) q t a e refl), ih e)
-
-  for-within : (n at : ℕ) → Within s (walkFor n s at end)
-  for-within zero at = tt
-  for-within (suc n) at = go (for-within n) (ltb at end)
-    where
-      go : ((e : ℕ) → Within s (walkFor n s e end)) → (b : Bool)
-          → Within s (elim b [ true ↦ walkOn (fieldAt s at end) (λ e. walkFor n s e end) | false ↦ done ])
-      go ih true = follow-within at (λ e. walkFor n s e end) ih (fieldAt s at end) refl
-      go ih false = tt
-
-  pub walk-within : (at : ℕ) → Within s (walk s at end)
-  unfolding walk
-  walk-within at = for-within (end - at) at
+pub walk-within : (s : List ℕ) (end : ℕ) → end ≤ length s → (at : ℕ) → Within s (walk s at end)
+walk-within s end h =
+    walk-holds s end (λ _ w. Within s w) (λ _. tt) (λ _. tt) λ _ t a e w b k. (omega (arith, b .inside), k)
 
 -- ---- a value of the tag t that is no message and no list, and is good
 record Plain (s : List ℕ) (t : ℕ) (c : Constant) : Type 0 where

@@ -22,7 +22,7 @@ use Rattle.field.specs.declared.Field.the-variants.{Whole, Cut}
 use Rattle.field.specs.Field.{fieldAt}
 use Rattle.field.specs.Walk.{walk}
 use Rattle.form.specs.Each.{eachFrom}
-use Rattle.field.proofs.FieldLaws.{field-bounds, field-ordered}
+use Rattle.field.proofs.FieldLaws.{field-reads, field-bounds, field-ordered}
 use Rattle.field.proofs.Rest.{Rest, rest-start, rest-end}
 use Rattle.form.proofs.EachLaws.{each-from-laws}
 use Rattle.field.proofs.FieldLaws.{field-within}
@@ -103,7 +103,7 @@ module _ (v : Parts) (s : List ℕ) (to x : ℕ) (g : v ≡ After x) where
 pub parts-inside : (s : List ℕ) (from to : ℕ) (v : Parts) → v ≡ partsFrom s 0 from (walk s from to) → (x : ℕ) → v ≡ After x
     → from ≤ to → to ≤ length s → x ≤ to
 parts-inside s from to v q x g h k =
-    after-inside v s to x g (to - from) 0 from (record { within = h; inside = k; rest = q }) (omega arith)
+    after-inside v s to x g (to - from) 0 from (record { reads = field-reads; within = h; inside = k; rest = q }) (omega arith)
 
 -- ---- check_last
 module _ (s : List ℕ) (at end : ℕ) (r : Field) (q : r ≡ fieldAt s at end) where

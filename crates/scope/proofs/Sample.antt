@@ -9,7 +9,7 @@ use Rattle.octets.specs.Octets.{sameBytes, bigAt}
 use Rattle.basis.specs.First.{given}
 use Rattle.field.specs.Field.{fieldAt}
 use Rattle.field.specs.Leaf.{span, leafAt}
-use Rattle.field.specs.Walk.{walk}
+use Rattle.field.specs.Walk.{walkBy}
 use Rattle.sheet.specs.declared.declaration.Declaration.{Declaration}
 use Rattle.sheet.specs.Table.{fileTag, messageTag, extensionTag, enumTag, fieldTag, valueTag, packageTag, nameTag}
 use Rattle.sheet.specs.Table.{extendeeTag, numberTag, typeTag, labelTag, signedNumberTag}
@@ -52,7 +52,7 @@ sheet =
 
 -- the file with so many levels of messages left, and all that it is computed by
 unfoldable pub file : ℕ → Scope
-unfolding treeOf fileIn itemsIn itemIn valueIn extensionAt messageFieldAt valueAt shapeAt typePathAt hasTypePath walk leafAt fieldAt
+unfolding treeOf fileIn itemsIn itemIn valueIn extensionAt messageFieldAt valueAt shapeAt typePathAt hasTypePath walkBy leafAt fieldAt
     sameBytes bigAt
 file left = holding sheet (record { file = 0; message = false; body = span 7 (length sheet); left = left })
 

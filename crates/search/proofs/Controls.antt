@@ -9,7 +9,7 @@ use Rattle.octets.specs.Octets.{bigAt, sameBytes}
 use Rattle.reply.specs.Reply.{number, ascii}
 use Rattle.field.specs.Field.{fieldAt}
 use Rattle.field.specs.Leaf.{text, leafAt}
-use Rattle.field.specs.Walk.{walk}
+use Rattle.field.specs.Walk.{walkBy, walk}
 use Rattle.path.specs.Path.{onFirst, split, components, spell, parent, last}
 use Rattle.sheet.specs.declared.declaration.Declaration.{Declaration}
 use Rattle.sheet.specs.declared.declaration.Value.{Value}
@@ -53,7 +53,7 @@ messageReply s (NoMessage w) = refused (number w)
 
 aMessage : Case Reply → Reply
 unfolding messagesAt scopes components split onFirst spell sameBytes treeOf fileIn itemsIn itemIn valueIn extensionAt
-    messageFieldAt valueAt shapeAt typePathAt hasTypePath walk leafAt fieldAt bigAt
+    messageFieldAt valueAt shapeAt typePathAt hasTypePath walkBy leafAt fieldAt bigAt
 aMessage x = messageReply (x .sheet) (lookedUp (messagesAt (x .sheet) (components (ascii (x .path)))))
 
 abbrev marker : ℕ → List ℕ
@@ -134,7 +134,7 @@ enumReply s (NoEnum w) = refused (number w)
 
 anEnum : Case Reply → Reply
 unfolding enumsAt scopes components split onFirst spell parent last sameBytes treeOf fileIn itemsIn itemIn valueIn extensionAt
-    messageFieldAt valueAt shapeAt typePathAt hasTypePath walk leafAt fieldAt bigAt
+    messageFieldAt valueAt shapeAt typePathAt hasTypePath walkBy leafAt fieldAt bigAt
 anEnum x = enumReply (x .sheet) (lookedUpEnum (enumsAt (x .sheet) (components (ascii (x .path)))))
 
 enums : List (Case Reply)
@@ -194,7 +194,7 @@ declares s p k a = record { sheet = s; path = p; number = k; says = a }
 
 declaring : Numbered → Known
 unfolding declarationOf messagesAt scopes components split onFirst spell sameBytes treeOf fileIn itemsIn itemIn valueIn extensionAt
-    messageFieldAt valueAt shapeAt typePathAt hasTypePath walk leafAt fieldAt bigAt
+    messageFieldAt valueAt shapeAt typePathAt hasTypePath walkBy leafAt fieldAt bigAt
 declaring x = knownIn (x .sheet) (x .path) (x .number) (messagesAt (x .sheet) (components (ascii (x .path))))
 
 -- p.M has the fields f = 1, g = 1 and h = 2, and in it N has n = 3; extensions of it stand before and after it, one of them in p.L.K, and
@@ -243,7 +243,7 @@ numbers-known = refl
 -- ---- the scopes at a path: the indices of their files
 placesAt : Case (List ℕ) → List ℕ
 unfolding scopes components split onFirst spell sameBytes treeOf fileIn itemsIn itemIn valueIn extensionAt messageFieldAt valueAt
-    shapeAt typePathAt hasTypePath walk leafAt fieldAt bigAt
+    shapeAt typePathAt hasTypePath walkBy leafAt fieldAt bigAt
 placesAt x = map (λ c. c .place .file) (scopes (x .sheet) (components (ascii (x .path))))
 
 abbrev three : List ℕ

@@ -8,7 +8,7 @@ use Rattle.octets.specs.Octets.{bigAt, sameBytes}
 use Rattle.reply.specs.Reply.{number, ascii}
 use Rattle.field.specs.Field.{fieldAt}
 use Rattle.field.specs.Leaf.{leafAt}
-use Rattle.field.specs.Walk.{walk}
+use Rattle.field.specs.Walk.{walkBy}
 use Rattle.path.specs.Path.{onFirst, split, components, spell, isAbs, rootless, parent, last, ancestors}
 use Rattle.path.specs.Candidates.{candidates}
 use Rattle.sheet.specs.Declaration.{hasTypePath, typePathAt, shapeAt, extensionAt, messageFieldAt, valueAt}
@@ -64,7 +64,7 @@ example s scope name says = record { sheet = s; scope = scope; name = name; says
 answer : Example → Reply
 unfolding extResolveField findExtensionByPath findExtensionByAbsPath scopes candidates ancestors components split onFirst
     spell isAbs rootless parent last sameBytes treeOf fileIn itemsIn itemIn valueIn extensionAt messageFieldAt valueAt
-    shapeAt typePathAt hasTypePath walk leafAt fieldAt bigAt
+    shapeAt typePathAt hasTypePath walkBy leafAt fieldAt bigAt
 answer x = reply (extResolveField (x .sheet) (ascii (x .scope)) (ascii options) (ascii (x .name)))
 
 -- P2 the inner rank; P3 the leading dot; P4 an undeclared scope; P5 a wrong extendee ends the search; P6 no rank; P7 fewest package

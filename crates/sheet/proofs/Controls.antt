@@ -7,14 +7,14 @@ use Prim.Native.Nat.{ℕ, zero, suc, _+_, _*_}
 use Rattle.octets.specs.Octets.{bigAt}
 use Rattle.field.specs.Field.{fieldAt}
 use Rattle.field.specs.Leaf.{span, leafAt}
-use Rattle.field.specs.Walk.{walk}
+use Rattle.field.specs.Walk.{walkBy}
 use Rattle.sheet.specs.Table.{fileTag, messageTag, extensionTag, enumTag, fieldTag, valueTag}
 use Rattle.sheet.specs.Declaration.{hasTypePath, typePathAt, shape, shapeAt, extensionAt, messageFieldAt, valueAt}
 use Rattle.sheet.specs.Tree.{Items, none, message, extension, enumeration, field, File, fileWith}
 use Rattle.sheet.specs.Tree.{valueIn, itemIn, itemsIn, fileIn, treeOf}
 
 unfoldable pub tree : List ℕ → List File
-unfolding treeOf fileIn itemsIn itemIn valueIn extensionAt messageFieldAt valueAt shapeAt typePathAt hasTypePath walk leafAt fieldAt bigAt
+unfolding treeOf fileIn itemsIn itemIn valueIn extensionAt messageFieldAt valueAt shapeAt typePathAt hasTypePath walkBy leafAt fieldAt bigAt
 tree s = treeOf s
 
 -- ---- P1: package p, extension x of o.F, number 5, type 13, label 1; package o, message F

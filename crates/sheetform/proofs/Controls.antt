@@ -10,7 +10,7 @@ use Rattle.path.specs.Path.{onFirst, split, components, allIdent, isRelPath, is
 use Rattle.reply.specs.declared.Verdict.{Verdict}
 use Rattle.reply.specs.declared.Verdict.the-variants.{Fine}
 use Rattle.field.specs.Field.{fieldAt}
-use Rattle.field.specs.Walk.{walk}
+use Rattle.field.specs.Walk.{walkBy}
 use Rattle.field.specs.Leaf.{leafAt}
 use Rattle.types.specs.Types.{TYPE_MESSAGE, TYPE_UINT32}
 use Rattle.sheet.specs.Table.{fileTag, messageTag, extensionTag, enumTag, fieldTag, valueTag, packageTag, nameTag}
@@ -23,7 +23,7 @@ use Rattle.sheetform.specs.Form.{badSheet, judgeValue, judgeEnum, judgeI
 -- a sheet's verdict, with all that it is computed by
 verdict : List ℕ → Verdict
 unfolding judgeSheet judgeFile judgeItems judgeItem judgeEnum judgeValue isExtension isField isValue goodField goodShape extensionAt
-    messageFieldAt valueAt shapeAt typePathAt hasTypePath leafAt walk fieldAt bigAt isRelOrEmpty isRelPath allIdent components split
+    messageFieldAt valueAt shapeAt typePathAt hasTypePath leafAt walkBy fieldAt bigAt isRelOrEmpty isRelPath allIdent components split
     onFirst isIdent isLetter isDigit allWord
 verdict = judgeSheet
 
