@@ -3,7 +3,9 @@
 use mathlib.Core.Path.{_≡_, sym, ap, _∙_}
 use Prim.Native.Nat.{ℕ}
 use Rattle.reply.specs.declared.Refusal.{Refusal}
-use Rattle.reply.specs.Reply.{number, second, refusedBy}
+use Rattle.reply.specs.declared.Cause.{Cause}
+use Rattle.reply.specs.declared.Answer.{Answer}
+use Rattle.reply.specs.Reply.{number, second, nowhere, refusedFor, refusedBy}
 
 pub number-at : (w v : Refusal) (n : ℕ) → w ≡ v → n ≡ number v → n ≡ number w
 number-at w v n e p = p ∙ sym (ap number e)
@@ -11,8 +13,11 @@ number-at w v n e p = p ∙ sym (ap number e)
 pub second-at : (w v : Refusal) (n : ℕ) → w ≡ v → n ≡ second v → n ≡ second w
 second-at w v n e p = p ∙ sym (ap second e)
 
-pub refused-is : (w : Refusal) (n s : ℕ) → n ≡ number w → s ≡ second w
-    → record { reply = n; second = s; absent = 0; length = 0 } ≡ refusedBy w
-refused-is w n s p q = rw (p, q)
+pub refused-is : (c : Cause) (n s : ℕ) → n ≡ number (c .why) → s ≡ second (c .why)
+    → record { reply = n; second = s; absent = 0; length = 0 } ≡ refusedFor c
+refused-is c n s p q = rw (p, q)
 
-pub ruleset row-laws = (number-at, second-at, refused-is)
+pub refused-nowhere : (w : Refusal) (c : Cause) (r : Answer) → c ≡ nowhere w → r ≡ refusedFor c → r ≡ refusedBy w
+refused-nowhere w c r e q = q ∙ ap refusedFor e
+
+pub ruleset row-laws = (number-at, second-at, refused-is, refused-nowhere)

@@ -2,7 +2,8 @@
 ghost use mathlib.Core.Path.{_≡_};
 ghost use Prim.Native.Nat.{_≤_};
 ghost use lib.ListN.{length};
-ghost use Rattle.reply.specs.Reply.{number as numberOf, second as secondOf, refusedBy, doneWith, absentAnswer};
+ghost use Rattle.reply.specs.Reply.{number as numberOf, second as secondOf, nowhere as nowhereOf, refusedFor, refusedBy};
+ghost use Rattle.reply.specs.Reply.{doneWith, absentAnswer};
 ghost use Rattle.reply.specs.Reply.{NameOf, mostName, textOf};
 ghost use Rattle.reply.specs.Verdicts.{judged};
 
@@ -28,6 +29,11 @@ pub enum Refusal {
     NoRoom,
     BadBytes,
     WireMismatch,
+}
+
+// Why a call is refused, and, from a later request on, where.
+pub struct Cause {
+    pub why: Refusal,
 }
 
 // What a test of form says of its bytes.
@@ -87,10 +93,18 @@ pub fn judge(holds: bool, why: Refusal) -> Verdict
     }
 }
 
-// The answer of a refusal: nothing was written.
-pub fn refused(why: Refusal) -> Answer
-    ensures { λ r. ⌜ r ≡ refusedBy why ⌝ }
+// This refusal, nowhere.
+pub fn nowhere(why: Refusal) -> Cause
+    ensures { λ r. ⌜ r ≡ nowhereOf why ⌝ }
 {
+    Cause { why: why }
+}
+
+// The answer of a refusal: nothing was written.
+pub fn refused_for(cause: Cause) -> Answer
+    ensures { λ r. ⌜ r ≡ refusedFor cause ⌝ }
+{
+    let why = cause.why;
     let row = why.row();
     Answer {
         reply: row.0,
@@ -98,6 +112,13 @@ pub fn refused(why: Refusal) -> Answer
         absent: 0,
         length: 0,
     }
+}
+
+// The answer of this refusal, nowhere.
+pub fn refused(why: Refusal) -> Answer
+    ensures { λ r. ⌜ r ≡ refusedBy why ⌝ }
+{
+    refused_for(nowhere(why))
 }
 
 // The answer of a call that wrote so much.
