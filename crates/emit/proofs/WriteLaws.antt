@@ -1,121 +1,120 @@
--- A loop that writes words as it goes, and a public call that runs it twice: once over nothing, to measure, and once over the lent memory.
--- One set of laws for words of either kind.
+-- A loop that writes elements as it goes, and a public call that runs it twice: once over nothing, to measure, and once over the lent memory.
+-- One set of laws for elements of any type.
 -- Assumes nothing.
-use mathlib.Core.Path.{_≡_, refl, sym, ap, ap₂, _∙_}
+use mathlib.Core.Path.{_≡_, refl, sym, ap, _∙_}
 use mathlib.Core.List.{List, [], _∷_, _++_, append-nil}
 use Prim.Native.Nat.{ℕ, _+_, _≤_, _<_}
-use native.Mathlib.Nat.{zero-add}
+use native.Mathlib.Nat.{zero-add, add-zero}
 use native.Mathlib.Omega.{arith}
-use lib.ListN.{length, drop, length-append}
-use lib.Seq.{sets, sets-eq, length-sets}
+use lib.ListN.{length, drop}
+use lib.Seq.{sets, sets-eq}
 use Rattle.basis.proofs.Never.{never}
-use Rattle.octets.proofs.Overlay.{sets-append}
-use Rattle.reply.specs.declared.Refusal.{Refusal}
+use Rattle.octets.specs.Octets.{Laid}
+use Rattle.octets.proofs.Overlay.{laid-append, laid-length}
+use Rattle.reply.specs.declared.Cause.{Cause}
 use Rattle.reply.specs.declared.Refusal.the-variants.{NoRoom}
 use Rattle.reply.specs.declared.Answer.{Answer}
-use Rattle.reply.specs.Reply.{refusedBy, doneWith}
-use Rattle.reply.specs.Outcome.{Outcome, refuse, nothing, give, push, Answered}
+use Rattle.reply.specs.Reply.{refusedFor, refusedBy, doneWith}
+use Rattle.reply.specs.Outcome.{Outcome, refused, give, push, Answered}
 use Rattle.reply.proofs.Outcomes.{push-push, push-nil, answered-refused, answered-no-room, answered-done}
 use Rattle.emit.specs.declared.Put.{Put}
 use Rattle.emit.specs.declared.Put.the-variants.{Wrote, Refused}
-use Rattle.emit.specs.Puts.{putOf, Puts}
+use Rattle.emit.specs.Puts.{Puts, wrote, refuses}
 
 pub give-inv : {A : Type 0} {xs ys : List A} → give xs ≡ give ys → xs ≡ ys
 give-inv e = cc
 
--- ---- the loop: n words are laid over l, which is now l′; of the outcome o what is left is r
-pub record Front {A : Type 0} (o r : Outcome A) (l l′ : List A) (n : ℕ) : Type 0 where
+-- ---- the loop: elements are laid over l from the place `at` up to n, and l is now l′; of the outcome o what is left is r
+pub record Front {A : Type 0} (o r : Outcome A) (at : ℕ) (l l′ : List A) (n : ℕ) : Type 0 where
   pub front : List A
-  pub size : length front ≡ n
-  pub left : l′ ≡ sets l 0 front
+  pub laid : Laid l at front l′ n
   pub rest : o ≡ push front r
 
 module _ {A : Type 0} where
-  pub front-start : (o : Outcome A) (l : List A) → Front o o l l 0
-  front-start o l = record { front = []; size = refl; left = refl; rest = sym (push-nil o) }
+  pub front-start : (o : Outcome A) (at : ℕ) (l : List A) → Front o o at l l at
+  front-start o at l = record { front = []; laid = record { next = sym (add-zero at); left = refl }; rest = sym (push-nil o) }
 
-  module _ (o r : Outcome A) (l m : List A) (n : ℕ) (k : Front o r l m n) where
-    pub front-put : (xs : List A) (r′ : Outcome A) (l′ : List A) → r ≡ push xs r′ → l′ ≡ sets m n xs → Front o r′ l l′ (n + length xs)
-    front-put xs r′ l′ e p = record {
+  module _ (o r : Outcome A) (at : ℕ) (l m : List A) (n : ℕ) (k : Front o r at l m n) where
+    pub front-laid : (xs : List A) (r′ : Outcome A) (l′ : List A) (n′ : ℕ) → r ≡ push xs r′ → Laid m n xs l′ n′ → Front o r′ at l l′ n′
+    front-laid xs r′ l′ n′ e p = record {
       front = k .front ++ xs;
-      size = length-append (k .front) xs ∙ ap (λ a. a + length xs) (k .size);
-      left = p ∙ ap₂ (λ a b. sets a b xs) (k .left) (sym (k .size) ∙ sym (zero-add (length (k .front)))) ∙ sets-append (k .front) xs l 0;
+      laid = laid-append (k .front) xs (k .laid) p;
       rest = k .rest ∙ ap (push (k .front)) e ∙ push-push (k .front) xs r′;
     }
 
-    pub front-pass : (r′ : Outcome A) → r ≡ r′ → Front o r′ l m n
+    pub front-put : (xs : List A) (r′ : Outcome A) (l′ : List A) → r ≡ push xs r′ → l′ ≡ sets m n xs → Front o r′ at l l′ (n + length xs)
+    front-put xs r′ l′ e p = front-laid xs r′ l′ (n + length xs) e (record { next = refl; left = p })
+
+    pub front-pass : (r′ : Outcome A) → r ≡ r′ → Front o r′ at l m n
     front-pass r′ e = rw e at k
 
     pub front-length : length m ≡ length l
-    front-length = ap length (k .left) ∙ length-sets l 0 (k .front)
+    front-length = laid-length (k .front) (k .laid)
 
-    pub front-refused : (w : Refusal) → r ≡ refuse w → Puts o l m Refused
-    front-refused w e =
-        let q : o ≡ refuse w = k .rest ∙ ap (push (k .front)) e in
-        record { answer = sym (ap putOf q); left = λ words p. never cc }
+    pub front-refused : (c : Cause) → r ≡ refused c → Puts o at l m (Refused c)
+    front-refused c e = let q : o ≡ refused c = k .rest ∙ ap (push (k .front)) e in rw q refuses
 
-    pub front-done : r ≡ give [] → Puts o l m (Wrote n)
+    pub front-done : r ≡ give [] → Puts o at l m (Wrote n)
     front-done e =
         let q : o ≡ give (k .front) = k .rest ∙ ap (push (k .front)) e ∙ ap give (append-nil (k .front)) in
-        record { answer = ap Wrote (sym (k .size)) ∙ sym (ap putOf q); left = λ words p. k .left ∙ ap (sets l 0) (give-inv (sym q ∙ p)) }
+        rw q (wrote (k .laid))
 
--- ---- the public call
+-- ---- what a writer's answer says of its outcome
 
--- an outcome that gives words or is refused for one reason
-pub data Settled {A : Type 0} (w : Refusal) : Outcome A → Type 0 where
-  gives : (l : List A) → Settled w (give l)
-  refuses : Settled w (refuse w)
-
--- the words that a writer was to write
-pub record Given {A : Type 0} (o : Outcome A) (n : ℕ) : Type 0 where
-  pub words : List A
-  pub is : o ≡ give words
-  pub size : length words ≡ n
+-- the elements that were to be written, and the place after them
+pub record Given {A : Type 0} (o : Outcome A) (at : ℕ) (l l′ : List A) (n : ℕ) : Type 0 where
+  pub elements : List A
+  pub is : o ≡ give elements
+  pub laid : Laid l at elements l′ n
 
 module _ {A : Type 0} where
-  pub put-wrote : (o : Outcome A) (n : ℕ) (p : Put) → p ≡ putOf o → p ≡ Wrote n → Given o n
-  put-wrote (refuse w) n p a e = never cc
-  put-wrote nothing n p a e = never cc
-  put-wrote (give l) n p a e = record { words = l; is = refl; size = cc }
+  pub put-wrote : {o : Outcome A} {at : ℕ} {l l′ : List A} {p : Put} (n : ℕ) → Puts o at l l′ p → p ≡ Wrote n → Given o at l l′ n
+  put-wrote n (wrote {elements} {at} {next} laid) e =
+      let same : next ≡ n = cc in
+      record { elements = elements; is = refl; laid = rw same at laid }
+  put-wrote n refuses e = never cc
 
-  put-refused : (w : Refusal) (o : Outcome A) (p : Put) → Settled w o → p ≡ putOf o → p ≡ Refused → o ≡ refuse w
-  put-refused w _ p refuses a e = refl
-  put-refused w _ p (gives l) a e = never cc
+  pub put-refused : {o : Outcome A} {at : ℕ} {l l′ : List A} {p : Put} (c : Cause) → Puts o at l l′ p → p ≡ Refused c → o ≡ refused c
+  put-refused c (wrote laid) e = never cc
+  put-refused c (refuses {cause}) e = let same : cause ≡ c = cc in ap refused same
+
+  pub put-left : {o : Outcome A} {at : ℕ} {l l′ : List A} {p : Put} (es : List A) → Puts o at l l′ p → o ≡ give es → l′ ≡ sets l at es
+  put-left es (wrote {elements} laid) e = rw (give-inv e) at (laid .left)
+  put-left es refuses e = never cc
+
+  -- ---- the public call, which writes from the front
 
   empty-front : (z l : List A) → length z ≡ 0 → z ++ l ≡ l
   empty-front [] l h = refl
   empty-front (x ∷ z) l h = absurd (omega arith)
 
-  sets-front : (ws l : List A) → length ws ≤ length l → sets l 0 ws ≡ ws ++ drop (length ws) l
-  sets-front ws l h = sets-eq ws l 0 (rw zero-add h) ∙ ap (λ n. ws ++ drop n l) (zero-add (length ws))
+  sets-front : (es l : List A) → length es ≤ length l → sets l 0 es ≡ es ++ drop (length es) l
+  sets-front es l h = sets-eq es l 0 (rw zero-add h) ∙ ap (λ n. es ++ drop n l) (zero-add (length es))
 
   -- the room that was lent to measure was empty, so it came back as it was
-  module _ (whole o : Outcome A) (e : whole ≡ o) (l z z′ : List A) (p : Put) (measured : Puts o z z′ p) (empty : length z′ ≡ 0) where
-    pub call-refused : (w : Refusal) (r : Answer) → Settled w o → p ≡ Refused → r ≡ refusedBy w → Answered whole l (z′ ++ l) r
-    call-refused w r s q a =
-        rw (a, empty-front z′ l empty) (answered-refused whole l w (e ∙ put-refused w o p s (measured .answer) q))
+  module _ (whole o : Outcome A) (e : whole ≡ o) (l z z′ : List A) (p : Put) (measured : Puts o 0 z z′ p) (empty : length z′ ≡ 0) where
+    pub call-refused : (c : Cause) (r : Answer) → p ≡ Refused c → r ≡ refusedFor c → Answered whole l (z′ ++ l) r
+    call-refused c r q a = rw (a, empty-front z′ l empty) (answered-refused whole l c (e ∙ put-refused c measured q))
 
-    module _ (n : ℕ) (q : p ≡ Wrote n) (r : Answer) where
-      given : Given o n
-      given = put-wrote o n p (measured .answer) q
-
-      pub call-no-room : length (z′ ++ l) < n → r ≡ refusedBy NoRoom → Answered whole l (z′ ++ l) r
-      call-no-room h a =
-          let same : z′ ++ l ≡ l = empty-front z′ l empty in
-          let short : length l < length (given .words) = omega (arith, ap length same, given .size) in
-          rw (a, same) (answered-no-room whole l (given .words) (e ∙ given .is) short)
+    pub call-no-room : (n : ℕ) (r : Answer) → p ≡ Wrote n → length (z′ ++ l) < n → r ≡ refusedBy NoRoom → Answered whole l (z′ ++ l) r
+    call-no-room n r q h a =
+        let g = put-wrote n measured q in
+        let same : z′ ++ l ≡ l = empty-front z′ l empty in
+        let short : length l < length (g .elements) = omega (arith, ap length same, g .laid .next) in
+        rw (a, same) (answered-no-room whole l (g .elements) (e ∙ g .is) short)
 
   -- the second run writes what the first measured
   module _
       (whole o : Outcome A) (l l′ z z′ : List A) (n : ℕ) (r : Answer) (p p′ : Put)
-      (a : r ≡ doneWith n) (written : Puts o (z′ ++ l) l′ p′) where
-    pub call-done : Puts o z z′ p → p ≡ Wrote n → length z′ ≡ 0 → n ≤ length (z′ ++ l) → whole ≡ o → Answered whole l l′ r
+      (a : r ≡ doneWith n) (written : Puts o 0 (z′ ++ l) l′ p′) where
+    pub call-done : Puts o 0 z z′ p → p ≡ Wrote n → length z′ ≡ 0 → n ≤ length (z′ ++ l) → whole ≡ o → Answered whole l l′ r
     call-done measured q empty h e =
-        let g = put-wrote o n p (measured .answer) q in
+        let g = put-wrote n measured q in
+        let size : n ≡ length (g .elements) = g .laid .next ∙ zero-add (length (g .elements)) in
         let same : z′ ++ l ≡ l = empty-front z′ l empty in
-        let room : length (g .words) ≤ length l = omega (arith, ap length same, g .size) in
-        let left : l′ ≡ g .words ++ drop (length (g .words)) l =
-        written .left (g .words) (g .is) ∙ ap (λ x. sets x 0 (g .words)) same ∙ sets-front (g .words) l room in
-        rw (a ∙ ap doneWith (sym (g .size)), left) (answered-done whole l (g .words) (e ∙ g .is) room)
+        let room : length (g .elements) ≤ length l = omega (arith, ap length same, size) in
+        let left : l′ ≡ g .elements ++ drop (length (g .elements)) l =
+        put-left (g .elements) written (g .is) ∙ ap (λ x. sets x 0 (g .elements)) same ∙ sets-front (g .elements) l room in
+        rw (a ∙ ap doneWith size, left) (answered-done whole l (g .elements) (e ∙ g .is) room)
 
 pub ruleset call-laws = (call-refused, call-no-room, call-done)

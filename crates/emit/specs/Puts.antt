@@ -1,22 +1,18 @@
--- What a writer of words leaves behind: the first of its words go over the front of the lent memory, as far as that reaches.
+-- What a writer comes to. Its elements, words or bytes, go over the lent memory from a place on, as far as that reaches.
 --
---         putOf o ==  the writer's answer
---   Puts o l l′ r <-> the writer of the outcome o answered r, and what was l is l′, where o gives words
+--   Puts o at l l′ r <-> the writer of the outcome o, from the place `at` on, answered r, and what was l is l′
 --
 -- Assumes nothing.
-use mathlib.Core.Path.{_≡_}
 use mathlib.Core.List.{List}
-use lib.ListN.{length}
-use lib.Seq.{sets}
-use Rattle.reply.specs.Outcome.{Outcome, refuse, nothing, give}
+use Prim.Native.Nat.{ℕ}
+use Rattle.octets.specs.Octets.{Laid}
+use Rattle.reply.specs.declared.Cause.{Cause}
+use Rattle.reply.specs.Outcome.{Outcome, refused, give}
 use Rattle.emit.specs.declared.Put.{Put}
 use Rattle.emit.specs.declared.Put.the-variants.{Wrote, Refused}
 
-abbrev pub putOf : {A : Type 0} → Outcome A → Put
-putOf (refuse w) = Refused
-putOf nothing = Refused
-putOf (give l) = Wrote (length l)
-
-pub record Puts {A : Type 0} (o : Outcome A) (l l′ : List A) (r : Put) : Type 0 where
-  pub answer : r ≡ putOf o
-  pub left : (words : List A) → o ≡ give words → l′ ≡ sets l 0 words
+-- elements are laid, and the place after them is the answer; a refusal is passed on as it is, and what was laid before it is not said. No
+-- writer has the outcome Absent: a call answers that before it writes
+pub data Puts {A : Type 0} : Outcome A → (at : ℕ) (l l′ : List A) → Put → Type 0 where
+  wrote : {elements : List A} {at next : ℕ} {l l′ : List A} → Laid l at elements l′ next → Puts (give elements) at l l′ (Wrote next)
+  refuses : {cause : Cause} {at : ℕ} {l l′ : List A} → Puts (refused cause) at l l′ (Refused cause)

@@ -8,12 +8,13 @@ ghost use lib.ListN.{length};
 ghost use lib.Seq.{sets};
 ghost use Rattle.reply.specs.Outcome.{give, Answered};
 use reply::Answer;
+use reply::Cause;
 use reply::Refusal;
 
-// What a writer comes to: how many elements it gives, or that it is refused.
+// What a writer comes to: the place after its elements, or why it is refused.
 pub enum Put {
     Wrote(usize),
-    Refused,
+    Refused(Cause),
 }
 
 // One word at a place; past the end nothing is written.

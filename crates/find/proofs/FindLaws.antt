@@ -20,7 +20,7 @@ use Rattle.reply.specs.declared.Refusal.the-variants.{BeyondLimit}
 use Rattle.reply.specs.declared.Verdict.{Verdict}
 use Rattle.reply.specs.declared.Verdict.the-variants.{Fine, Refused as Bad}
 use Rattle.reply.specs.declared.Answer.{Answer}
-use Rattle.reply.specs.Reply.{refusedBy}
+use Rattle.reply.specs.Reply.{nowhere, refusedBy}
 use Rattle.reply.specs.Outcome.{give, Answered}
 use Rattle.reply.proofs.Outcomes.{answered-refused}
 use Rattle.reply.proofs.VerdictLaws.{refused-fine, first-fine-front}
@@ -128,7 +128,7 @@ module _ (f : Found) (name-at name-size extendee-at extendee-size path-at path-s
 module _ (s c p l : List ℕ) (r : Resolved) (q : r ≡ finding s c p) (a : Answer) where
   pub find-refused : (w : Refusal) → r ≡ Refused w → a ≡ refusedBy w → Answered (findWords s c p) l l a
   unfolding findWords
-  find-refused w g e = rw e (answered-refused (findWords s c p) l w (ap worded (sym q ∙ g)))
+  find-refused w g e = rw e (answered-refused (findWords s c p) l (nowhere w) (ap worded (sym q ∙ g)))
 
   pub find-found : (f : Found) → r ≡ Field f → (l′ : List ℕ) → Answered (give (wordsOf f)) l l′ a → Answered (findWords s c p) l l′ a
   unfolding findWords

@@ -1,6 +1,6 @@
 -- Fields: the loop of `put_fields`, and the ways through `lower_fields`.
 -- Assumes nothing.
-use mathlib.Core.Path.{_≡_, refl, ap, _∙_}
+use mathlib.Core.Path.{_≡_, refl, sym, ap, _∙_}
 use mathlib.Core.Bool.{Bool, true, false}
 use mathlib.Core.List.{List, [], _∷_}
 use Prim.Native.Nat.{ℕ, suc, _+_, _≤_, _<_}
@@ -15,16 +15,17 @@ use mir.Val.{Fits}
 use Rattle.basis.proofs.Never.{never}
 use Rattle.limits.specs.Figures.{mostWords}
 use Rattle.reply.specs.declared.Refusal.the-variants.{BadRequest, BeyondLimit}
+use Rattle.reply.specs.declared.Cause.{Cause}
 use Rattle.reply.specs.declared.Answer.{Answer}
-use Rattle.reply.specs.Reply.{refusedBy}
-use Rattle.reply.specs.Outcome.{Outcome, refuse, give, push, Answered}
+use Rattle.reply.specs.Reply.{nowhere, refusedBy}
+use Rattle.reply.specs.Outcome.{Outcome, refused, refuse, nothing, give, push, Answered}
 use Rattle.reply.proofs.Outcomes.{answered-refused}
 use Rattle.emit.specs.declared.Put.{Put}
 use Rattle.emit.specs.declared.Put.the-variants.{Wrote, Refused}
 use Rattle.emit.specs.Puts.{Puts}
 use Rattle.lowering.specs.Fields.{oneofs, lowerFields}
 use Rattle.emit.proofs.WriteLaws.{Front, front-start, front-put, front-pass, front-length, front-refused, front-done}
-use Rattle.emit.proofs.WriteLaws.{give-inv, Settled, gives, refuses, put-wrote, call-laws}
+use Rattle.emit.proofs.WriteLaws.{give-inv, put-wrote, call-laws}
 
 -- ---- a word at the front
 module _ (count member w : ℕ) (ws : List ℕ) where
@@ -61,18 +62,18 @@ pub record Numbering (ws l l′ : List ℕ) (count member n i : ℕ) : Type 0 wh
   pub most : length ws ≤ mostWords
   pub few : n ≤ i
   pub counted : count ≤ i
-  pub laid : Front (oneofs 0 0 ws) (oneofs count member (drop i ws)) l l′ n
+  pub laid : Front (oneofs 0 0 ws) (oneofs count member (drop i ws)) 0 l l′ n
 
 pub numbering-start : (ws l : List ℕ) → length ws ≤ mostWords → Numbering ws l l 0 0 0 0
-numbering-start ws l h = record { reached = omega arith; most = h; few = omega arith; counted = omega arith; laid = front-start _ l }
+numbering-start ws l h = record { reached = omega arith; most = h; few = omega arith; counted = omega arith; laid = front-start _ 0 l }
 
 module _ (ws l m : List ℕ) (count member n i : ℕ) (u : Numbering ws l m count member n i) where
   pub numbering-length : length m ≡ length l
-  numbering-length = front-length _ _ l m n (u .laid)
+  numbering-length = front-length _ _ 0 l m n (u .laid)
 
-  pub numbering-done : length ws ≤ i → Puts (oneofs 0 0 ws) l m (Wrote n)
+  pub numbering-done : length ws ≤ i → Puts (oneofs 0 0 ws) 0 l m (Wrote n)
   unfolding oneofs
-  numbering-done h = front-done _ _ l m n (u .laid) (rw (drop-of-length-le ws h))
+  numbering-done h = front-done _ _ 0 l m n (u .laid) (rw (drop-of-length-le ws h))
 
   module _ (h : i < length ws) where
     here : drop i ws ≡ getD ws i 0 ∷ drop (i + 1) ws
@@ -87,11 +88,12 @@ module _ (ws l m : List ℕ) (count member n i : ℕ) (u : Numbering ws l m coun
       most = u .most;
       few = omega (arith, u .few);
       counted = g;
-      laid = front-put _ _ l m n (u .laid) (x ∷ []) _ l′ (ap (oneofs count member) here ∙ e) p;
+      laid = front-put _ _ 0 l m n (u .laid) (x ∷ []) _ l′ (ap (oneofs count member) here ∙ e) p;
     }
 
-    refused-here : oneofs count member (getD ws i 0 ∷ drop (i + 1) ws) ≡ refuse BadRequest → Puts (oneofs 0 0 ws) l m Refused
-    refused-here e = front-refused _ _ l m n (u .laid) BadRequest (ap (oneofs count member) here ∙ e)
+    refused-here : oneofs count member (getD ws i 0 ∷ drop (i + 1) ws) ≡ refuse BadRequest
+        → (c : Cause) → c ≡ nowhere BadRequest → Puts (oneofs 0 0 ws) 0 l m (Refused c)
+    refused-here e c q = front-refused _ _ 0 l m n (u .laid) c (ap (oneofs count member) here ∙ e ∙ ap refused (sym q))
 
     pub numbering-plain : getD ws i 0 ≡ 0 → (l′ : List ℕ) → l′ ≡ sets m n (0 ∷ []) → Numbering ws l l′ count 0 (n + 1) (i + 1)
     numbering-plain a = wrote count 0 0 (oneofs-plain count member _ _ a) (omega (arith, u .counted))
@@ -108,15 +110,15 @@ module _ (ws l m : List ℕ) (count member n i : ℕ) (u : Numbering ws l m coun
           most = u .most;
           few = omega (arith, u .few);
           counted = omega (arith, u .counted);
-          laid = front-pass _ _ l m n (u .laid) _ (ap (oneofs count member) here ∙ oneofs-opens count member _ _ a b d);
+          laid = front-pass _ _ 0 l m n (u .laid) _ (ap (oneofs count member) here ∙ oneofs-opens count member _ _ a b d);
         }
 
         module _ (d : getD ws i 0 ≡ 2 → ⊥) where
-          pub numbering-other : (getD ws i 0 ≡ 3 → ⊥) → Puts (oneofs 0 0 ws) l m Refused
+          pub numbering-other : (getD ws i 0 ≡ 3 → ⊥) → (c : Cause) → c ≡ nowhere BadRequest → Puts (oneofs 0 0 ws) 0 l m (Refused c)
           numbering-other e = refused-here (oneofs-other count member _ _ a b d e)
 
           module _ (e : getD ws i 0 ≡ 3) where
-            pub numbering-stray : member ≡ 0 → Puts (oneofs 0 0 ws) l m Refused
+            pub numbering-stray : member ≡ 0 → (c : Cause) → c ≡ nowhere BadRequest → Puts (oneofs 0 0 ws) 0 l m (Refused c)
             numbering-stray g = refused-here (oneofs-stray count member _ _ a b d e g)
 
             pub numbering-member : (member ≡ 0 → ⊥) → (l′ : List ℕ) → l′ ≡ sets m n (member ∷ [])
@@ -137,57 +139,50 @@ pub ruleset numbering-laws = (
 
 -- ---- the public call
 
--- what is refused is a BadRequest, and no more words are given than read
-pub record Sized (o : Outcome ℕ) (n : ℕ) : Type 0 where
-  pub settled : Settled BadRequest o
-  pub short : (words : List ℕ) → o ≡ give words → length words ≤ n
+-- no more words are given than read
+record Short (o : Outcome ℕ) (n : ℕ) : Type 0 where
+  most : (words : List ℕ) → o ≡ give words → length words ≤ n
 
-sized-give : Sized (give []) 0
-sized-give = record { settled = gives []; short = λ words q. omega (arith, ap length (give-inv q)) }
+short-nil : (n : ℕ) → Short (give []) n
+short-nil n = record { most = λ words q. omega (arith, ap length (give-inv q)) }
 
-sized-refuse : (n : ℕ) → Sized (refuse BadRequest) n
-sized-refuse n = record { settled = refuses; short = λ words q. never cc }
+short-refused : (c : Cause) (n : ℕ) → Short (refused c) n
+short-refused c n = record { most = λ words q. never cc }
 
-sized-push : (x n : ℕ) (o : Outcome ℕ) → Sized o n → Sized (push (x ∷ []) o) (suc n)
-sized-push x n o s = go o (s .settled) (s .short)
-  where
-    go : (o : Outcome ℕ) → Settled BadRequest o → ((words : List ℕ) → o ≡ give words → length words ≤ n) → Sized (push (x ∷ []) o) (suc n)
-    go _ refuses p = sized-refuse (suc n)
-    go _ (gives l) p = record { settled = gives (x ∷ l); short = λ words q. omega (arith, ap length (give-inv q), p l refl) }
+short-push : (x n : ℕ) (o : Outcome ℕ) → Short o n → Short (push (x ∷ []) o) (suc n)
+short-push x n (refused c) s = short-refused c (suc n)
+short-push x n nothing s = record { most = λ words q. never cc }
+short-push x n (give l) s = record { most = λ words q. omega (arith, ap length (give-inv q), s .most l refl) }
 
-sized-more : (n : ℕ) (o : Outcome ℕ) → Sized o n → Sized o (suc n)
-sized-more n o s = record { settled = s .settled; short = λ words q. omega (arith, s .short words q) }
+short-more : (n : ℕ) (o : Outcome ℕ) → Short o n → Short o (suc n)
+short-more n o s = record { most = λ words q. omega (arith, s .most words q) }
 
-sized-if : (t : Bool) {n : ℕ} {o o′ : Outcome ℕ} → Sized o n → Sized o′ n → Sized (elim t [ true ↦ o | false ↦ o′ ]) n
-sized-if true s s′ = s
-sized-if false s s′ = s′
+short-if : (t : Bool) {n : ℕ} {o o′ : Outcome ℕ} → Short o n → Short o′ n → Short (elim t [ true ↦ o | false ↦ o′ ]) n
+short-if true s s′ = s
+short-if false s s′ = s′
 
-oneofs-sized : (count member : ℕ) (ws : List ℕ) → Sized (oneofs count member ws) (length ws)
+oneofs-short : (count member : ℕ) (ws : List ℕ) → Short (oneofs count member ws) (length ws)
 unfolding oneofs
-oneofs-sized count member [] = sized-give
-oneofs-sized count member (w ∷ ws) =
+oneofs-short count member [] = short-nil 0
+oneofs-short count member (w ∷ ws) =
     let n = length ws in
-    sized-if (eqb w 0) (sized-push 0 n _ (oneofs-sized count 0 ws))
-    (sized-if (eqb w 1) (sized-push (suc count) n _ (oneofs-sized (suc count) 0 ws))
-    (sized-if (eqb w 2) (sized-more n _ (oneofs-sized (suc count) (suc count) ws))
-    (sized-if (eqb w 3)
-    (sized-if (eqb member 0) (sized-refuse (suc n)) (sized-push member n _ (oneofs-sized count member ws)))
-    (sized-refuse (suc n)))))
+    let bad = short-refused (nowhere BadRequest) (suc n) in
+    short-if (eqb w 0) (short-push 0 n _ (oneofs-short count 0 ws))
+    (short-if (eqb w 1) (short-push (suc count) n _ (oneofs-short (suc count) 0 ws))
+    (short-if (eqb w 2) (short-more n _ (oneofs-short (suc count) (suc count) ws))
+    (short-if (eqb w 3) (short-if (eqb member 0) bad (short-push member n _ (oneofs-short count member ws))) bad)))
 
 pub fields-long : (ws l : List ℕ) (r : Answer) → mostWords < length ws → r ≡ refusedBy BeyondLimit → Answered (lowerFields ws) l l r
 unfolding lowerFields
-fields-long ws l r h a = rw a (answered-refused _ l BeyondLimit (simp (lowerFields, lt-ltb _ _ h)))
-
-pub fields-settled : (ws : List ℕ) → Settled BadRequest (oneofs 0 0 ws)
-fields-settled ws = oneofs-sized 0 0 ws .settled
+fields-long ws l r h a = rw a (answered-refused _ l (nowhere BeyondLimit) (simp (lowerFields, lt-ltb _ _ h)))
 
 pub fields-left : (ws : List ℕ) → length ws ≤ mostWords → lowerFields ws ≡ oneofs 0 0 ws
 unfolding lowerFields
 fields-left ws h = simp (lowerFields, le-ltb _ _ h)
 
-pub fields-fit : (ws z z′ : List ℕ) (p : Put) (n : ℕ) → Puts (oneofs 0 0 ws) z z′ p → p ≡ Wrote n → length ws ≤ mostWords → Fits w32 n
+pub fields-fit : (ws z z′ : List ℕ) (p : Put) (n : ℕ) → Puts (oneofs 0 0 ws) 0 z z′ p → p ≡ Wrote n → length ws ≤ mostWords → Fits w32 n
 fields-fit ws z z′ p n u e h =
-    let g = put-wrote (oneofs 0 0 ws) n p (u .answer) e in
-    record { fits = omega (arith, oneofs-sized 0 0 ws .short (g .words) (g .is), g .size) }
+    let g = put-wrote n u e in
+    record { fits = omega (arith, oneofs-short 0 0 ws .most (g .elements) (g .is), g .laid .next) }
 
-pub ruleset fields-laws = (fields-long, fields-settled, fields-left, fields-fit, call-laws)
+pub ruleset fields-laws = (fields-long, fields-left, fields-fit, call-laws)

@@ -16,9 +16,10 @@ use lib.Signed.{mag}
 use Rattle.basis.proofs.Never.{never}
 use Rattle.limits.specs.Figures.{mostWords}
 use Rattle.reply.specs.declared.Refusal.the-variants.{BadRequest, BeyondLimit, RangeEnd}
+use Rattle.reply.specs.declared.Cause.{Cause}
 use Rattle.reply.specs.declared.Answer.{Answer}
-use Rattle.reply.specs.Reply.{refusedBy}
-use Rattle.reply.specs.Outcome.{Outcome, refuse, nothing, give, push, Answered}
+use Rattle.reply.specs.Reply.{nowhere, refusedBy}
+use Rattle.reply.specs.Outcome.{Outcome, refused, nothing, give, push, Answered}
 use Rattle.reply.proofs.Outcomes.{answered-refused}
 use Rattle.emit.specs.declared.Put.{Put}
 use Rattle.emit.specs.declared.Put.the-variants.{Wrote, Refused}
@@ -27,7 +28,7 @@ use Rattle.lowering.specs.declared.ranges.End.the-variants.{At, NoNext}
 use Rattle.emit.specs.Puts.{Puts}
 use Rattle.lowering.specs.Ranges.{enumReserved, endOf, withEnd, pairs, lowerRanges}
 use Rattle.emit.proofs.WriteLaws.{Front, front-start, front-put, front-length, front-refused, front-done}
-use Rattle.emit.proofs.WriteLaws.{give-inv, Settled, gives, refuses, put-wrote, call-laws}
+use Rattle.emit.proofs.WriteLaws.{give-inv, put-wrote, call-laws}
 
 -- a word as the machine has it: written as bits, and read from them
 abbrev pub word : ℤ → ℤ
@@ -45,21 +46,21 @@ pub record Ranging (k : ℕ) (ws l l′ : List ℤ) (i : ℕ) : Type 0 where
   pub reached : i ≤ length ws
   pub turn : i % 2 ≡ 0
   pub whole : length ws % 2 ≡ 0
-  pub laid : Front (pairs k ws) (pairs k (drop i ws)) l l′ i
+  pub laid : Front (pairs k ws) (pairs k (drop i ws)) 0 l l′ i
 
 pub ranging-start : (k : ℕ) (ws l : List ℤ) → length ws % 2 ≡ 0 → Ranging k ws l l 0
-ranging-start k ws l h = record { reached = omega arith; turn = refl; whole = h; laid = front-start (pairs k ws) l }
+ranging-start k ws l h = record { reached = omega arith; turn = refl; whole = h; laid = front-start (pairs k ws) 0 l }
 
 module _ (k : ℕ) (ws l m : List ℤ) (i : ℕ) (u : Ranging k ws l m i) where
   pub ranging-end-in : i < length ws → i + 1 < length ws
   ranging-end-in h = omega arith
 
   pub ranging-length : length m ≡ length l
-  ranging-length = front-length _ _ l m i (u .laid)
+  ranging-length = front-length _ _ 0 l m i (u .laid)
 
-  pub ranging-done : length ws ≤ i → Puts (pairs k ws) l m (Wrote i)
+  pub ranging-done : length ws ≤ i → Puts (pairs k ws) 0 l m (Wrote i)
   unfolding pairs
-  ranging-done h = front-done _ _ l m i (u .laid) (rw (drop-of-length-le ws h))
+  ranging-done h = front-done _ _ 0 l m i (u .laid) (rw (drop-of-length-le ws h))
 
   module _ (h : i < length ws) where
     -- the range that starts at i
@@ -78,8 +79,8 @@ module _ (k : ℕ) (ws l m : List ℤ) (i : ℕ) (u : Ranging k ws l m i) where
       end-here : x ≡ endOf k (getD ws (i + 1) (pos 0))
       end-here = q ∙ ap (endOf k) (word-back _ fe)
 
-      pub ranging-none : x ≡ NoNext → Puts (pairs k ws) l m Refused
-      ranging-none g = front-refused _ _ l m i (u .laid) RangeEnd (rest-here x end-here ∙ rw g)
+      pub ranging-none : x ≡ NoNext → (c : Cause) → c ≡ nowhere RangeEnd → Puts (pairs k ws) 0 l m (Refused c)
+      ranging-none g c e = front-refused _ _ 0 l m i (u .laid) c (rest-here x end-here ∙ rw (g, e))
 
       module _ (fs : mag (getD ws i (pos 0)) < 2147483648) (e : ℤ) (fx : mag e < 2147483648) (g : x ≡ At e) where
         pub ranging-next : (l′ : List ℤ) → l′ ≡ sets m i (word (getD ws i (pos 0)) ∷ word e ∷ []) → Ranging k ws l l′ (i + 2)
@@ -88,23 +89,12 @@ module _ (k : ℕ) (ws l m : List ℤ) (i : ℕ) (u : Ranging k ws l m i) where
             let after = pairs k (drop (i + 2) ws) in
             let split : pairs k (drop i ws) ≡ push range after = rest-here x end-here ∙ rw g in
             let here : l′ ≡ sets m i range = rw (word-back _ fs, word-back _ fx) at a in
-            let laid = front-put _ _ l m i (u .laid) range after l′ split here in
+            let laid = front-put _ _ 0 l m i (u .laid) range after l′ split here in
             record { reached = omega (arith, ranging-end-in h); turn = omega arith; whole = u .whole; laid = laid }
 
 pub ruleset ranging-laws = (ranging-start, ranging-end-in, ranging-length, ranging-done, ranging-none, ranging-next)
 
 -- ---- the public call
-
-pairs-settled : (k : ℕ) (ws : List ℤ) → length ws % 2 ≡ 0 → Settled RangeEnd (pairs k ws)
-unfolding pairs
-pairs-settled k [] h = gives []
-pairs-settled k (s ∷ []) h = absurd (let z : 1 % 2 ≡ 0 = h in omega arith)
-pairs-settled k (s ∷ e ∷ ws) h = go (endOf k e) (pairs k ws) (pairs-settled k ws (omega arith))
-  where
-    go : (x : End) (o : Outcome ℤ) → Settled RangeEnd o → Settled RangeEnd (withEnd s x o)
-    go NoNext o p = refuses
-    go (At x) _ refuses = refuses
-    go (At x) _ (gives m) = gives (s ∷ x ∷ m)
 
 pairs-length : (k : ℕ) (ws words : List ℤ) → pairs k ws ≡ give words → length words ≡ length ws
 unfolding pairs
@@ -115,38 +105,35 @@ pairs-length k (s ∷ e ∷ ws) words q = go (endOf k e) (pairs k ws) (pairs-len
     go : (x : End) (o : Outcome ℤ) → ((m : List ℤ) → o ≡ give m → length m ≡ length ws) → withEnd s x o ≡ give words
         → length words ≡ suc (suc (length ws))
     go NoNext o p r = never cc
-    go (At x) (refuse w) p r = never cc
+    go (At x) (refused c) p r = never cc
     go (At x) nothing p r = never cc
     go (At x) (give m) p r = sym (ap length (give-inv r)) ∙ ap (λ n. suc (suc n)) (p m refl)
 
 module _ (k : ℕ) (ws l : List ℤ) (r : Answer) where
   pub ranges-kind : enumReserved < k → r ≡ refusedBy BadRequest → Answered (lowerRanges k ws) l l r
   unfolding lowerRanges
-  ranges-kind h a = rw a (answered-refused _ l BadRequest (simp (lowerRanges, lt-ltb _ _ h)))
+  ranges-kind h a = rw a (answered-refused _ l (nowhere BadRequest) (simp (lowerRanges, lt-ltb _ _ h)))
 
   module _ (g : k ≤ enumReserved) where
     pub ranges-long : mostWords < length ws → r ≡ refusedBy BeyondLimit → Answered (lowerRanges k ws) l l r
     unfolding lowerRanges
-    ranges-long h a = rw a (answered-refused _ l BeyondLimit (simp (lowerRanges, le-ltb _ _ g, lt-ltb _ _ h)))
+    ranges-long h a = rw a (answered-refused _ l (nowhere BeyondLimit) (simp (lowerRanges, le-ltb _ _ g, lt-ltb _ _ h)))
 
     pub ranges-odd : length ws ≤ mostWords → length ws % 2 ≡ 1 → r ≡ refusedBy BadRequest → Answered (lowerRanges k ws) l l r
     unfolding lowerRanges
-    ranges-odd h o a = rw a (answered-refused _ l BadRequest (simp (lowerRanges, le-ltb _ _ g, le-ltb _ _ h, eq-eqb _ _ o)))
+    ranges-odd h o a = rw a (answered-refused _ l (nowhere BadRequest) (simp (lowerRanges, le-ltb _ _ g, le-ltb _ _ h, eq-eqb _ _ o)))
 
 module _ (k : ℕ) (ws : List ℤ) (o : length ws % 2 ≡ 1 → ⊥) where
   pub ranges-even : length ws % 2 ≡ 0
   ranges-even = omega arith
 
-  pub ranges-settled : Settled RangeEnd (pairs k ws)
-  ranges-settled = pairs-settled k ws ranges-even
-
   pub ranges-left : k ≤ enumReserved → length ws ≤ mostWords → lowerRanges k ws ≡ pairs k ws
   unfolding lowerRanges
   ranges-left g h = simp (lowerRanges, le-ltb _ _ g, le-ltb _ _ h, ne-eqb _ _ o)
 
-pub ranges-fit : (k : ℕ) (ws z z′ : List ℤ) (p : Put) (n : ℕ) → Puts (pairs k ws) z z′ p → p ≡ Wrote n → length ws ≤ mostWords → Fits w32 n
+pub ranges-fit : (k : ℕ) (ws z z′ : List ℤ) (p : Put) (n : ℕ) → Puts (pairs k ws) 0 z z′ p → p ≡ Wrote n → length ws ≤ mostWords → Fits w32 n
 ranges-fit k ws z z′ p n u e h =
-    let g = put-wrote (pairs k ws) n p (u .answer) e in
-    record { fits = omega (arith, pairs-length k ws (g .words) (g .is), g .size) }
+    let g = put-wrote n u e in
+    record { fits = omega (arith, pairs-length k ws (g .elements) (g .is), g .laid .next) }
 
-pub ruleset ranges-laws = (ranges-kind, ranges-long, ranges-odd, ranges-even, ranges-settled, ranges-left, ranges-fit, call-laws)
+pub ruleset ranges-laws = (ranges-kind, ranges-long, ranges-odd, ranges-even, ranges-left, ranges-fit, call-laws)

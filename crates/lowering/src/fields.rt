@@ -15,7 +15,7 @@ use reply::Refusal;
 // the open one gives.
 fn put_fields(words: &[u32], out: &mut [u32]) -> Put
     requires { ⌜ length (now words) ≤ mostWords ⌝ }
-    ensures { λ r. ⌜ Puts (oneofs 0 0 (now (words .entry))) (now (out .entry)) (now (out .exit)) r ⌝ }
+    ensures { λ r. ⌜ Puts (oneofs 0 0 (now (words .entry))) 0 (now (out .entry)) (now (out .exit)) r ⌝ }
 {
     let mut count: u32 = 0;
     let mut member: u32 = 0;
@@ -42,10 +42,10 @@ fn put_fields(words: &[u32], out: &mut [u32]) -> Put
             i += 1;
         } else {
             if w != 3 {
-                return Put::Refused;
+                return Put::Refused(reply::nowhere(Refusal::BadRequest));
             }
             if member == 0 {
-                return Put::Refused;
+                return Put::Refused(reply::nowhere(Refusal::BadRequest));
             }
             put_word(out, n, member);
             n += 1;
@@ -62,12 +62,14 @@ pub fn lower_fields(words: &[u32], out: &mut [u32]) -> Answer
     if MOST_WORDS < words.len() {
         return reply::refused(Refusal::BeyondLimit);
     }
-    let Put::Wrote(n) = put_fields(words, &mut out[..0]) else {
-        return reply::refused(Refusal::BadRequest);
-    };
-    if out.len() < n {
-        return reply::refused(Refusal::NoRoom);
+    match put_fields(words, &mut out[..0]) {
+        Put::Refused(cause) => reply::refused_for(cause),
+        Put::Wrote(n) => {
+            if out.len() < n {
+                return reply::refused(Refusal::NoRoom);
+            }
+            put_fields(words, out);
+            reply::done(n as u32)
+        }
     }
-    put_fields(words, out);
-    reply::done(n as u32)
 }

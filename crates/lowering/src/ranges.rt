@@ -55,14 +55,14 @@ fn put_range(out: &mut [i32], at: usize, start: i32, end: i32)
 // The lowered ranges from the front on, as far as there is room.
 fn put_ranges(kind: u32, words: &[i32], out: &mut [i32]) -> Put
     requires { ⌜ length (now words) % 2 ≡ 0 ⌝ }
-    ensures { λ r. ⌜ Puts (pairs kind (now (words .entry))) (now (out .entry)) (now (out .exit)) r ⌝ }
+    ensures { λ r. ⌜ Puts (pairs kind (now (words .entry))) 0 (now (out .entry)) (now (out .exit)) r ⌝ }
 {
     let mut i = 0;
     while i < words.len() {
         let start = words[i];
         let end = words[i + 1];
         let End::At(next) = end_of(kind, end) else {
-            return Put::Refused;
+            return Put::Refused(reply::nowhere(Refusal::RangeEnd));
         };
         put_range(out, i, start, next);
         i += 2;
@@ -83,12 +83,14 @@ pub fn lower_ranges(kind: u32, words: &[i32], out: &mut [i32]) -> Answer
     if words.len() % 2 == 1 {
         return reply::refused(Refusal::BadRequest);
     }
-    let Put::Wrote(n) = put_ranges(kind, words, &mut out[..0]) else {
-        return reply::refused(Refusal::RangeEnd);
-    };
-    if out.len() < n {
-        return reply::refused(Refusal::NoRoom);
+    match put_ranges(kind, words, &mut out[..0]) {
+        Put::Refused(cause) => reply::refused_for(cause),
+        Put::Wrote(n) => {
+            if out.len() < n {
+                return reply::refused(Refusal::NoRoom);
+            }
+            put_ranges(kind, words, out);
+            reply::done(n as u32)
+        }
     }
-    put_ranges(kind, words, out);
-    reply::done(n as u32)
 }

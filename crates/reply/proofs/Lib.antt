@@ -1,5 +1,6 @@
+pub mod Variants
 pub mod Rows
-pub mod Spelling
+pub mod Names
 pub mod Outcomes
 pub mod VerdictLaws
 pub mod Controls

@@ -5,27 +5,27 @@ use mathlib.Core.List.{List, [], _++_, append-assoc}
 use Prim.Native.Nat.{_≤_, _<_}
 use borrow.Author.Tests.{lt-ltb, le-ltb}
 use lib.ListN.{length, drop}
-use Rattle.reply.specs.declared.Refusal.{Refusal}
+use Rattle.reply.specs.declared.Cause.{Cause}
 use Rattle.reply.specs.declared.Refusal.the-variants.{NoRoom}
 use Rattle.reply.specs.declared.Answer.{Answer}
-use Rattle.reply.specs.Reply.{refusedBy, doneWith, absentAnswer}
-use Rattle.reply.specs.Outcome.{Outcome, refuse, nothing, give, push, within, Answered}
+use Rattle.reply.specs.Reply.{refusedFor, refusedBy, doneWith, absentAnswer}
+use Rattle.reply.specs.Outcome.{Outcome, refused, nothing, give, push, within, Answered}
 
 module _ {A : Type 0} where
   pub push-push : (xs ys : List A) (o : Outcome A) → push xs (push ys o) ≡ push (xs ++ ys) o
-  push-push xs ys (refuse w) = refl
+  push-push xs ys (refused c) = refl
   push-push xs ys nothing = refl
   push-push xs ys (give l) = ap give (sym (append-assoc xs ys l))
 
   pub push-nil : (o : Outcome A) → push [] o ≡ o
-  push-nil (refuse w) = refl
+  push-nil (refused c) = refl
   push-nil nothing = refl
   push-nil (give l) = refl
 
   -- the ways to an answer
   module _ (o : Outcome A) (before : List A) where
-    pub answered-refused : (w : Refusal) → o ≡ refuse w → Answered o before before (refusedBy w)
-    answered-refused w e = record { answer = rw e; left = rw e }
+    pub answered-refused : (c : Cause) → o ≡ refused c → Answered o before before (refusedFor c)
+    answered-refused c e = record { answer = rw e; left = rw e }
 
     pub answered-absent : o ≡ nothing → Answered o before before absentAnswer
     answered-absent e = record { answer = rw e; left = rw e }

@@ -1,8 +1,9 @@
 -- What a public call comes to, and what its answer and the lent memory then are, for every input and every room.
 --
 --                   Outcome A ==  a refusal, Absent, or elements for the lent memory
+--                    refuse w ==  this refusal, nowhere
 --                push front o ==  the outcome with elements in front of what it gives
---                  within n o ==  the outcome where there is room for n elements
+--               within room o ==  the outcome where there is room for so many elements
 --                  answerOf o ==  the answer record
 --             leftOf o before ==  the lent memory afterwards
 --   Answered o before after r <-> r is the answer of o, and the lent memory, `before` the call, is `after` it
@@ -16,33 +17,37 @@ use lib.Dec.{ltb}
 use lib.ListN.{length, drop}
 use Rattle.reply.specs.declared.Refusal.{Refusal}
 use Rattle.reply.specs.declared.Refusal.the-variants.{NoRoom}
+use Rattle.reply.specs.declared.Cause.{Cause}
 use Rattle.reply.specs.declared.Answer.{Answer}
-use Rattle.reply.specs.Reply.{refusedBy, doneWith, absentAnswer}
+use Rattle.reply.specs.Reply.{nowhere, refusedFor, doneWith, absentAnswer}
 
 pub data Outcome (A : Type 0) : Type 0 where
-  refuse : Refusal → Outcome A
+  refused : (cause : Cause) → Outcome A
   nothing : Outcome A
-  give : List A → Outcome A
+  give : (elements : List A) → Outcome A
 
-abbrev pub push : {A : Type 0} → List A → Outcome A → Outcome A
-push front (refuse w) = refuse w
+abbrev pub refuse : {A : Type 0} → Refusal → Outcome A
+refuse w = refused (nowhere w)
+
+abbrev pub push : {A : Type 0} (front : List A) → Outcome A → Outcome A
+push front (refused c) = refused c
 push front nothing = nothing
 push front (give l) = give (front ++ l)
 
 -- NoRoom comes only when all else has passed; 01, Listing: "room last"
-abbrev pub within : {A : Type 0} → ℕ → Outcome A → Outcome A
-within n (refuse w) = refuse w
-within n nothing = nothing
-within n (give l) = elim (ltb n (length l)) [ true ↦ refuse NoRoom | false ↦ give l ]
+abbrev pub within : {A : Type 0} (room : ℕ) → Outcome A → Outcome A
+within room (refused c) = refused c
+within room nothing = nothing
+within room (give l) = elim (ltb room (length l)) [ true ↦ refuse NoRoom | false ↦ give l ]
 
 abbrev pub answerOf : {A : Type 0} → Outcome A → Answer
-answerOf (refuse w) = refusedBy w
+answerOf (refused c) = refusedFor c
 answerOf nothing = absentAnswer
 answerOf (give l) = doneWith (length l)
 
 -- 01, Replies: "Refusals write nothing ..; on 0, bytes past the answer stay"
-abbrev pub leftOf : {A : Type 0} → Outcome A → List A → List A
-leftOf (refuse w) before = before
+abbrev pub leftOf : {A : Type 0} → Outcome A → (before : List A) → List A
+leftOf (refused c) before = before
 leftOf nothing before = before
 leftOf (give l) before = l ++ drop (length l) before
 

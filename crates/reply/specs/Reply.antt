@@ -8,7 +8,9 @@
 --       mostName ==  the bytes that the array of a name has
 --       textOf n ==  the bytes of a name that the code has made
 --   NameOf n s t <-> t is the name of the refusal that has the number n and the second word s, empty where there is none
---    refusedBy w ==  the answer of a refusal
+--      nowhere w ==  this refusal, nowhere
+--   refusedFor c ==  the answer of a refusal, by its cause
+--    refusedBy w ==  the answer of this refusal, nowhere
 --     doneWith n ==  the answer of a call that wrote n elements
 --   absentAnswer ==  the answer Absent
 --
@@ -29,6 +31,7 @@ use Rattle.reply.specs.declared.Refusal.the-variants.{MessageFieldRequir
 use Rattle.reply.specs.declared.Refusal.the-variants.{UnsupportedExtensionType, UnknownEnumValue, ValueRange}
 use Rattle.reply.specs.declared.Refusal.the-variants.{StrLitDecodeError, RangeEnd, NoRoom, BadBytes}
 use Rattle.reply.specs.declared.Refusal.the-variants.{WireMismatch}
+use Rattle.reply.specs.declared.Cause.{Cause}
 use Rattle.reply.specs.declared.Answer.{Answer}
 use Rattle.reply.specs.declared.Name.{Name}
 
@@ -78,9 +81,15 @@ pub record NameOf (n s : ℕ) (t : List ℕ) : Type 0 where
   pub is : (w : Refusal) → n ≡ number w → s ≡ second w → t ≡ name w
   pub none : ((w : Refusal) → n ≡ number w → s ≡ second w → ⊥) → t ≡ []ᴸ
 
+abbrev pub nowhere : Refusal → Cause
+nowhere w = record { why = w }
+
 -- 01, Replies: "Refusals write nothing and return zero length"
+abbrev pub refusedFor : Cause → Answer
+refusedFor c = record { reply = number (c .why); second = second (c .why); absent = 0; length = 0 }
+
 abbrev pub refusedBy : Refusal → Answer
-refusedBy w = record { reply = number w; second = second w; absent = 0; length = 0 }
+refusedBy w = refusedFor (nowhere w)
 
 abbrev pub doneWith : ℕ → Answer
 doneWith n = record { reply = 0; second = 0; absent = 0; length = n }

@@ -2,9 +2,12 @@
 ghost use mathlib.Core.Path.{_≡_};
 ghost use Prim.Native.Nat.{_≤_};
 ghost use lib.ListN.{length};
-ghost use Rattle.reply.specs.Reply.{number as numberOf, second as secondOf, refusedBy, doneWith, absentAnswer};
+ghost use Rattle.reply.specs.Reply.{number as numberOf, second as secondOf, nowhere as nowhereOf, refusedFor, refusedBy};
+ghost use Rattle.reply.specs.Reply.{doneWith, absentAnswer};
 ghost use Rattle.reply.specs.Reply.{NameOf, mostName, textOf};
+ghost use Rattle.reply.specs.Table.{Tabled};
 ghost use Rattle.reply.specs.Verdicts.{judged};
+use octets::wide;
 
 // Why a call is refused, by the names of 01 and of protobuf-parse's OptionResolverError.
 pub enum Refusal {
@@ -28,6 +31,11 @@ pub enum Refusal {
     NoRoom,
     BadBytes,
     WireMismatch,
+}
+
+// Why a call is refused, and, from a later request on, where.
+pub struct Cause {
+    pub why: Refusal,
 }
 
 // What a test of form says of its bytes.
@@ -87,10 +95,18 @@ pub fn judge(holds: bool, why: Refusal) -> Verdict
     }
 }
 
-// The answer of a refusal: nothing was written.
-pub fn refused(why: Refusal) -> Answer
-    ensures { λ r. ⌜ r ≡ refusedBy why ⌝ }
+// This refusal, nowhere.
+pub fn nowhere(why: Refusal) -> Cause
+    ensures { λ r. ⌜ r ≡ nowhereOf why ⌝ }
 {
+    Cause { why: why }
+}
+
+// The answer of a refusal: nothing was written.
+pub fn refused_for(cause: Cause) -> Answer
+    ensures { λ r. ⌜ r ≡ refusedFor cause ⌝ }
+{
+    let why = cause.why;
     let row = why.row();
     Answer {
         reply: row.0,
@@ -98,6 +114,13 @@ pub fn refused(why: Refusal) -> Answer
         absent: 0,
         length: 0,
     }
+}
+
+// The answer of this refusal, nowhere.
+pub fn refused(why: Refusal) -> Answer
+    ensures { λ r. ⌜ r ≡ refusedBy why ⌝ }
+{
+    refused_for(nowhere(why))
 }
 
 // The answer of a call that wrote so much.
@@ -133,6 +156,32 @@ pub struct Name {
     pub length: usize,
 }
 
+// The bytes of a row.
+const ROW: usize = 43;
+
+// 01's table, a row for each refusal in the order of `Refusal`: the number, the second word, the length of the name, the name and blanks.
+const ROWS: [u8; 20 * ROW] = *b"\
+    \x01\x00\x08BadSheet                                \
+    \x02\x00\x0aBadRequest                              \
+    \x03\x00\x0bBeyondLimit                             \
+    \x04\x00\x11ExtensionNotFound                       \
+    \x05\x00\x12WrongExtensionType                      \
+    \x06\x00\x15ExtensionIsNotMessage                   \
+    \x07\x00\x0fMessageNotFound                         \
+    \x08\x00\x18MessageFoundMoreThanOnce                \
+    \x09\x00\x10UnknownFieldName                        \
+    \x0a\x00\x15BuiltinOptionNotFound                   \
+    \x0a\x01\x25BuiltinOptionPointsToNonSingularField   \
+    \x0b\x00\x23MessageFieldRequiresMessageConstant     \
+    \x0c\x00\x18UnsupportedExtensionType                \
+    \x0d\x00\x10UnknownEnumValue                        \
+    \x0e\x00\x0aValueRange                              \
+    \x0f\x00\x11StrLitDecodeError                       \
+    \x10\x00\x08RangeEnd                                \
+    \x11\x00\x06NoRoom                                  \
+    \x12\x00\x08BadBytes                                \
+    \x13\x00\x0cWireMismatch                            ";
+
 // A text as a name.
 fn spelled(text: &[u8]) -> Name
     requires { ⌜ length (now text) ≤ mostName ⌝ }
@@ -151,33 +200,22 @@ fn spelled(text: &[u8]) -> Name
     }
 }
 
-// The name of the refusal that has this number and the second word 0, empty where there is none.
-fn first_name(reply: u32) -> Name
-    ensures is { λ r. ⌜ NameOf reply 0 (textOf r) ⌝ }
+// The name that a table has for this number and this second word, empty where it has none.
+fn look_up(rows: &[u8], reply: u32, second: u32) -> Name
+    requires { ⌜ Tabled (now rows) ⌝ }
+    ensures is { λ r. ⌜ NameOf reply second (textOf r) ⌝ }
     ensures within { λ r. ⌜ r .length ≤ mostName ⌝ }
 {
-    match reply {
-        1 => spelled(b"BadSheet"),
-        2 => spelled(b"BadRequest"),
-        3 => spelled(b"BeyondLimit"),
-        4 => spelled(b"ExtensionNotFound"),
-        5 => spelled(b"WrongExtensionType"),
-        6 => spelled(b"ExtensionIsNotMessage"),
-        7 => spelled(b"MessageNotFound"),
-        8 => spelled(b"MessageFoundMoreThanOnce"),
-        9 => spelled(b"UnknownFieldName"),
-        10 => spelled(b"BuiltinOptionNotFound"),
-        11 => spelled(b"MessageFieldRequiresMessageConstant"),
-        12 => spelled(b"UnsupportedExtensionType"),
-        13 => spelled(b"UnknownEnumValue"),
-        14 => spelled(b"ValueRange"),
-        15 => spelled(b"StrLitDecodeError"),
-        16 => spelled(b"RangeEnd"),
-        17 => spelled(b"NoRoom"),
-        18 => spelled(b"BadBytes"),
-        19 => spelled(b"WireMismatch"),
-        _ => spelled(b""),
+    let mut at = 0;
+    while at < rows.len() {
+        if (wide(rows[at]) == reply as usize) & (wide(rows[at + 1]) == second as usize) {
+            let from = at + 3;
+            let to = from + wide(rows[at + 2]);
+            return spelled(&rows[from..to]);
+        }
+        at += ROW;
     }
+    spelled(&rows[..0])
 }
 
 // The name of the refusal that has this number and this second word, empty where there is none.
@@ -185,14 +223,5 @@ pub fn name_of(reply: u32, second: u32) -> Name
     ensures is { λ r. ⌜ NameOf reply second (textOf r) ⌝ }
     ensures within { λ r. ⌜ r .length ≤ mostName ⌝ }
 {
-    if second == 0 {
-        return first_name(reply);
-    }
-    if second != 1 {
-        return spelled(b"");
-    }
-    if reply != 10 {
-        return spelled(b"");
-    }
-    spelled(b"BuiltinOptionPointsToNonSingularField")
+    look_up(&ROWS, reply, second)
 }

@@ -1,20 +1,9 @@
--- `reply::name_of` meets its contract.
+-- `reply::name_of` meets its contract: the table passes the test of all its rows.
 -- Assumes nothing.
-use Rattle.reply.proofs.Spelling.{second-name-laws}
+use Rattle.reply.proofs.Names.{rows-tabled}
 use borrow.Author.Needs.{needs}
 use Rattle.reply.proofs.name_of.Statement.{statement}
 use Rattle.reply.proofs.name_of.Tie as tie
 
 pub name-of-spec : {M : Type 1} → statement M
-name-of-spec = tie.close (tie.spec
-    (λ c κs. search (needs, second-name-laws))
-    (λ c. search (needs, second-name-laws))
-    (λ c. search (needs, second-name-laws))
-    (λ c κs. search (needs, second-name-laws))
-    (λ c. search (needs, second-name-laws))
-    (λ c. search (needs, second-name-laws))
-    (λ c κs. search (needs, second-name-laws))
-    (λ c. search (needs, second-name-laws))
-    (λ c. search (needs, second-name-laws))
-    (λ c κs. search (needs, second-name-laws))
-    (λ c. search (needs, second-name-laws)))
+name-of-spec = tie.close (tie.spec (λ c. search needs) (λ c κs. search rows-tabled) (λ c. search needs))

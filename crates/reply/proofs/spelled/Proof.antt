@@ -2,7 +2,7 @@
 -- Assumes nothing.
 use Prim.Native.Nat.{_-_}
 use lib.ListN.{length}
-use Rattle.reply.proofs.Spelling.{Spelling, spelling-laws}
+use Rattle.reply.proofs.Names.{Spelling, spelling-laws}
 use borrow.Author.Needs.{needs}
 use Rattle.reply.proofs.spelled.Statement.{statement}
 use Rattle.reply.proofs.spelled.Tie as tie

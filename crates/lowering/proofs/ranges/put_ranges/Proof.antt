@@ -2,8 +2,7 @@
 -- Assumes nothing.
 use Prim.Native.Nat.{_-_}
 use lib.ListN.{length}
-use Rattle.lowering.proofs.RangeLaws.{Ranging}
-use Rattle.lowering.proofs.RangeLaws.{ranging-laws}
+use Rattle.lowering.proofs.RangeLaws.{Ranging, ranging-laws}
 use borrow.Author.Needs.{needs}
 use Rattle.lowering.proofs.ranges.put_ranges.Statement.{statement}
 use Rattle.lowering.proofs.ranges.put_ranges.Tie as tie
@@ -25,6 +24,7 @@ put-ranges-spec = tie.close (tie.spec Inv-loop μ-loop
     (λ c κs. search (needs, ranging-laws))
     (λ c. search (needs, ranging-laws))
     (λ c. search (needs, ranging-laws))
+    (λ c κs. search (needs, ranging-laws))
     (λ c. search (needs, ranging-laws))
     (λ c. search (needs, ranging-laws))
     (λ c κs. search (needs, ranging-laws))

@@ -1,0 +1,39 @@
+-- `reply::look_up` meets its contract, by its loop's invariant and laws.
+-- Assumes nothing.
+use Prim.Native.Nat.{_-_}
+use lib.ListN.{length}
+use Rattle.reply.proofs.Names.{Passed, look-up-laws}
+use borrow.Author.Needs.{needs}
+use Rattle.reply.proofs.look_up.Statement.{statement}
+use Rattle.reply.proofs.look_up.Tie as tie
+
+abbrev Inv-loop : tie.InvT-loop
+Inv-loop rows reply second at₀ at = Passed rows reply second at
+
+abbrev μ-loop : tie.MeasureT-loop
+μ-loop rows reply second at₀ at = length rows - at
+
+pub look-up-spec : {M : Type 1} → statement M
+look-up-spec = tie.close (tie.spec Inv-loop μ-loop
+    (λ c. search (needs, look-up-laws))
+    (λ c. search (needs, look-up-laws))
+    (λ c κs. search (needs, look-up-laws))
+    (λ c. search (needs, look-up-laws))
+    (λ c. search (needs, look-up-laws))
+    (λ c κs. search (needs, look-up-laws))
+    (λ c. search (needs, look-up-laws))
+    (λ c. search (needs, look-up-laws))
+    (λ c. search (needs, look-up-laws))
+    (λ c κs. search (needs, look-up-laws))
+    (λ c. search (needs, look-up-laws))
+    (λ c. search (needs, look-up-laws))
+    (λ c. search (needs, look-up-laws))
+    (λ c. search (needs, look-up-laws))
+    (λ c κs. search (needs, look-up-laws))
+    (λ c. search (needs, look-up-laws))
+    (λ c. search (needs, look-up-laws))
+    (λ c. search (needs, look-up-laws))
+    (λ c. search (look-up-laws, c .if1 .left))
+    (λ c. search (needs, look-up-laws))
+    (λ c κs. search (needs, look-up-laws))
+    (λ c. search (needs, look-up-laws)))

@@ -1,0 +1,11 @@
+-- `reply::refused_for` meets its contract.
+-- Assumes nothing.
+use Rattle.reply.proofs.Rows.{row-laws}
+use borrow.Author.Needs.{needs}
+use Rattle.reply.proofs.refused_for.Statement.{statement}
+use Rattle.reply.proofs.refused_for.Tie as tie
+
+pub refused-for-spec : {M : Type 1} → statement M
+refused-for-spec = tie.close (tie.spec
+    (λ c κs. search (needs, row-laws))
+    (λ c. search (needs, row-laws)))
