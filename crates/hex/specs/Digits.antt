@@ -17,8 +17,8 @@ use Prim.Native.Nat.{ℕ, suc, _+_, _-_, _*_}
 use lib.Dec.{leb, ltb, eqb}
 use lib.ListN.{length}
 use lib.Seq.{sets}
-use Rattle.console.specs.declared.hex.Decoded.{Decoded}
-use Rattle.console.specs.declared.hex.Decoded.the-variants.{Bytes, NoDigit, HalfByte}
+use Rattle.hex.specs.declared.digits.Decoded.{Decoded}
+use Rattle.hex.specs.declared.digits.Decoded.the-variants.{Bytes, NoDigit, HalfByte}
 
 abbrev pub blank : ℕ
 blank = 16

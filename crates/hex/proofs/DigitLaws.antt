@@ -7,7 +7,7 @@ use native.Mathlib.Omega.{arith}
 use denote.Floats.{passes}
 use lib.Dec.{T, leb, eqb, leb→le}
 use mir.Facts.{and-yes}
-use Rattle.console.specs.Hex.{blank, other, digitOf}
+use Rattle.hex.specs.Digits.{blank, other, digitOf}
 
 -- ---- a byte within a range
 pub record Within (lo hi c : ℕ) : Type 0 where

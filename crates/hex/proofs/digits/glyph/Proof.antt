@@ -1,9 +1,9 @@
--- `console::hex::glyph` meets its contract.
+-- `hex::digits::glyph` meets its contract.
 -- Assumes nothing.
-use Rattle.console.proofs.GlyphLaws.{glyph-laws}
+use Rattle.hex.proofs.GlyphLaws.{glyph-laws}
 use borrow.Author.Needs.{needs}
-use Rattle.console.proofs.hex.glyph.Statement.{statement}
-use Rattle.console.proofs.hex.glyph.Tie as tie
+use Rattle.hex.proofs.digits.glyph.Statement.{statement}
+use Rattle.hex.proofs.digits.glyph.Tie as tie
 
 pub glyph-spec : {M : Type 1} → statement M
 glyph-spec = tie.close (tie.spec

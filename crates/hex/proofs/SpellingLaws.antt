@@ -11,8 +11,8 @@ use lib.ListN.{length, getD, drop, drop-of-length-le}
 use lib.Seq.{sets, drop-cons}
 use Rattle.octets.specs.Octets.{Laid}
 use Rattle.octets.proofs.Overlay.{laid-append, laid-length}
-use Rattle.console.specs.declared.hex.Decoded.the-variants.{Bytes, NoDigit, HalfByte}
-use Rattle.console.specs.Hex.{blank, other, digitOf, Spelled, bytes, noDigit, halfByte, front, unhex, decodedOf, Decodes}
+use Rattle.hex.specs.declared.digits.Decoded.the-variants.{Bytes, NoDigit, HalfByte}
+use Rattle.hex.specs.Digits.{blank, other, digitOf, Spelled, bytes, noDigit, halfByte, front, unhex, decodedOf, Decodes}
 
 -- ---- several bytes in front of what a text spells
 abbrev pub fronts : List ℕ → Spelled → Spelled

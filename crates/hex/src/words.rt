@@ -6,11 +6,17 @@ ghost use lib.ListN.{length};
 ghost use mir.Syntax.{w32};
 ghost use mir.Val.{toZ};
 ghost use Rattle.octets.specs.Octets.{bigAt};
-ghost use Rattle.console.specs.Words.{Filled};
-use crate::least;
+ghost use Rattle.hex.specs.Words.{Filled};
 
 // A payload, of 65,535 bytes at the most, has no more words.
 pub const MOST_PAYLOAD_WORDS: usize = 16_384;
+
+// The smaller of two counts.
+pub fn least(a: usize, b: usize) -> usize
+    ensures { λ r. ⌜ r ≡ min a b ⌝ }
+{
+    if a < b { a } else { b }
+}
 
 // The words of a payload, in a lent buffer as far as that reaches, and how many they are.
 pub fn words_of(payload: &[u8], out: &mut [u32]) -> usize

@@ -5,7 +5,7 @@ use mathlib.Core.Path.{_≡_, refl}
 use mathlib.Core.List.{List, [], _∷_, map}
 use Prim.Native.Nat.{ℕ}
 use Rattle.reply.specs.Reply.{ascii}
-use Rattle.console.specs.Hex.{blank, other, digitOf, Spelled, bytes, noDigit, halfByte, unhex}
+use Rattle.hex.specs.Digits.{blank, other, digitOf, Spelled, bytes, noDigit, halfByte, unhex}
 
 -- ---- a byte: before the range, its first, its last, after it
 figures : map digitOf (ascii "/09:") ≡ other ∷ 0 ∷ 9 ∷ other ∷ []

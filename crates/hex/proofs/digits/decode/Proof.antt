@@ -1,11 +1,11 @@
--- `console::hex::decode` meets its contract, by its loop's invariant and laws.
+-- `hex::digits::decode` meets its contract, by its loop's invariant and laws.
 -- Assumes nothing.
 use Prim.Native.Nat.{_-_}
 use lib.ListN.{length}
-use Rattle.console.proofs.HexLaws.{Spelling, spelling-laws}
+use Rattle.hex.proofs.SpellingLaws.{Spelling, spelling-laws}
 use borrow.Author.Needs.{needs}
-use Rattle.console.proofs.hex.decode.Statement.{statement}
-use Rattle.console.proofs.hex.decode.Tie as tie
+use Rattle.hex.proofs.digits.decode.Statement.{statement}
+use Rattle.hex.proofs.digits.decode.Tie as tie
 
 abbrev Inv-loop : tie.InvT-loop
 Inv-loop text out₀ half₀ n₀ i₀ out half n i = Spelling text out₀ out half n i

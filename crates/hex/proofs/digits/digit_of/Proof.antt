@@ -1,9 +1,9 @@
--- `console::hex::digit_of` meets its contract.
+-- `hex::digits::digit_of` meets its contract.
 -- Assumes nothing.
-use Rattle.console.proofs.DigitLaws.{digit-laws}
+use Rattle.hex.proofs.DigitLaws.{digit-laws}
 use borrow.Author.Needs.{needs}
-use Rattle.console.proofs.hex.digit_of.Statement.{statement}
-use Rattle.console.proofs.hex.digit_of.Tie as tie
+use Rattle.hex.proofs.digits.digit_of.Statement.{statement}
+use Rattle.hex.proofs.digits.digit_of.Tie as tie
 
 pub digit-of-spec : {M : Type 1} → statement M
 digit-of-spec = tie.close (tie.spec

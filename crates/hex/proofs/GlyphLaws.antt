@@ -7,8 +7,8 @@ use native.Mathlib.Decide.{decLt}
 use native.Mathlib.Omega.{arith}
 use borrow.Author.Tests.{lt-ltb, le-ltb, le-leb, lt-leb}
 use lib.Dec.{leb}
-use Rattle.console.specs.Hex.{digitOf, glyphOf}
-use Rattle.console.proofs.DigitLaws.{digit-figure, digit-upper}
+use Rattle.hex.specs.Digits.{digitOf, glyphOf}
+use Rattle.hex.proofs.DigitLaws.{digit-figure, digit-upper}
 
 module _ (d : ℕ) where
   pub glyph-figure : d < 10 → 48 + d ≡ glyphOf d

@@ -11,7 +11,7 @@ use lib.Seq.{getD-set-same, getD-set-other}
 use mir.Syntax.{w32}
 use mir.Val.{Fits, toZ, ofZ}
 use mir.Facts.{ofZ-toZ}
-use Rattle.console.specs.Words.{Filled}
+use Rattle.hex.specs.Words.{Filled}
 
 pub record Filling {A : Type 0} (f : ℕ → A) (d : A) (bytes : ℕ) (l l′ : List A) (n i : ℕ) : Type 0 where
   pub reached : i ≤ n
