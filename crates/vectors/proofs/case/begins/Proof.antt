@@ -1,9 +1,9 @@
--- `vectors::begins` meets its contract.
+-- `vectors::case::begins` meets its contract.
 -- Assumes nothing.
 use Rattle.console.proofs.OutputLaws.{front-laws}
 use borrow.Author.Needs.{needs}
-use Rattle.vectors.proofs.begins.Statement.{statement}
-use Rattle.vectors.proofs.begins.Tie as tie
+use Rattle.vectors.proofs.case.begins.Statement.{statement}
+use Rattle.vectors.proofs.case.begins.Tie as tie
 
 pub begins-spec : {M : Type 1} → statement M
 begins-spec = tie.close (tie.spec
