@@ -17,12 +17,20 @@ const MOST: usize = 64;
 // Whether a number is written as these bytes, has that length, and is read back from them.
 pub fn is_varint(given: &[u8], want: &[u8]) -> bool {
     let v = number_of(given);
+    writes(v, want) & reads(v, want)
+}
+
+fn writes(v: u64, want: &[u8]) -> bool {
     let mut out = [0u8; MOST];
     let n = put_varint(&mut out, 0, v);
+    begins(&out, n, want) & (varint_len(v) == n)
+}
+
+fn reads(v: u64, want: &[u8]) -> bool {
     let Read::Varint { value, next } = varint_at(want, 0, want.len()) else {
         return false;
     };
-    begins(&out, n, want) & (varint_len(v) == n) & (value == v) & (next == n)
+    (value == v) & (next == want.len())
 }
 
 pub fn is_zigzag(given: &[u8], want: &[u8]) -> bool {
