@@ -8,7 +8,7 @@ is left out. Every expected value is written here by hand from its document. cra
 """
 import struct
 
-KINDS = ["VARINT", "ZIGZAG", "NUMBER", "BYTES", "TEXT", "NO_TEXT", "INTEGER", "DOUBLE", "RANGES", "FIELDS", "CANDIDATE", "CANDIDATES",
+KINDS = ["VARINT", "ZIGZAG", "NUMBER", "BYTES", "INTEGER", "DOUBLE", "TEXT", "NO_TEXT", "RANGES", "FIELDS", "CANDIDATE", "CANDIDATES",
          "REFUSAL", "PRINTED"]
 WIDTH = 120
 

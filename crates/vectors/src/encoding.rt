@@ -1,4 +1,6 @@
 // The protobuf encoding document: varints, zigzag, and whole records; IEEE 754's rounding.
+ghost use Prim.Native.Nat.{_+_, _≤_};
+ghost use Rattle.limits.specs.Figures.{mostVarint};
 use crate::case::begins;
 use crate::case::number_of;
 use crate::case::word_of;
@@ -11,21 +13,30 @@ use wire::varint::put_varint;
 use wire::varint::varint_at;
 use wire::varint::varint_len;
 
-// No example is longer; a writer's place is tested against it.
+// No example is longer.
 const MOST: usize = 64;
 
-// Whether a number is written as these bytes, has that length, and is read back from them.
-pub fn is_varint(given: &[u8], want: &[u8]) -> bool {
-    let v = number_of(given);
-    writes(v, want) & reads(v, want)
+// Whether an example of numbers or of bytes holds.
+pub fn holds(kind: u32, first: &[u8], second: &[u8], third: &[u8], want: &[u8]) -> bool {
+    let v = number_of(first);
+    match kind {
+        1 => writes(v, want) & reads(v, want),
+        2 => is_zigzag(v, number_of(want)),
+        3 => is_number(tag(second, third), v, want),
+        4 => is_bytes(tag(second, third), first, want),
+        5 => round::u64_to_f32_bits(v) == word_of(want),
+        _ => round::f64_bits_to_f32_bits(v) == word_of(want),
+    }
 }
 
+// Whether a number is written as these bytes, and has that length.
 fn writes(v: u64, want: &[u8]) -> bool {
     let mut out = [0u8; MOST];
     let n = put_varint(&mut out, 0, v);
     begins(&out, n, want) & (varint_len(v) == n)
 }
 
+// Whether it is read back from them, and from all of them.
 fn reads(v: u64, want: &[u8]) -> bool {
     let Read::Varint { value, next } = varint_at(want, 0, want.len()) else {
         return false;
@@ -33,55 +44,36 @@ fn reads(v: u64, want: &[u8]) -> bool {
     (value == v) & (next == want.len())
 }
 
-pub fn is_zigzag(given: &[u8], want: &[u8]) -> bool {
-    let bits = number_of(given);
-    let z = number_of(want);
+fn is_zigzag(bits: u64, z: u64) -> bool {
     (zigzag(bits) == z) & (unzigzag(z) == bits)
 }
 
-// The tag of a field at the front, and where it ends.
-fn put_tag(out: &mut [u8], field: &[u8], kind: &[u8]) -> usize {
-    let wire = wire_of(word_of(kind) as usize);
-    put_varint(out, 0, tag_of(word_of(field), wire))
+// The tag of a field of this number and type.
+fn tag(number: &[u8], kind: &[u8]) -> u64 {
+    tag_of(word_of(number), wire_of(word_of(kind) as usize))
+}
+
+// A varint near the front, and where it ends.
+fn put(out: &mut [u8], at: usize, v: u64) -> usize
+    requires { ⌜ at ≤ mostVarint ⌝ }
+    ensures { λ r. ⌜ r ≤ at + mostVarint ⌝ }
+{
+    put_varint(out, at, v)
 }
 
 // Whether a record of a number is these bytes.
-pub fn is_number(given: &[u8], field: &[u8], kind: &[u8], want: &[u8]) -> bool {
+fn is_number(tag: u64, v: u64, want: &[u8]) -> bool {
     let mut out = [0u8; MOST];
-    let body = put_tag(&mut out, field, kind);
-    if MOST < body {
-        return false;
-    }
-    let n = put_varint(&mut out, body, number_of(given));
+    let body = put(&mut out, 0, tag);
+    let n = put(&mut out, body, v);
     begins(&out, n, want)
 }
 
 // Whether a record of bytes, of a string or a message, is these bytes.
-pub fn is_bytes(given: &[u8], field: &[u8], kind: &[u8], want: &[u8]) -> bool {
+fn is_bytes(tag: u64, payload: &[u8], want: &[u8]) -> bool {
     let mut out = [0u8; MOST];
-    let n = put_bytes(&mut out, given, field, kind);
+    let size = put(&mut out, 0, tag);
+    let body = put(&mut out, size, payload.len() as u64);
+    let n = octets::put_all(&mut out, body, payload);
     begins(&out, n, want)
-}
-
-fn put_bytes(out: &mut [u8], given: &[u8], field: &[u8], kind: &[u8]) -> usize {
-    if MOST < given.len() {
-        return 0;
-    }
-    let size = put_tag(out, field, kind);
-    if MOST < size {
-        return 0;
-    }
-    let body = put_varint(out, size, given.len() as u64);
-    if MOST < body {
-        return 0;
-    }
-    octets::put_all(out, body, given)
-}
-
-pub fn rounds_integer(given: &[u8], want: &[u8]) -> bool {
-    round::u64_to_f32_bits(number_of(given)) == word_of(want)
-}
-
-pub fn rounds_double(given: &[u8], want: &[u8]) -> bool {
-    round::f64_bits_to_f32_bits(number_of(given)) == word_of(want)
 }

@@ -18,6 +18,7 @@ use console::output::hex;
 use console::output::number;
 use console::output::text;
 use field::Leaf;
+use path::protobuf_path::candidates;
 
 const CASE: u8 = 0x60;
 
@@ -44,20 +45,14 @@ fn holds(kind: u32, label: &[u8], c: &[u8]) -> bool {
     let second = part(c, SECOND);
     let third = part(c, THIRD);
     let want = part(c, WANT);
-    let after = part(c, AFTER);
     match kind {
-        1 => encoding::is_varint(first, want),
-        2 => encoding::is_zigzag(first, want),
-        3 => encoding::is_number(first, second, third, want),
-        4 => encoding::is_bytes(first, second, third, want),
-        5 => utf8::is_utf8(first),
-        6 => !utf8::is_utf8(first),
-        7 => encoding::rounds_integer(first, want),
-        8 => encoding::rounds_double(first, want),
-        9 => lowerings::ranges(first, second, third, want, after),
-        10 => lowerings::fields(first, third, want, after),
+        1..=6 => encoding::holds(kind, first, second, third, want),
+        7 => utf8::is_utf8(first),
+        8 => !utf8::is_utf8(first),
+        9 => lowerings::ranges(first, second, third, want, part(c, AFTER)),
+        10 => lowerings::fields(first, third, want, part(c, AFTER)),
         11 => names::is_candidate(first, second, third, want),
-        12 => names::has_candidates(first, second, want),
+        12 => candidates(second, first) == word_of(want) as usize,
         13 => replies::is_row(first, want, label),
         _ => false,
     }

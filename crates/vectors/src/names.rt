@@ -18,7 +18,3 @@ pub fn is_candidate(name: &[u8], scope: &[u8], place: &[u8], want: &[u8]) -> boo
     let mut out = [0u8; MOST_CANDIDATE];
     spelled(name, scope, word_of(place) as usize, &mut out, want)
 }
-
-pub fn has_candidates(name: &[u8], scope: &[u8], want: &[u8]) -> bool {
-    candidates(scope, name) == word_of(want) as usize
-}
