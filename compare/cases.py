@@ -35,20 +35,20 @@ def shape(number=1, kind=13, label=1, path=None):
     return leaves + (f(0x16, path) if path is not None else b"")
 
 
-def extension(extendee="M", **of):
-    return file(f(3, f(0x11, "x") + f(0x12, extendee) + shape(**of)))
+def extension(extendee="M", name="x", **of):
+    return file(f(3, f(0x11, name) + f(0x12, extendee) + shape(**of)))
 
 
-def field(**of):
-    return f(5, f(0x11, "x") + shape(**of))
+def field(name="x", **of):
+    return f(5, f(0x11, name) + shape(**of))
 
 
-def value(number=bytes(4)):
-    return f(6, f(0x11, "v") + f(0x17, number))
+def value(number=bytes(4), name="v"):
+    return f(6, f(0x11, name) + f(0x17, number))
 
 
-def enum(values=b""):
-    return f(4, f(0x11, "E") + values)
+def enum(values=b"", name="E"):
+    return f(4, f(0x11, name) + values)
 
 
 def request(options=b"", scope="", kind="a"):
@@ -154,6 +154,21 @@ REQUESTS = [
     (2, of(f(0x20, b"\2"))), (2, of(f(0x20))), (2, of(f(0x21, bytes(7)))), (2, of(f(0x22, bytes(9)))), (2, of(f(0x23, bytes(4)))),
 ]
 
+# What came later stands last, so that the answers to all before it stay where they are.
+LATER = [
+    # a bad name of an extension, a field, an enum and a value: "a letter or `_`, then letters, digits or `_`"
+    (1, extension(name="9"), None), (1, file(message(field(name="9"))), None), (1, file(enum(name="9")), None),
+    (1, file(enum(value(name="9"))), None),
+    # a 17 of three bytes: "17 signed number (4 bytes)"
+    (1, file(enum(value(bytes(3)))), None),
+    # types 9 and 15 have no type path: "exactly for types 10, 11, 14"
+    (0, extension(kind=9), None), (0, extension(kind=15), None), (0, file(message(field(kind=9) + field(kind=15))), None),
+    # an empty 28: "only package and scope be empty"
+    (2, b"", pair(f(0x28))),
+    # 2B is no constant
+    (2, b"", of(f(0x2B))), (2, b"", of(f(0x2A, f(0x2B)))),
+]
+
 
 def cases():
     for answer, *inputs in SHEETS:
@@ -162,6 +177,7 @@ def cases():
         yield answer, b"", q
     # the sheet is answered first
     yield 1, b"\1", bytes(8193)
+    yield from LATER
 
 
 def texts():

@@ -1,23 +1,25 @@
 -- What a program knows of its input: where a field's payload lies, how long it is, and the bytes that were read.
 -- Assumes nothing.
-use mathlib.Core.Path.{_≡_, refl, sym, _∙_}
+use mathlib.Core.Path.{_≡_, sym, ap, _∙_}
 use mathlib.Core.Bool.{Bool, true, false}
 use mathlib.Core.List.{List}
 use Prim.Native.Nat.{ℕ, _+_, _-_, _≤_}
 use native.Mathlib.Omega.{arith}
 use borrow.Author.Tests.{eq-eqb, ne-eqb, eqb-true, not-true, not-false}
 use lib.Dec.{eqb}
+use lib.ListN.{length}
 use Rattle.field.specs.declared.Leaf.{Leaf}
-use Rattle.field.specs.declared.Leaf.the-variants.{At, Not}
-use Rattle.field.specs.Field.{fieldAt}
+use Rattle.field.specs.declared.Leaf.the-variants.{At}
 use Rattle.field.specs.Leaf.{anyBytes, leafAt}
-use Rattle.field.proofs.FieldLaws.{field-short}
-use Rattle.field.proofs.LeafLaws.{leaf-cut, leaf-other, leaf-any, leaf-ordered, leaf-inside}
+use Rattle.field.proofs.LeafLaws.{leaf-ordered, leaf-inside}
+use Rattle.hex.specs.declared.due.Due.{Due}
+use Rattle.hex.specs.Due.{dueAt, leafOf}
+use Rattle.hex.proofs.DueLaws.{due-leaf}
+use Rattle.hex.proofs.WordLaws.{words-count}
 use Rattle.console.specs.declared.input.Input.{Input}
 use Rattle.console.specs.declared.input.Input.the-variants as input
 use Rattle.console.specs.Input.{Fills}
 use Rattle.console.proofs.OutputLaws.{front-laws}
-use Rattle.console.proofs.WordLaws.{words-count}
 
 -- ---- the ways through `has_size`, `has_words` and `ends`
 pub size-yes : (n size : ℕ) → n ≡ size → true ≡ eqb n size
@@ -28,11 +30,10 @@ size-no n size e = sym (ne-eqb n size e)
 
 pub ruleset size-told-laws = (size-yes, size-no)
 
--- ---- the ways through `field_of`
-pub leaf-ended : (k : ℕ) (s : List ℕ) (at end : ℕ) → at ≡ end → Not ≡ leafAt k anyBytes s at end
-leaf-ended k s at end e = leaf-cut k s at end (fieldAt s at end) refl (sym (field-short s at end (omega arith) (omega arith)))
-
-pub ruleset payload-laws = (leaf-ended, leaf-cut, leaf-other, leaf-any)
+-- ---- `field_of`
+pub leaf-due : (k : ℕ) (s : List ℕ) (at : ℕ) (d : Due) → d ≡ dueAt k s at → (r : Leaf) → r ≡ leafOf d
+    → r ≡ leafAt k anyBytes s at (length s)
+leaf-due k s at d q r p = p ∙ ap leafOf q ∙ due-leaf k s at
 
 -- ---- for the programs: a payload of so many bytes
 pub payload-holds : (k : ℕ) (s : List ℕ) (at end : ℕ) (r : Leaf) → r ≡ leafAt k anyBytes s at end → (from to : ℕ) → r ≡ At from to

@@ -1,7 +1,2 @@
-pub mod DigitLaws
-pub mod HexLaws
 pub mod InputLaws
 pub mod OutputLaws
-pub mod Controls
-pub mod WordLaws
-pub mod GlyphLaws

@@ -1,3 +1,1 @@
-pub mod Hex
 pub mod Input
-pub mod Words

@@ -6,13 +6,15 @@ ghost use lib.Dec.{eqb};
 ghost use lib.ListN.{length};
 ghost use Rattle.field.specs.Leaf.{anyBytes, leafAt};
 ghost use Rattle.console.specs.Input.{Fills};
-use crate::hex::Decoded;
-use crate::hex::decode;
 use crate::output::hex_byte;
 use crate::output::number;
 use crate::output::text;
-use field::Field;
 use field::Leaf;
+use hex::digits::Decoded;
+use hex::digits::decode;
+use hex::due::Due;
+use hex::due::due_at;
+use hex::due::leaf_of;
 
 // A program's input has at most so many bytes: a sheet and a request, each a field of 65,535 bytes with its header of 3.
 pub const MOST_BYTES: usize = 131_076;
@@ -31,8 +33,15 @@ pub fn read(out: &mut [u8]) -> Input
     ensures { λ r. ⌜ Fills r (length (now (out .exit))) ⌝ }
 {
     let mut buffer = [0u8; MOST_TEXT];
-    let n = io::read_full(0, &mut buffer);
-    if n == MOST_TEXT {
+    read_by(&mut buffer, out)
+}
+
+// The same, by a buffer that holds a byte more than the longest text that is taken.
+fn read_by(buffer: &mut [u8], out: &mut [u8]) -> Input
+    ensures { λ r. ⌜ Fills r (length (now (out .exit))) ⌝ }
+{
+    let n = io::read_full(0, buffer);
+    if n == buffer.len() {
         too_much(b"is longer than ", MOST_TEXT - 1);
         return Input::Wrong;
     }
@@ -46,8 +55,7 @@ fn taken(found: Decoded, room: usize) -> Input
 {
     match found {
         Decoded::NoDigit(at) => {
-            place(at);
-            text(b" of the text is no hexadecimal digit\n");
+            about(at, b" of the text is no hexadecimal digit\n");
             Input::Wrong
         }
         Decoded::HalfByte => {
@@ -77,33 +85,35 @@ pub fn field_of(s: &[u8], at: usize, tag: u8) -> Leaf
     requires { ⌜ at ≤ length (now s) ⌝ }
     ensures { λ r. ⌜ r ≡ leafAt tag anyBytes (now (s .entry)) at (length (now (s .entry))) ⌝ }
 {
-    if at == s.len() {
-        place(at);
-        text(b": the input ends, where a field of tag ");
-        hex_byte(tag);
-        text(b" is due\n");
-        return Leaf::Not;
+    let due = due_at(s, at, tag);
+    tell(due, at, tag);
+    leaf_of(due)
+}
+
+// What stands at a place instead of the field that is due, if it does.
+fn tell(due: Due, at: usize, tag: u8) {
+    match due {
+        Due::Here { from: _, to: _ } => {}
+        Due::Other(found) => {
+            about(at, b": a field of tag ");
+            hex_byte(found);
+            is_due(b", where tag ", tag);
+        }
+        Due::CutShort => {
+            about(at, b": the field that starts here is cut\n");
+        }
+        Due::Ended => {
+            about(at, b": the input ends");
+            is_due(b", where a field of tag ", tag);
+        }
     }
-    let Field::Whole {
-        tag: found,
-        from,
-        to,
-    } = field::field_at(s, at, s.len())
-    else {
-        place(at);
-        text(b": the field that starts here is cut\n");
-        return Leaf::Not;
-    };
-    if found != tag {
-        place(at);
-        text(b": a field of tag ");
-        hex_byte(found);
-        text(b", where tag ");
-        hex_byte(tag);
-        text(b" is due\n");
-        return Leaf::Not;
-    }
-    Leaf::At { from: from, to: to }
+}
+
+// The end of a line that says which tag is due.
+fn is_due(place: &[u8], tag: u8) {
+    text(place);
+    hex_byte(tag);
+    text(b" is due\n");
 }
 
 // Whether the input ends at a place.
@@ -113,8 +123,7 @@ pub fn ends(s: &[u8], at: usize) -> bool
     if at == s.len() {
         return true;
     }
-    place(at);
-    text(b": more after the last field\n");
+    about(at, b": more after the last field\n");
     false
 }
 
@@ -150,15 +159,15 @@ pub fn has_words(tag: u8, from: usize, to: usize) -> bool
 fn payload_has(tag: u8, from: usize, to: usize)
     requires { ⌜ from ≤ to ⌝ }
 {
-    place(from);
-    text(b": the payload of tag ");
+    about(from, b": the payload of tag ");
     hex_byte(tag);
     text(b" has length ");
     number((to - from) as u64);
 }
 
-// The start of a line that is about a place.
-fn place(at: usize) {
+// The start of a line that is about a place, and what is said of it.
+fn about(at: usize, what: &[u8]) {
     text(b"input: byte ");
     number(at as u64);
+    text(what);
 }

@@ -1,8 +1,8 @@
 // The lines that programs print.
 ghost use mathlib.Core.Path.{_≡_};
 ghost use lib.IntN.{natAbs};
-use crate::hex::glyph;
-use crate::least;
+use hex::digits::glyph;
+use hex::words::least;
 use reply::Answer;
 
 pub fn text(bytes: &[u8]) {
@@ -38,14 +38,6 @@ pub fn hex(bytes: &[u8]) {
     }
 }
 
-// A signed number.
-pub fn signed(n: i32) {
-    if n < 0 {
-        text(b"-");
-    }
-    number(size(n));
-}
-
 // The line `answer N`, and on a refusal a second line with its name.
 pub fn answer(a: Answer) {
     text(b"answer ");
@@ -65,6 +57,14 @@ fn word(w: u32) {
     number(w as u64);
 }
 
+fn signed_word(w: i32) {
+    text(b" ");
+    if w < 0 {
+        text(b"-");
+    }
+    number(size(w));
+}
+
 // The line `words`, with the first n words of a slice.
 pub fn words(ws: &[u32], n: usize) {
     text(b"words");
@@ -82,9 +82,7 @@ pub fn signed_words(ws: &[i32], n: usize) {
     let end = least(n, ws.len());
     let mut i = 0;
     while i < end {
-        text(b" ");
-        let w = ws[i];
-        signed(w);
+        signed_word(ws[i]);
         i += 1;
     }
     text(b"\n");

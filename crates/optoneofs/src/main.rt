@@ -1,15 +1,15 @@
 // Gives each field of a message the oneof it belongs to. Input: 49 the words (4 bytes each).
 use console::input::Input;
 use console::input::MOST_BYTES;
-use console::words::MOST_PAYLOAD_WORDS;
 use field::Leaf;
+use hex::words::MOST_PAYLOAD_WORDS;
 use limits::MOST_WORDS;
 
 const WORDS: u8 = 0x49;
 
 fn lower(payload: &[u8]) {
     let mut words = [0u32; MOST_PAYLOAD_WORDS];
-    let n = console::words::words_of(payload, &mut words);
+    let n = hex::words::words_of(payload, &mut words);
     let mut out = [0u32; MOST_WORDS];
     let a = lowering::lower_fields(&words[..n], &mut out);
     console::output::answer(a);

@@ -1,4 +1,4 @@
--- Types: the wire type of each of the 18.
+-- Types: the wire type of each of the 18, and what numbers beside them come to.
 -- Assumes nothing.
 use mathlib.Core.Path.{_≡_, refl}
 use mathlib.Core.List.{List, [], _∷_, map}
@@ -22,3 +22,7 @@ wired : map wireOf types
     ∷ SGROUP ∷ LEN ∷ LEN ∷ VARINT ∷ VARINT ∷ I32 ∷ I64 ∷ VARINT ∷ VARINT ∷ []
 unfolding wireOf
 wired = refl
+
+beside : map wireOf (0 ∷ 19 ∷ 255 ∷ []) ≡ VARINT ∷ VARINT ∷ VARINT ∷ []
+unfolding wireOf
+beside = refl

@@ -3,7 +3,7 @@
 --   TYPE_DOUBLE .. TYPE_SINT64 ==  the type's number
 --                VARINT .. I32 ==  the wire type's number
 --                   isAny t ts <=> t is one of ts
---                     wireOf t ==  the wire type of the type t
+--                     wireOf t ==  the wire type of the type t, VARINT where t is no type's number
 --
 -- Assumes nothing.
 use mathlib.Core.Bool.{Bool, true, false, _||_}

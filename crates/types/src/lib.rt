@@ -1,8 +1,7 @@
 // The types of descriptor.proto and their wire types.
 ghost use mathlib.Core.Path.{_≡_};
-ghost use Prim.Native.Nat.{_≤_};
-ghost use Rattle.limits.specs.Figures.{mostType};
 ghost use Rattle.types.specs.Types.{wireOf};
+use limits::MOST_TYPE;
 
 // The types, by descriptor.proto's numbers; specs/Types.antt names the same ones for the definitions.
 pub const TYPE_DOUBLE: usize = 1;
@@ -55,9 +54,12 @@ pub const I32: u8 = 5;
 // The wire type of each type, by its number, 1 to 18. 0 is no type.
 const WIRE: [u8; 19] = [0, 1, 5, 0, 0, 0, 1, 5, 0, 2, 3, 2, 2, 0, 0, 5, 1, 0, 0];
 
+// Above the last type it is a varint's, as the definition leaves what it does not list.
 pub fn wire_of(kind: usize) -> u8
-    requires { ⌜ (1 ≤ kind) × (kind ≤ mostType) ⌝ }
     ensures { λ r. ⌜ r ≡ wireOf kind ⌝ }
 {
-    WIRE[kind]
+    if kind <= MOST_TYPE {
+        return WIRE[kind];
+    }
+    VARINT
 }

@@ -1,13 +1,10 @@
-// The protobuf encoding document: varints, zigzag, and whole records; RFC 3629's examples of UTF-8.
-ghost use Prim.Native.Nat.{_≤_};
-ghost use Rattle.limits.specs.Figures.{mostType};
-use crate::begins;
-use crate::told;
-use types::TYPE_INT32;
-use types::TYPE_MESSAGE;
-use types::TYPE_STRING;
+// The protobuf encoding document: varints, zigzag, and whole records; IEEE 754's rounding.
+ghost use Prim.Native.Nat.{_+_, _≤_};
+ghost use Rattle.limits.specs.Figures.{mostVarint};
+use crate::case::begins;
+use crate::case::number_of;
+use crate::case::word_of;
 use types::wire_of;
-use utf8::is_utf8;
 use wire::numbers::unzigzag;
 use wire::numbers::zigzag;
 use wire::tag::tag_of;
@@ -16,147 +13,67 @@ use wire::varint::put_varint;
 use wire::varint::varint_at;
 use wire::varint::varint_len;
 
-// No example is longer; a writer's place is tested against it.
+// No example is longer.
 const MOST: usize = 64;
 
-// Whether v is written as these bytes, has that length, and is read back from them.
-fn is_varint(v: u64, want: &[u8]) -> bool {
+// Whether an example of numbers or of bytes holds.
+pub fn holds(kind: u32, first: &[u8], second: &[u8], third: &[u8], want: &[u8]) -> bool {
+    let v = number_of(first);
+    match kind {
+        1 => writes(v, want) & reads(v, want),
+        2 => is_zigzag(v, number_of(want)),
+        3 => is_number(tag(second, third), v, want),
+        4 => is_bytes(tag(second, third), first, want),
+        5 => round::u64_to_f32_bits(v) == word_of(want),
+        _ => round::f64_bits_to_f32_bits(v) == word_of(want),
+    }
+}
+
+// Whether a number is written as these bytes, and has that length.
+fn writes(v: u64, want: &[u8]) -> bool {
     let mut out = [0u8; MOST];
     let n = put_varint(&mut out, 0, v);
+    begins(&out, n, want) & (varint_len(v) == n)
+}
+
+// Whether it is read back from them, and from all of them.
+fn reads(v: u64, want: &[u8]) -> bool {
     let Read::Varint { value, next } = varint_at(want, 0, want.len()) else {
         return false;
     };
-    begins(&out, n, want) & (varint_len(v) == n) & (value == v) & (next == n)
-}
-
-// "Base 128 Varints", "Signed Integers" and "Repeated Elements".
-pub fn varints() -> usize
-    ensures { λ r. ⌜ r ≤ 5 ⌝ }
-{
-    told(b"varint 1 is 01", is_varint(1, &[0x01]))
-        + told(b"varint 150 is 96 01", is_varint(150, &[0x96, 0x01]))
-        + told(b"varint 270 is 8E 02", is_varint(270, &[0x8e, 0x02]))
-        + told(
-            b"varint 86942 is 9E A7 05",
-            is_varint(86942, &[0x9e, 0xa7, 0x05]),
-        )
-        + told(
-            b"varint -2 is FE and eight FF and 01",
-            is_varint(
-                0xffff_ffff_ffff_fffe,
-                &[0xfe, 0xff, 0xff, 0xff, 0xff, 0xff, 0xff, 0xff, 0xff, 0x01],
-            ),
-        )
+    (value == v) & (next == want.len())
 }
 
 fn is_zigzag(bits: u64, z: u64) -> bool {
     (zigzag(bits) == z) & (unzigzag(z) == bits)
 }
 
-// The table of "Signed Integers".
-pub fn zigzags() -> usize
-    ensures { λ r. ⌜ r ≤ 6 ⌝ }
-{
-    told(b"zigzag 0 is 0", is_zigzag(0, 0))
-        + told(b"zigzag -1 is 1", is_zigzag(0xffff_ffff_ffff_ffff, 1))
-        + told(b"zigzag 1 is 2", is_zigzag(1, 2))
-        + told(b"zigzag -2 is 3", is_zigzag(0xffff_ffff_ffff_fffe, 3))
-        + told(
-            b"zigzag 0x7fffffff is 0xfffffffe",
-            is_zigzag(0x7fff_ffff, 0xffff_fffe),
-        )
-        + told(
-            b"zigzag -0x80000000 is 0xffffffff",
-            is_zigzag(0xffff_ffff_8000_0000, 0xffff_ffff),
-        )
+// The tag of a field of this number and type.
+fn tag(number: &[u8], kind: &[u8]) -> u64 {
+    tag_of(word_of(number), wire_of(word_of(kind) as usize))
 }
 
-// A record of a number at the front, and where it ends.
-fn put_number(out: &mut [u8], field: u32, v: u64) -> usize {
-    let body = put_varint(out, 0, tag_of(field, wire_of(TYPE_INT32)));
-    if MOST < body {
-        return 0;
-    }
-    put_varint(out, body, v)
+// A varint near the front, and where it ends.
+fn put(out: &mut [u8], at: usize, v: u64) -> usize
+    requires { ⌜ at ≤ mostVarint ⌝ }
+    ensures { λ r. ⌜ r ≤ at + mostVarint ⌝ }
+{
+    put_varint(out, at, v)
 }
 
-// A record of bytes, of a string or a message, at the front, and where it ends.
-fn put_bytes(out: &mut [u8], field: u32, kind: usize, payload: &[u8]) -> usize
-    requires { ⌜ (1 ≤ kind) × (kind ≤ mostType) ⌝ }
-{
-    if MOST < payload.len() {
-        return 0;
-    }
-    let size = put_varint(out, 0, tag_of(field, wire_of(kind)));
-    if MOST < size {
-        return 0;
-    }
-    let body = put_varint(out, size, payload.len() as u64);
-    if MOST < body {
-        return 0;
-    }
-    octets::put_all(out, body, payload)
+// Whether a record of a number is these bytes.
+fn is_number(tag: u64, v: u64, want: &[u8]) -> bool {
+    let mut out = [0u8; MOST];
+    let body = put(&mut out, 0, tag);
+    let n = put(&mut out, body, v);
+    begins(&out, n, want)
 }
 
-// "A Simple Message", "Length-Delimited Records" and "Submessages".
-pub fn records() -> usize
-    ensures { λ r. ⌜ r ≤ 3 ⌝ }
-{
-    let inside = [0x08, 0x96, 0x01];
-    let mut number = [0u8; MOST];
-    let n = put_number(&mut number, 1, 150);
-    let mut string = [0u8; MOST];
-    let m = put_bytes(&mut string, 2, TYPE_STRING, b"testing");
-    let mut message = [0u8; MOST];
-    let k = put_bytes(&mut message, 3, TYPE_MESSAGE, &inside);
-    told(b"field 1, 150 is 08 96 01", begins(&number, n, &inside))
-        + told(
-            b"field 2, testing is 12 07 and the bytes",
-            begins(&string, m, b"\x12\x07testing"),
-        )
-        + told(
-            b"field 3, nested 150 is 1A 03 08 96 01",
-            begins(&message, k, &[0x1a, 0x03, 0x08, 0x96, 0x01]),
-        )
-}
-
-// RFC 3629: examples of section 7, and forms that sections 3 and 10 warn of.
-pub fn texts() -> usize
-    ensures { λ r. ⌜ r ≤ 5 ⌝ }
-{
-    told(
-        b"UTF-8 41 E2 89 A2 CE 91 2E",
-        is_utf8(&[0x41, 0xe2, 0x89, 0xa2, 0xce, 0x91, 0x2e]),
-    )
-        + told(
-            b"UTF-8 EF BB BF F0 A3 8E B4",
-            is_utf8(&[0xef, 0xbb, 0xbf, 0xf0, 0xa3, 0x8e, 0xb4]),
-        )
-        + told(b"no UTF-8 C0 80", !is_utf8(&[0xc0, 0x80]))
-        + told(
-            b"no UTF-8 ED A1 8C ED BE B4",
-            !is_utf8(&[0xed, 0xa1, 0x8c, 0xed, 0xbe, 0xb4]),
-        )
-        + told(
-            b"no UTF-8 2F C0 AE 2E 2F",
-            !is_utf8(&[0x2f, 0xc0, 0xae, 0x2e, 0x2f]),
-        )
-}
-
-// IEEE 754: a tie to the even neighbour, below and above; overflow.
-pub fn rounded() -> usize
-    ensures { λ r. ⌜ r ≤ 3 ⌝ }
-{
-    told(
-        b"16777217 as a float is 4B800000",
-        round::u64_to_f32_bits(16777217) == 0x4b80_0000,
-    )
-        + told(
-            b"16777219 as a float is 4B800002",
-            round::u64_to_f32_bits(16777219) == 0x4b80_0002,
-        )
-        + told(
-            b"1e39 as a float is 7F800000",
-            round::f64_bits_to_f32_bits(0x4807_8287_f49c_4a1d) == 0x7f80_0000,
-        )
+// Whether a record of bytes, of a string or a message, is these bytes.
+fn is_bytes(tag: u64, payload: &[u8], want: &[u8]) -> bool {
+    let mut out = [0u8; MOST];
+    let size = put(&mut out, 0, tag);
+    let body = put(&mut out, size, payload.len() as u64);
+    let n = octets::put_all(&mut out, body, payload);
+    begins(&out, n, want)
 }

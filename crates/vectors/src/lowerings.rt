@@ -1,53 +1,80 @@
-// 01's example 10, and the oneofs of its words.
-ghost use Prim.Native.Nat.{_≤_};
-use crate::told;
+// 01's lowerings: the answer, and what the lent memory holds before and after.
+use crate::case::word_at;
+use crate::case::word_of;
+use hex::words::signed_words_of;
+use hex::words::words_of;
+use reply::Answer;
 
-// Whether lowering answers so, and leaves these two words.
-fn gives(kind: u32, start: i32, end: i32, reply: u32, first: i32, second: i32) -> bool {
-    let mut out = [7i32; 2];
-    let a = lowering::lower_ranges(kind, &[start, end], &mut out);
-    let x = out[0];
-    let y = out[1];
-    (a.reply == reply) & (x == first) & (y == second)
+// No example has more words.
+const MOST: usize = 8;
+
+// Whether an answer has this reply and this length.
+fn answers(a: Answer, want: &[u8]) -> bool {
+    (a.reply == word_at(want, 0)) & (a.length == word_at(want, 4))
 }
 
-// "Extension 100 to 199: 100, 200; end 2147483647: 16, but kept for an enum." A refusal leaves the sevens.
-pub fn ranges() -> usize
-    ensures { λ r. ⌜ r ≤ 3 ⌝ }
-{
-    told(
-        b"extension 100 to 199 is 100, 200",
-        gives(0, 100, 199, 0, 100, 200),
-    )
-        + told(
-            b"extension 1 to 2147483647 is refused with 16",
-            gives(0, 1, 2147483647, 16, 7, 7),
-        )
-        + told(
-            b"enum 1 to 2147483647 is kept",
-            gives(2, 1, 2147483647, 0, 1, 2147483647),
-        )
+// Whether words are those of a payload.
+fn are_words(words: &[u32], want: &[u8]) -> bool {
+    if want.len() / 4 != words.len() {
+        return false;
+    }
+    let mut i = 0;
+    while i < words.len() {
+        if words[i] != octets::u32_at(want, i * 4) {
+            return false;
+        }
+        i += 1;
+    }
+    true
 }
 
-// A field, an optional one, a oneof of two members, an optional one: words 0, 1, 2, 2, 3.
-pub fn fields() -> usize
-    ensures { λ r. ⌜ r ≤ 2 ⌝ }
-{
-    let mut out = [7u32; 6];
-    let a = lowering::lower_fields(&[0, 1, 2, 3, 3, 1], &mut out);
-    let b = lowering::lower_fields(&[3], &mut out);
-    let held = (out[0] == 0)
-        & (out[1] == 1)
-        & (out[2] == 2)
-        & (out[3] == 2)
-        & (out[4] == 3)
-        & (out[5] == 7);
-    told(
-        b"fields 0 1 2 3 3 1 are 0 1 2 2 3",
-        held & (a.reply == 0) & (a.length == 5),
-    )
-        + told(
-            b"a member with no oneof is refused with 2",
-            (b.reply == 2) & (b.length == 0),
-        )
+fn are_signed(words: &[i32], want: &[u8]) -> bool {
+    if want.len() / 4 != words.len() {
+        return false;
+    }
+    let mut i = 0;
+    while i < words.len() {
+        let word = words[i];
+        if word != octets::signed32(octets::u32_at(want, i * 4)) {
+            return false;
+        }
+        i += 1;
+    }
+    true
+}
+
+// Whether ranges are lowered so, the lent memory holding what `before` says.
+pub fn ranges(given: &[u8], kind: &[u8], before: &[u8], want: &[u8], after: &[u8]) -> bool {
+    let mut words = [0i32; MOST];
+    let n = signed_words_of(given, &mut words);
+    ranges_over(&words[..n], kind, before, want, after)
+}
+
+fn ranges_over(words: &[i32], kind: &[u8], before: &[u8], want: &[u8], after: &[u8]) -> bool {
+    let mut out = [0i32; MOST];
+    let n = signed_words_of(before, &mut out);
+    ranges_into(words, kind, &mut out[..n], want, after)
+}
+
+fn ranges_into(words: &[i32], kind: &[u8], out: &mut [i32], want: &[u8], after: &[u8]) -> bool {
+    let a = lowering::lower_ranges(word_of(kind), words, out);
+    answers(a, want) & are_signed(out, after)
+}
+
+// The same of fields.
+pub fn fields(given: &[u8], before: &[u8], want: &[u8], after: &[u8]) -> bool {
+    let mut words = [0u32; MOST];
+    let n = words_of(given, &mut words);
+    fields_over(&words[..n], before, want, after)
+}
+
+fn fields_over(words: &[u32], before: &[u8], want: &[u8], after: &[u8]) -> bool {
+    let mut out = [0u32; MOST];
+    let n = words_of(before, &mut out);
+    fields_into(words, &mut out[..n], want, after)
+}
+
+fn fields_into(words: &[u32], out: &mut [u32], want: &[u8], after: &[u8]) -> bool {
+    let a = lowering::lower_fields(words, out);
+    answers(a, want) & are_words(out, after)
 }

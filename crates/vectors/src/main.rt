@@ -1,46 +1,101 @@
 // Runs worked examples of outside documents through the library and compares: a line for each, then how many held.
+// Input: a field 60 for each example, in which 61 is what is run (4 bytes), 62 its label, 63 to 65 what is given, 66 and 67 what is
+// wanted. compare/vectors.py writes it and has each example with its source.
+mod case;
 mod encoding;
 mod lowerings;
 mod names;
 mod replies;
 
 ghost use Prim.Native.Nat.{_≤_};
+use case::part;
+use case::told;
+use case::word_of;
+use console::input::Input;
+use console::input::MOST_BYTES;
+use console::input::field_of;
 use console::output::hex;
 use console::output::number;
 use console::output::text;
+use field::Leaf;
+use path::protobuf_path::candidates;
 
-// A line that says whether an example held, and 1 if it did.
-fn told(name: &[u8], held: bool) -> usize
-    ensures { λ r. ⌜ r ≤ 1 ⌝ }
-{
-    text(name);
-    if held {
-        text(b": ok\n");
-        return 1;
+const CASE: u8 = 0x60;
+
+const KIND: u8 = 0x61;
+
+const LABEL: u8 = 0x62;
+
+const FIRST: u8 = 0x63;
+
+const SECOND: u8 = 0x64;
+
+const THIRD: u8 = 0x65;
+
+const WANT: u8 = 0x66;
+
+const AFTER: u8 = 0x67;
+
+// The kind that is printed and not compared.
+const PRINTED: u32 = 14;
+
+// Whether an example holds. Of an unknown kind none does.
+fn holds(kind: u32, label: &[u8], c: &[u8]) -> bool {
+    let first = part(c, FIRST);
+    let second = part(c, SECOND);
+    let third = part(c, THIRD);
+    let want = part(c, WANT);
+    match kind {
+        1..=6 => encoding::holds(kind, first, second, third, want),
+        7 => utf8::is_utf8(first),
+        8 => !utf8::is_utf8(first),
+        9 => lowerings::ranges(first, second, third, want, part(c, AFTER)),
+        10 => lowerings::fields(first, third, want, part(c, AFTER)),
+        11 => names::is_candidate(first, second, third, want),
+        12 => candidates(second, first) == word_of(want) as usize,
+        13 => replies::is_row(first, want, label),
+        _ => false,
     }
-    text(b": WRONG\n");
-    0
 }
 
-// Whether the first n bytes are these.
-fn begins(s: &[u8], n: usize, want: &[u8]) -> bool {
-    if n <= s.len() {
-        return octets::same(&s[..n], want);
+// An example's line, and 1 if it held.
+fn example(c: &[u8]) -> usize
+    ensures { λ r. ⌜ r ≤ 1 ⌝ }
+{
+    let kind = word_of(part(c, KIND));
+    let label = part(c, LABEL);
+    if kind == PRINTED {
+        text(label);
+        hex(part(c, FIRST));
+        text(b"\n");
+        return 0;
     }
-    false
+    told(label, holds(kind, label, c))
+}
+
+fn run(s: &[u8]) {
+    let mut held = 0;
+    let mut at = 0;
+    while at < s.len() {
+        let Leaf::At { from, to } = field_of(s, at, CASE) else {
+            return;
+        };
+        held += example(&s[from..to]);
+        at = to;
+    }
+    number(held as u64);
+    text(b" held\n");
+}
+
+// Standard input, read into a lent buffer.
+fn run_over(buffer: &mut [u8]) {
+    let Input::Bytes(n) = console::input::read(buffer) else {
+        return;
+    };
+    run(&buffer[..n]);
 }
 
 fn main() {
-    let leaves = encoding::varints()
-        + encoding::zigzags()
-        + encoding::records()
-        + encoding::texts()
-        + encoding::rounded();
-    let calls = lowerings::ranges() + lowerings::fields() + names::paths() + replies::refusals();
-    let held = leaves + calls;
-    text(b"printed ");
-    hex(&[0x12, 0x07, 0x9a, 0xbc, 0xde, 0xf0]);
-    text(b"\n");
-    number(held as u64);
-    text(b" held\n");
+    let mut buffer = [0u8; MOST_BYTES];
+    run_over(&mut buffer);
 }

@@ -1,13 +1,12 @@
-// 01's P2 and P3: the candidates of `rank` in the scope plant.Dispatch, and of `.plant.rank`.
-ghost use Prim.Native.Nat.{_≤_};
-use crate::begins;
-use crate::told;
+// The candidates of a name in a scope.
+use crate::case::begins;
+use crate::case::word_of;
 use limits::MOST_CANDIDATE;
 use path::protobuf_path::candidate;
 use path::protobuf_path::candidates;
 
-// Whether the i-th candidate of a name in a scope is this one; a candidate is put together in a lent buffer.
-fn spelled(scope: &[u8], name: &[u8], i: usize, out: &mut [u8], want: &[u8]) -> bool {
+// Whether the i-th candidate is this one; it is put together in a lent buffer.
+fn spelled(name: &[u8], scope: &[u8], i: usize, out: &mut [u8], want: &[u8]) -> bool {
     if i < candidates(scope, name) {
         let n = candidate(scope, name, i, out);
         return begins(out, n, want);
@@ -15,27 +14,7 @@ fn spelled(scope: &[u8], name: &[u8], i: usize, out: &mut [u8], want: &[u8]) -> 
     false
 }
 
-fn is_candidate(scope: &[u8], name: &[u8], i: usize, want: &[u8]) -> bool {
+pub fn is_candidate(name: &[u8], scope: &[u8], place: &[u8], want: &[u8]) -> bool {
     let mut out = [0u8; MOST_CANDIDATE];
-    spelled(scope, name, i, &mut out, want)
-}
-
-pub fn paths() -> usize
-    ensures { λ r. ⌜ r ≤ 5 ⌝ }
-{
-    let scope = b"plant.Dispatch";
-    told(
-        b"first plant.Dispatch.rank",
-        is_candidate(scope, b"rank", 0, b"plant.Dispatch.rank"),
-    )
-        + told(
-            b"then plant.rank",
-            is_candidate(scope, b"rank", 1, b"plant.rank"),
-        )
-        + told(b"last rank", is_candidate(scope, b"rank", 2, b"rank"))
-        + told(
-            b".plant.rank is plant.rank",
-            is_candidate(scope, b".plant.rank", 0, b"plant.rank"),
-        )
-        + told(b"and nothing else", candidates(scope, b".plant.rank") == 1)
+    spelled(name, scope, word_of(place) as usize, &mut out, want)
 }

@@ -8,7 +8,6 @@ use Rattle.console.proofs.input.ends.Tie as tie
 pub ends-spec : {M : Type 1} → statement M
 ends-spec = tie.close (tie.spec
     (λ c. search (needs, size-told-laws))
-    (λ c κs. search (needs, size-told-laws))
     (λ c. search (needs, size-told-laws))
     (λ c κs. search (needs, size-told-laws))
     (λ c. search (needs, size-told-laws)))

@@ -6,10 +6,10 @@ use Rattle.console.proofs.output.signed_words.Statement.{statement}
 use Rattle.console.proofs.output.signed_words.Tie as tie
 
 abbrev Inv-loop : tie.InvT-loop
-Inv-loop ws n end i₀ t7 t8 i = Unit
+Inv-loop ws n end i₀ t7 i = Unit
 
 abbrev μ-loop : tie.MeasureT-loop
-μ-loop ws n end i₀ t7 t8 i = end - i
+μ-loop ws n end i₀ t7 i = end - i
 
 pub signed-words-spec : {M : Type 1} → statement M
 signed-words-spec = tie.close (tie.spec Inv-loop μ-loop
@@ -17,8 +17,6 @@ signed-words-spec = tie.close (tie.spec Inv-loop μ-loop
     (λ c κs. search needs)
     (λ c κs. search needs)
     (λ c. search needs)
-    (λ c. search needs)
-    (λ c κs. search needs)
     (λ c. search needs)
     (λ c. search needs)
     (λ c κs. search needs)

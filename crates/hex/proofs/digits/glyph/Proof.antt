@@ -1,0 +1,14 @@
+-- `hex::digits::glyph` meets its contract.
+-- Assumes nothing.
+use Rattle.hex.proofs.GlyphLaws.{glyph-laws}
+use borrow.Author.Needs.{needs}
+use Rattle.hex.proofs.digits.glyph.Statement.{statement}
+use Rattle.hex.proofs.digits.glyph.Tie as tie
+
+pub glyph-spec : {M : Type 1} → statement M
+glyph-spec = tie.close (tie.spec
+    (λ c. search (needs, glyph-laws))
+    (λ c. search (needs, glyph-laws))
+    (λ c. search (needs, glyph-laws))
+    (λ c. search (needs, glyph-laws))
+    (λ c. search (needs, glyph-laws)))

@@ -1,0 +1,16 @@
+-- `hex::due::due_at` meets its contract.
+-- Assumes nothing.
+use Rattle.hex.proofs.DueLaws.{due-laws}
+use borrow.Author.Needs.{needs}
+use Rattle.hex.proofs.due.due_at.Statement.{statement}
+use Rattle.hex.proofs.due.due_at.Tie as tie
+
+pub due-at-spec : {M : Type 1} → statement M
+due-at-spec = tie.close (tie.spec
+    (λ c. search (needs, due-laws))
+    (λ c κs. search (needs, due-laws))
+    (λ c. search (needs, due-laws))
+    (λ c. search (needs, due-laws))
+    (λ c. search (needs, due-laws))
+    (λ c. search (needs, due-laws))
+    (λ c. search (needs, due-laws)))

@@ -1,0 +1,37 @@
+-- What the program knows of an example: where its fields lie, that words were read from them, and that no more examples hold than there are.
+-- Assumes nothing.
+use mathlib.Core.Path.{_≡_}
+use mathlib.Core.Bool.{Bool}
+use mathlib.Core.List.{List}
+use Prim.Native.Nat.{ℕ, _+_, _-_, _≤_, _<_}
+use native.Mathlib.Omega.{arith}
+use Rattle.limits.specs.Figures.{mostVarint}
+use Rattle.octets.specs.Octets.{Laid}
+use Rattle.wire.specs.Varint.{varint}
+use Rattle.wire.proofs.VarintLaws.{varint-few}
+use Rattle.field.specs.declared.Leaf.{Leaf}
+use Rattle.field.specs.declared.Leaf.the-variants.{At}
+use Rattle.field.specs.Leaf.{leafAt}
+use Rattle.field.proofs.FieldLaws.{Bounds, field-ordered, field-within, field-less}
+use Rattle.field.proofs.LeafLaws.{leaf-bounds, leaf-within}
+use Rattle.console.proofs.InputLaws.{input-laws}
+
+pub ruleset case-laws = (field-ordered, field-within, field-less, leaf-within, input-laws)
+
+-- ---- a varint ends at most ten bytes after it starts
+pub varint-end : (l l′ : List ℕ) (at v r : ℕ) → Laid l at (varint v) l′ r → r ≤ at + mostVarint
+varint-end l l′ at v r d = omega (arith, d .next, varint-few v)
+
+-- ---- the loop over the examples
+module _ (k : ℕ) (good : List ℕ → Bool) (s : List ℕ) (at end : ℕ) (r : Leaf) (q : r ≡ leafAt k good s at end) (a e : ℕ)
+    (g : r ≡ At a e) where
+  bounds : Bounds at end a e
+  bounds = leaf-bounds k good s at end r q a e g
+
+  pub leaf-less : at < end → end - e < end - at
+  leaf-less h = omega (arith, bounds .starts, bounds .ordered)
+
+  pub held-next : (held one : ℕ) → held ≤ at → one ≤ 1 → held + one ≤ e
+  held-next held one h h′ = omega (arith, bounds .starts, bounds .ordered)
+
+pub ruleset run-laws = (leaf-less, held-next, case-laws)

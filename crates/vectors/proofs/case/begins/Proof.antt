@@ -1,0 +1,13 @@
+-- `vectors::case::begins` meets its contract.
+-- Assumes nothing.
+use Rattle.console.proofs.OutputLaws.{front-laws}
+use borrow.Author.Needs.{needs}
+use Rattle.vectors.proofs.case.begins.Statement.{statement}
+use Rattle.vectors.proofs.case.begins.Tie as tie
+
+pub begins-spec : {M : Type 1} → statement M
+begins-spec = tie.close (tie.spec
+    (λ c. search (needs, front-laws))
+    (λ c κs. search (needs, front-laws))
+    (λ c. search (needs, front-laws))
+    (λ c. search (needs, front-laws)))

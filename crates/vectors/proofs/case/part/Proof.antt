@@ -1,0 +1,31 @@
+-- `vectors::case::part` meets its contract, by its loop's invariant and laws.
+-- Assumes nothing.
+use Prim.Native.Nat.{_-_, _≤_}
+use lib.ListN.{length}
+use Rattle.vectors.proofs.CaseLaws.{case-laws}
+use borrow.Author.Needs.{needs}
+use Rattle.vectors.proofs.case.part.Statement.{statement}
+use Rattle.vectors.proofs.case.part.Tie as tie
+
+abbrev Inv-loop : tie.InvT-loop
+Inv-loop c tag at₀ at = at ≤ length c
+
+abbrev μ-loop : tie.MeasureT-loop
+μ-loop c tag at₀ at = length c - at
+
+pub part-spec : {M : Type 1} → statement M
+part-spec = tie.close (tie.spec Inv-loop μ-loop
+    (λ c. search (needs, case-laws))
+    (λ c κs. search (needs, case-laws))
+    (λ c. search (needs, case-laws))
+    (λ c. search (needs, case-laws))
+    (λ c. search (needs, case-laws))
+    (λ c. search (needs, case-laws))
+    (λ c. search (needs, case-laws))
+    (λ c. search (needs, case-laws))
+    (λ c. search (needs, case-laws))
+    (λ c. search (needs, case-laws))
+    (λ c. search (needs, case-laws))
+    (λ c. search (needs, case-laws))
+    (λ c. search (needs, case-laws))
+    (λ c. search (needs, case-laws)))

@@ -1,0 +1,15 @@
+-- `vectors::lowerings::fields` meets its contract.
+-- Assumes nothing.
+use Rattle.vectors.proofs.CaseLaws.{case-laws}
+use borrow.Author.Needs.{needs}
+use Rattle.vectors.proofs.lowerings.fields.Statement.{statement}
+use Rattle.vectors.proofs.lowerings.fields.Tie as tie
+
+pub fields-spec : {M : Type 1} → statement M
+fields-spec = tie.close (tie.spec
+    (λ c. search (needs, case-laws))
+    (λ c κs. search (needs, case-laws))
+    (λ c. search (needs, case-laws))
+    (λ c. search (needs, case-laws))
+    (λ c κs. search (needs, case-laws))
+    (λ c. search (needs, case-laws)))

@@ -1,0 +1,15 @@
+-- `vectors::lowerings::ranges_over` meets its contract.
+-- Assumes nothing.
+use Rattle.vectors.proofs.CaseLaws.{case-laws}
+use borrow.Author.Needs.{needs}
+use Rattle.vectors.proofs.lowerings.ranges_over.Statement.{statement}
+use Rattle.vectors.proofs.lowerings.ranges_over.Tie as tie
+
+pub ranges-over-spec : {M : Type 1} → statement M
+ranges-over-spec = tie.close (tie.spec
+    (λ c. search (needs, case-laws))
+    (λ c κs. search (needs, case-laws))
+    (λ c. search (needs, case-laws))
+    (λ c. search (needs, case-laws))
+    (λ c κs. search (needs, case-laws))
+    (λ c. search (needs, case-laws)))

@@ -1,0 +1,13 @@
+-- `vectors::main` meets its contract. The buffer's length is a law and not computed: its 131,076 bytes take antt seconds.
+-- Assumes nothing.
+use mathlib.Core.Path.{sym}
+use Prim.Native.Nat.{ℕ}
+use lib.ListN.{length-replicate}
+use Rattle.vectors.proofs.main.Statement.{statement}
+use Rattle.vectors.proofs.main.Tie as tie
+
+pub main-spec : {M : Type 1} → statement M
+main-spec = tie.close (tie.spec
+    (λ c. sym (length-replicate {A = ℕ} 131076 0))
+    (λ c κs. search)
+    (λ c. search))
