@@ -179,7 +179,7 @@ values-none NoValue p = refl
 values-none (Values v) p = never cc
 
 -- ---- declaration_named_at
-abbrev pub declarationWhere : (Declaration → Bool) → ℕ → List ℕ → ℕ → ℕ → ℕ → Declared
+abbrev pub declarationWhere : (good : Declaration → Bool) (want : ℕ) (s : List ℕ) (tag from to : ℕ) → Declared
 declarationWhere good k s t a e = whose NoDeclaration tellsDeclared good (declarationAt k s t a e)
 
 module _ (good : Declaration → Bool) (k : ℕ) (s n : List ℕ) (t a e : ℕ) (l : Leaf) (q : l ≡ leafAt nameTag (sameBytes n) s a e) where

@@ -9,7 +9,6 @@
 --                 declarationAt k s t a e == the declaration that a field is, where its tag is k: an extension or a field of a message
 --                  valueNamedAt n s t a e == the enum value that a field is, where its name is n
 --                        itemAt d s t a e == what a field of a scope holds, with d levels of messages left
---                       messageAt d s a e == what the payload of a message is, likewise
 --                          fileAt s t a e == the file that a field of a sheet is
 --
 -- Assumes nothing.
@@ -78,9 +77,6 @@ valueNamedAt n s t a e = elim (eqb t valueTag) [
 
 abbrev pub itemAt : (left : ℕ) (s : List ℕ) (tag from to : ℕ) → Items
 itemAt d s t a e = itemIn (messageIn d s) s t a e none
-
-abbrev pub messageAt : (left : ℕ) (s : List ℕ) (from to : ℕ) → Items
-messageAt d s a e = messageIn d s a e none
 
 abbrev pub fileAt : (s : List ℕ) (tag from to : ℕ) → List File
 fileAt s t a e = fileIn s t a e []
