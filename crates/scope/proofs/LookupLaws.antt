@@ -68,8 +68,8 @@ module _ (k : ℕ) (n s : List ℕ) (t a e : ℕ) (P : Leaf → Type 0)
           rw (← body-unnamed k n s t a e h Not (leaf-bad nameTag (sameBytes n) s a e (At x y) (sym q) x y refl false (sym z) refl) refl)
           (different h x y q z)
       go true z =
-          rw (← body-named k n s t a e h (At x y) (leaf-good nameTag (sameBytes n) s a e (At x y) (sym q) x y refl true (sym z) refl) x y refl)
-          (same h x y q z)
+          let f = leaf-good nameTag (sameBytes n) s a e (At x y) (sym q) x y refl true (sym z) refl in
+          rw (← body-named k n s t a e h (At x y) f x y refl) (same h x y q z)
 
   body-cases : P (bodyAt k n s t a e)
   body-cases = go (eqb t k) refl

@@ -227,13 +227,14 @@ pub declarations-seek : (good : Declaration → Bool) (k d : ℕ) (s : List ℕ)
     → declared (first good (declarationsOf k (itemsIn d s w))) ≡ seek NoDeclaration (firstOf tellsDeclared) (declarationWhere good k s) w
 unfolding itemsIn
 declarations-seek good k d s =
-    seek-is NoDeclaration (firstOf tellsDeclared) (declarationWhere good k s) (λ w. declared (first good (declarationsOf k (itemsIn d s w))))
-    (rw (declarations-none k)) (rw (declarations-none k))
+    seek-is NoDeclaration (firstOf tellsDeclared) (declarationWhere good k s)
+    (λ w. declared (first good (declarationsOf k (itemsIn d s w)))) (rw (declarations-none k)) (rw (declarations-none k))
     λ t a e w. rw (declarations-item k d s t a e (itemsIn d s w), declared-append, declared-listed)
 
 -- ---- declaration_named
 pub declaration-named-is : (k : ℕ) (s n : List ℕ) (p : LookupScope) (r : Declared)
-    → r ≡ seek NoDeclaration (firstOf tellsDeclared) (declarationWhere (λ d. isText s n (d .name)) k s) (walk s (p .body .from) (p .body .to))
+    → r ≡ seek NoDeclaration (firstOf tellsDeclared) (declarationWhere (λ d. isText s n (d .name)) k s)
+    (walk s (p .body .from) (p .body .to))
     → r ≡ declared (declarationNamed k s n (holding s p))
 declaration-named-is k s n p r q =
     q ∙ sym (declarations-seek (λ d. isText s n (d .name)) k (p .left) s (walk s (p .body .from) (p .body .to)))
@@ -271,7 +272,8 @@ module _ (s n : List ℕ) where
   value-step t a e rest = go (eqb t valueTag) (valueAt s a e)
     where
       named-go : (b : Bool) (v : Value)
-          → valued (onlyIf b (some v) (valueNamed s n rest)) ≡ firstOf tellsValued (onlyIf b (Values v) NoValue) (valued (valueNamed s n rest))
+          → valued (onlyIf b (some v) (valueNamed s n rest))
+          ≡ firstOf tellsValued (onlyIf b (Values v) NoValue) (valued (valueNamed s n rest))
       named-go true v = refl
       named-go false v = refl
 

@@ -1,6 +1,6 @@
 -- Where that lies which a look-up finds: every place is one of the sheet, every scope is what stands at its place, and the index of a
--- file is at most the sheet's length. They are for whoever reads the sheet at what was found: `InSheet` is what the functions of a scope ask
--- for, and from `Ordered` and `Places` the `places-laws` of `scope` take what is asked of a span.
+-- file is at most the sheet's length. They are for whoever reads the sheet at what was found: the functions of a scope ask for `InSheet`,
+-- and from `Ordered` and `Places` the `places-laws` of `scope` take what is asked of a span.
 --
 --      Standing s c <-> the scope c is what stands at its place, its place is one of s, and its file is counted no further than s is long
 --     FoundLies s f <-> the places of the extension that was found are of s, and its file is counted no further than s is long
@@ -125,9 +125,10 @@ pub record FoundLies (s : List ℕ) (f : Found) : Type 0 where
 module _ (s : List ℕ) (f : Found) where
   found-in-lies : (n : Name) (c : Scope) → Standing s c → foundIn s n c ≡ some f → FoundLies s f
   found-in-lies n c k =
-      given-holds (declarationNamed extensionTag s n c) (λ d. some (record { file = c .place .file; declaration = d })) f (FoundLies s f) λ d p q.
+      given-holds (declarationNamed extensionTag s n c) (λ d. some (record { file = c .place .file; declaration = d })) f (FoundLies s f)
+      λ d p q.
       let u : f ≡ record { file = c .place .file; declaration = d } = cc in
-      let p′ : declarationNamed extensionTag s n (holding s (c .place)) ≡ some d = ap (declarationNamed extensionTag s n) (sym (k .held)) ∙ p in
+      let p′ = ap (declarationNamed extensionTag s n) (sym (k .held)) ∙ p in
       rw u record { places = declaration-lies s (c .place) (k .lies) extensionTag _ d p′; counted = k .counted }
 
   pub found-abs-lies : (p : Path) → findExtensionByAbsPath s p ≡ some f → FoundLies s f

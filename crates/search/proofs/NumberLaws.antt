@@ -30,7 +30,7 @@ use Rattle.sheet.proofs.MemberLaws.{every-extension-item, every-extension-flat,
 use Rattle.scope.specs.declared.lookup.LookupScope.{LookupScope}
 use Rattle.basis.specs.First.{first}
 use Rattle.scope.specs.Scope.{Scope, holding, declared}
-use Rattle.scope.specs.inner.Steps.{tellsDeclared, firstOf, whose, declarationAt, itemAt, fileAt}
+use Rattle.scope.specs.inner.Steps.{tellsDeclared, firstOf, declarationAt, itemAt, fileAt}
 use Rattle.search.specs.Number.{hasNumber, isExtensionOf, fieldNumbered, extensionNumbered, declarationOf}
 use Rattle.scope.proofs.Answers.{declared-or-else, declared-append, declared-listed, whose-laws}
 use Rattle.scope.proofs.DeclaredPlaces.{declaration-at-ordered, declaration-at-places, places-laws}
@@ -73,7 +73,7 @@ pub ruleset field-numbered-laws = (field-numbered-is, seek-laws)
 
 -- ---- extension_in_item and extension_in_items
 module _ (good : Declaration → Bool) (d : ℕ) (s : List ℕ) (t a e : ℕ) where
-  pub in-item-other : (t ≡ messageTag → ⊥) → (r : Declared) → r ≡ whose NoDeclaration tellsDeclared good (declarationAt extensionTag s t a e)
+  pub in-item-other : (t ≡ messageTag → ⊥) → (r : Declared) → r ≡ declarationWhere good extensionTag s t a e
       → r ≡ declared (first good (everyExtensionOf (itemAt d s t a e)))
   unfolding declarationAt
   in-item-other h r q = rw (every-extension-flat d s t a e none h, append-nil, declared-listed) q
@@ -101,7 +101,8 @@ pub in-items-is : (good : Declaration → Bool) (d : ℕ) (s : List ℕ) (w : Wa
     → r ≡ seek NoDeclaration (firstOf tellsDeclared) (itemWhere good d s) w → r ≡ declared (first good (everyExtensionOf (itemsIn d s w)))
 unfolding itemsIn
 in-items-is good d s w r q =
-    q ∙ sym (seek-is NoDeclaration (firstOf tellsDeclared) (itemWhere good d s) (λ w. declared (first good (everyExtensionOf (itemsIn d s w)))) refl refl
+    q ∙ sym (seek-is NoDeclaration (firstOf tellsDeclared) (itemWhere good d s)
+    (λ w. declared (first good (everyExtensionOf (itemsIn d s w)))) refl refl
     (λ t a e w. rw (every-extension-item d s t a e (itemsIn d s w), declared-append)) w)
 
 pub ruleset in-items-laws = (in-items-is, seek-laws)
@@ -132,8 +133,10 @@ module _ (s m : List ℕ) (k to : ℕ) (h : to ≡ length s) where
       seek-start NoDeclaration (firstOf tellsDeclared) (fileWhere (isExtensionOf s m k) s) s 0 to (omega arith) (omega arith)
 
   -- the loop is a premise so that a search reads from it where the sheet ends
-  pub extension-numbered-is : (r : Declared) (i : ℕ) → Seeking NoDeclaration (firstOf tellsDeclared) (fileWhere (isExtensionOf s m k) s) s 0 to i
-      → r ≡ seek NoDeclaration (firstOf tellsDeclared) (fileWhere (isExtensionOf s m k) s) (walk s 0 to) → r ≡ declared (extensionNumbered s m k)
+  pub extension-numbered-is : (r : Declared) (i : ℕ)
+      → Seeking NoDeclaration (firstOf tellsDeclared) (fileWhere (isExtensionOf s m k) s) s 0 to i
+      → r ≡ seek NoDeclaration (firstOf tellsDeclared) (fileWhere (isExtensionOf s m k) s) (walk s 0 to)
+      → r ≡ declared (extensionNumbered s m k)
   extension-numbered-is r i _ q = q ∙ rw (h, tree-files s) (sym (files (walk s 0 (length s))))
     where
       files : (w : Walk) → declared (first (isExtensionOf s m k) (everyExtension (filesIn s w)))

@@ -194,7 +194,8 @@ module _ (s t : List ℕ) (next i : ℕ) (l : Leaf) (e : ℕ) (w : Within l e) (
       at : (m : ℕ) → m ≤ e → (b : Bool) → onlyIf b (follow s (namesFrom t next) (holding s (filePlace i m e))) none ≡ some c → Placed s c
       at m k false q = never cc
       at m k true q =
-          followed-placed s (namesFrom t next) (holding s (filePlace i m e)) (record { held = refl; lies = record { ordered = k; within = h } }) c q
+          let f : InSheet s (filePlace i m e) = record { ordered = k; within = h } in
+          followed-placed s (namesFrom t next) (holding s (filePlace i m e)) (record { held = refl; lies = f }) c q
 
       go : (l : Leaf) → Within l e → scopeAt s t next i l e ≡ some c → Placed s c
       go Not w q = never cc

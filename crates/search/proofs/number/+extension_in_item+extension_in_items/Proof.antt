@@ -15,9 +15,9 @@ use Rattle.search.proofs.number.+extension_in_item+extension_in_items.L
 use Rattle.search.proofs.number.extension_in_items.Reads as in-items
 use Rattle.search.proofs.number.extension_in_items.Kinds as in-items-kinds
 use Rattle.search.proofs.number.+extension_in_item+extension_in_items.Lts-extension_in_items as in-items-lts
-use Rattle.field.proofs.field_at.Reads as field-at-reads
-use Rattle.field.proofs.leaf_at.Reads as leaf-at-reads
-use Rattle.search.proofs.number.extension_numbered_at.Reads as extension-numbered-at-reads
+use Rattle.field.proofs.field_at.Reads as field-at
+use Rattle.field.proofs.leaf_at.Reads as leaf-at
+use Rattle.search.proofs.number.extension_numbered_at.Reads as numbered-at
 use Rattle.search.proofs.number.+extension_in_item+extension_in_items.{statement}
 use Rattle.search.proofs.number.+extension_in_item+extension_in_items.Tie.{close}
 
@@ -49,7 +49,7 @@ abbrev μ-loop : in-items-lts.MeasureT-loop
 pub +extension-in-item+extension-in-items-spec : {M : Type 1} → statement M
 +extension-in-item+extension-in-items-spec = close μ-in-item μ-in-items
     (λ t. in-item-lts.spec
-    (extension-numbered-at-reads.Asked, extension-numbered-at-reads.Learnt, leaf-at-reads.Asked, leaf-at-reads.Learnt, in-items-below t, in-items.Post)
+    (numbered-at.Asked, numbered-at.Learnt, leaf-at.Asked, leaf-at.Learnt, in-items-below t, in-items.Post)
     (in-item-at t)
     in-item.Post
     (λ c κs. search (needs, in-item-laws))
@@ -63,7 +63,7 @@ pub +extension-in-item+extension-in-items-spec : {M : Type 1} → statement M
     (λ c κs. search (needs, in-item-laws))
     (λ c. search (needs, in-item-laws)))
     λ t. in-items-lts.spec
-    (field-at-reads.Asked, field-at-reads.Learnt, in-item-below t, in-item.Post)
+    (field-at.Asked, field-at.Learnt, in-item-below t, in-item.Post)
     (in-items-at t)
     in-items.Post
     Inv-loop
