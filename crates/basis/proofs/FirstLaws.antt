@@ -4,13 +4,13 @@
 --   Every P xs <-> P holds of each of xs
 --
 -- Assumes nothing.
-use mathlib.Core.Path.{_≡_, refl}
+use mathlib.Core.Path.{_≡_, refl, _∙_}
 use mathlib.Core.Bool.{Bool, true, false}
 use mathlib.Core.List.{List, [], _∷_, _++_}
 use mathlib.Core.Option.{Option, none, some}
 use Prim.Native.Nat.{ℕ}
 use Rattle.basis.proofs.Never.{never}
-use Rattle.basis.specs.First.{onlyIf, first, given, orElse, onto, collect}
+use Rattle.basis.specs.First.{onlyIf, first, given, orElse, firstSome, onto, collect}
 
 -- ---- one thing, or nothing: what holds of all that f makes holds of what is given
 pub given-holds : {A B : Type 0} (o : Option A) (f : A → Option B) (b : B) (P : Type 0) → ((a : A) → o ≡ some a → f a ≡ some b → P)
@@ -59,3 +59,32 @@ first-holds P good (one-of {x = y} {xs = ys} h t) x q = go (good y) (first-holds
     go : (b : Bool) → (first good ys ≡ some x → P x) → onlyIf b (some y) (first good ys) ≡ some x → P x
     go true k q = let u : x ≡ y = cc in rw u h
     go false k q = k q
+
+-- ---- of lists that are put together or made of another
+module _ {A : Type 0} (P : A → Type 0) where
+  pub every-all : ((x : A) → P x) → (xs : List A) → Every P xs
+  every-all h [] = none-of
+  every-all h (x ∷ xs) = one-of (h x) (every-all h xs)
+
+  pub every-append : {xs ys : List A} → Every P xs → Every P ys → Every P (xs ++ ys)
+  every-append none-of k = k
+  every-append (one-of h t) k = one-of h (every-append t k)
+
+  pub every-onto : (o : Option A) {xs : List A} → ((x : A) → o ≡ some x → P x) → Every P xs → Every P (onto o xs)
+  every-onto none h k = k
+  every-onto (some x) h k = one-of (h x refl) k
+
+module _ {A B : Type 0} (P : A → Type 0) (f : A → Option B) where
+  pub every-collect : (Q : B → Type 0) → ((x : A) → P x → (b : B) → f x ≡ some b → Q b) → {xs : List A} → Every P xs
+      → Every Q (collect f xs)
+  every-collect Q h none-of = none-of
+  every-collect Q h (one-of {x = x} k t) = every-onto Q (f x) (h x k) (every-collect Q h t)
+
+  pub first-some-holds : (b : B) (Q : Type 0) → ((x : A) → P x → f x ≡ some b → Q) → {xs : List A} → Every P xs
+      → firstSome f xs ≡ some b → Q
+  first-some-holds b Q h none-of q = never cc
+  first-some-holds b Q h (one-of {x = x} {xs = xs} k t) q = go (f x) refl (first-some-holds b Q h t) q
+    where
+      go : (o : Option B) → f x ≡ o → (firstSome f xs ≡ some b → Q) → orElse o (firstSome f xs) ≡ some b → Q
+      go none p r q = r q
+      go (some c) p r q = h x k (p ∙ q)

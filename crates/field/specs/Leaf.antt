@@ -2,6 +2,7 @@
 --
 --                 span a e ==  the span from the place a up to the place e
 --                 text s p ==  the bytes of a span
+--               isText s t p <=> the bytes of the span p of s are the text t
 --                 Lies p s <-> the span is one of s: it ends no earlier than it starts, and no later than s does
 --              anyBytes bs <=> nothing is asked of the bytes
 --              ofSize n bs <=> there are n bytes
@@ -16,7 +17,7 @@ use Prim.Native.Nat.{ℕ, _≤_}
 use lib.Dec.{eqb}
 use lib.ListN.{length}
 use Rattle.basis.specs.First.{onlyIf}
-use Rattle.octets.specs.Octets.{part}
+use Rattle.octets.specs.Octets.{part, sameBytes}
 use Rattle.field.specs.declared.Field.{Field}
 use Rattle.field.specs.declared.Field.the-variants.{Whole, Cut}
 use Rattle.field.specs.declared.Leaf.{Leaf}
@@ -29,6 +30,9 @@ span a e = record { from = a; to = e }
 
 abbrev pub text : List ℕ → Span → List ℕ
 text s p = part s (p .from) (p .to)
+
+abbrev pub isText : (s t : List ℕ) (p : Span) → Bool
+isText s t p = sameBytes t (text s p)
 
 abbrev pub Lies : Span → List ℕ → Type 0
 Lies p s = (p .from ≤ p .to) × (p .to ≤ length s)

@@ -1,43 +1,22 @@
--- The answers of the functions: the first of two that is something, what an answer tells of that which it stands for, and a declaration
--- where it passes a test.
---
---   orLeaf l m, orDeclared r q, orValued v w == the first of two answers, the second where that is nothing
---
+-- The answers of the functions: what an answer tells of that which it stands for, the first of two that tells of something, and a
+-- declaration where it passes a test.
 -- Assumes nothing.
-use mathlib.Core.Path.{_≡_, refl, ap, _∙_}
+use mathlib.Core.Path.{_≡_, refl, sym, ap, _∙_}
 use mathlib.Core.Bool.{Bool, true, false}
 use mathlib.Core.List.{List, _++_}
 use mathlib.Core.Option.{Option, none, some}
-use Prim.Native.Nat.{ℕ}
 use Rattle.basis.proofs.Never.{never}
-use Rattle.field.specs.declared.Leaf.{Leaf}
-use Rattle.field.specs.declared.Leaf.the-variants.{At, Not}
 use Rattle.sheet.specs.declared.declaration.Declaration.{Declaration}
 use Rattle.sheet.specs.declared.declaration.Declared.{Declared}
 use Rattle.sheet.specs.declared.declaration.Declared.the-variants.{Declares, NoDeclaration}
-use Rattle.sheet.specs.declared.declaration.Valued.{Valued}
-use Rattle.sheet.specs.declared.declaration.Valued.the-variants.{Values, NoValue}
 use Rattle.sheet.proofs.MemberLaws.{listed}
 use Rattle.scope.specs.declared.lookup.LookupScope.{LookupScope}
 use Rattle.scope.specs.declared.lookup.Reached.{Reached}
 use Rattle.scope.specs.declared.lookup.Reached.the-variants.{To, Nowhere}
-use Rattle.basis.specs.First.{onlyIf, first, orElse}
+use Rattle.basis.specs.First.{onlyIf, told, first, orElse}
 use Rattle.scope.specs.Scope.{Scope, placed, declared}
-use Rattle.scope.specs.Steps.{whose}
+use Rattle.scope.specs.inner.Steps.{tellsDeclared, firstOf, whose}
 use Rattle.basis.proofs.FirstLaws.{first-append}
-
--- ---- the first of two
-abbrev pub orLeaf : Leaf → Leaf → Leaf
-orLeaf Not m = m
-orLeaf (At a e) m = At a e
-
-abbrev pub orDeclared : Declared → Declared → Declared
-orDeclared NoDeclaration q = q
-orDeclared (Declares d) q = Declares d
-
-abbrev pub orValued : Valued → Valued → Valued
-orValued NoValue w = w
-orValued (Values v) w = Values v
 
 -- ---- what there is, of which the answer tells
 module _ (r : Reached) where
@@ -60,17 +39,27 @@ module _ (r : Declared) where
   declared-some none q d g = never cc
   declared-some (some x) q d g = let u : x ≡ d = cc in rw u
 
--- ---- the first declaration of two lists, and of one declaration
-pub declared-or-else : (o p : Option Declaration) → declared (orElse o p) ≡ orDeclared (declared o) (declared p)
-declared-or-else none p = refl
-declared-or-else (some d) p = refl
+-- ---- the first of two lists: an answer that tells of something is the first of two, and one that does not is passed over
+module _ {A B R : Type 0} (nothing : R) (thing : B → R) (tells : R → Option A)
+    (passed : (q : R) → firstOf tells nothing q ≡ q) (taken : (b : B) (q : R) → firstOf tells (thing b) q ≡ thing b) where
+  pub told-or-else : (o p : Option B) → told nothing thing (orElse o p) ≡ firstOf tells (told nothing thing o) (told nothing thing p)
+  told-or-else none p = sym (passed (told nothing thing p))
+  told-or-else (some b) p = sym (taken b (told nothing thing p))
+
+  pub told-append : (good : B → Bool) (xs ys : List B)
+      → told nothing thing (first good (xs ++ ys)) ≡ firstOf tells (told nothing thing (first good xs)) (told nothing thing (first good ys))
+  told-append good xs ys = ap (told nothing thing) (first-append good xs ys) ∙ told-or-else (first good xs) (first good ys)
+
+pub declared-or-else : (o p : Option Declaration) → declared (orElse o p) ≡ firstOf tellsDeclared (declared o) (declared p)
+declared-or-else = told-or-else NoDeclaration Declares tellsDeclared (λ q. refl) (λ d q. refl)
 
 module _ (good : Declaration → Bool) where
   pub declared-append : (xs ys : List Declaration)
-      → declared (first good (xs ++ ys)) ≡ orDeclared (declared (first good xs)) (declared (first good ys))
-  declared-append xs ys = ap declared (first-append good xs ys) ∙ declared-or-else (first good xs) (first good ys)
+      → declared (first good (xs ++ ys)) ≡ firstOf tellsDeclared (declared (first good xs)) (declared (first good ys))
+  declared-append = told-append NoDeclaration Declares tellsDeclared (λ q. refl) (λ d q. refl) good
 
-  pub declared-listed : (r : Declared) → declared (first good (listed r)) ≡ whose good r
+  pub declared-listed : (r : Declared) → declared (first good (listed r)) ≡ whose NoDeclaration tellsDeclared good r
+  unfolding whose
   declared-listed NoDeclaration = refl
   declared-listed (Declares d) = go (good d)
     where
@@ -80,14 +69,17 @@ module _ (good : Declaration → Bool) where
 
 -- ---- a declaration, where it passes a test
 module _ (good : Declaration → Bool) (r x : Declared) (q : r ≡ x) where
-  pub whose-none : r ≡ NoDeclaration → NoDeclaration ≡ whose good x
+  pub whose-none : r ≡ NoDeclaration → NoDeclaration ≡ whose NoDeclaration tellsDeclared good x
+  unfolding whose
   whose-none g = rw (← q, g)
 
   module _ (d : Declaration) (g : r ≡ Declares d) where
-    pub whose-other : good d ≡ false → NoDeclaration ≡ whose good x
+    pub whose-other : good d ≡ false → NoDeclaration ≡ whose NoDeclaration tellsDeclared good x
+    unfolding whose
     whose-other h = rw (← q, g, h)
 
-    pub whose-some : good d ≡ true → Declares d ≡ whose good x
+    pub whose-some : good d ≡ true → Declares d ≡ whose NoDeclaration tellsDeclared good x
+    unfolding whose
     whose-some h = rw (← q, g, h)
 
 pub ruleset whose-laws = (whose-none, whose-other, whose-some)

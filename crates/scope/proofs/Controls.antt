@@ -2,11 +2,11 @@
 -- finds nothing.
 -- Assumes nothing.
 use mathlib.Core.Path.{_≡_, refl}
-use mathlib.Core.Bool.{true, false}
 use mathlib.Core.List.{List, [], _∷_, map}
 use mathlib.Core.Option.{Option, none, some}
 use Prim.Native.Nat.{ℕ}
 use Rattle.basis.specs.First.{given}
+use Rattle.sheet.specs.Table.{extensionTag, fieldTag}
 use Rattle.sheet.specs.Members.{Enumeration}
 use Rattle.scope.specs.Scope.{Scope, down, declarationNamed, enumNamed, valueNamed}
 use Rattle.scope.proofs.Sample.{sheet, file, inM, inN, declares}
@@ -26,15 +26,15 @@ levels = refl
 
 -- ---- extensions and fields: where the name stands, and the number
 -- the file's x and not that of M, the first y, and f, which is a field
-extensions : map (λ n. declares (declarationNamed true sheet (n ∷ []) (file 16))) (120 ∷ 121 ∷ 102 ∷ [])
+extensions : map (λ n. declares (declarationNamed extensionTag sheet (n ∷ []) (file 16))) (120 ∷ 121 ∷ 102 ∷ [])
     ≡ (169 ∷ 7 ∷ []) ∷ (197 ∷ 5 ∷ []) ∷ [] ∷ []
 unfolding file
 extensions = refl
 
 -- of M: x as an extension, the first f, and x, which is no field
 members : map declares
-    (inM (declarationNamed true sheet (120 ∷ [])) ∷ inM (declarationNamed false sheet (102 ∷ []))
-    ∷ inM (declarationNamed false sheet (120 ∷ [])) ∷ [])
+    (inM (declarationNamed extensionTag sheet (120 ∷ [])) ∷ inM (declarationNamed fieldTag sheet (102 ∷ []))
+    ∷ inM (declarationNamed fieldTag sheet (120 ∷ [])) ∷ [])
     ≡ (20 ∷ 7 ∷ []) ∷ (48 ∷ 5 ∷ []) ∷ [] ∷ []
 unfolding file
 members = refl

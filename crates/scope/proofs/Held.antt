@@ -16,7 +16,7 @@ use Rattle.basis.proofs.Never.{never}
 use Rattle.field.specs.declared.Leaf.{Leaf}
 use Rattle.field.specs.declared.Leaf.the-variants.{At, Not}
 use Rattle.field.specs.declared.Span.{Span}
-use Rattle.field.specs.Leaf.{span, Lies, anyBytes, leafAt}
+use Rattle.field.specs.Leaf.{span, isText, anyBytes, leafAt}
 use Rattle.field.specs.Walk.{walk}
 use Rattle.field.proofs.WalkLaws.{walk-holds}
 use Rattle.field.proofs.LeafLaws.{leaf-inside}
@@ -28,7 +28,7 @@ use Rattle.scope.specs.declared.lookup.LookupScope.{LookupScope}
 use Rattle.scope.specs.declared.lookup.Reached.{Reached}
 use Rattle.scope.specs.declared.lookup.Reached.the-variants.{To, Nowhere}
 use Rattle.basis.specs.First.{first}
-use Rattle.scope.specs.Scope.{Scope, holding, messageScope, isNamed, down, enumNamed, placed, bodied}
+use Rattle.scope.specs.Scope.{Scope, InSheet, holding, messageScope, down, enumNamed, placed, bodied}
 use Rattle.basis.proofs.FirstLaws.{given-holds, Every, none-of, one-of, first-holds}
 use Rattle.scope.proofs.Answers.{placed-nowhere, placed-to}
 
@@ -71,27 +71,23 @@ module _ (s n : List ℕ) (p : LookupScope) where
   module _ (c : Scope) (q : down s n (holding s p) ≡ some c) where
     down-message : (P : Type 0) → ((m : Message) → Held (p .left) s (p .body .to) m → c ≡ messageScope (holding s p) m → P) → P
     down-message P k =
-        given-holds (first (λ m. isNamed s n (m .name)) (messagesOf (holding s p .items)))
+        given-holds (first (λ m. isText s n (m .name)) (messagesOf (holding s p .items)))
         (λ m. some (messageScope (holding s p) m)) c P found q
       where
-        found : (m : Message) → first (λ m. isNamed s n (m .name)) (messagesOf (holding s p .items)) ≡ some m
+        found : (m : Message) → first (λ m. isText s n (m .name)) (messagesOf (holding s p .items)) ≡ some m
             → some (messageScope (holding s p) m) ≡ some c → P
         found m f g =
             let u : c ≡ messageScope (holding s p) m = cc in
-            k m (first-holds (Held (p .left) s (p .body .to)) (λ m. isNamed s n (m .name))
+            k m (first-holds (Held (p .left) s (p .body .to)) (λ m. isText s n (m .name))
             (messages-held (p .left) s (p .body .to) (p .body .from)) m f) u
 
     pub down-held : c ≡ holding s (c .place)
     down-held = down-message (c ≡ holding s (c .place)) λ m h u. rw (u, h .inside)
 
-    pub down-lies-ordered : c .place .body .from ≤ c .place .body .to
-    down-lies-ordered = down-message (c .place .body .from ≤ c .place .body .to) λ m h u. rw u (h .ordered)
-
-    pub down-lies-within : p .body .to ≤ length s → c .place .body .to ≤ length s
-    down-lies-within l = down-message (c .place .body .to ≤ length s) λ m h u. rw u (omega (arith, h .within))
-
-    pub down-lies : Lies (p .body) s → Lies (c .place .body) s
-    down-lies l = (down-lies-ordered, down-lies-within (l .1))
+    pub down-lies : InSheet s p → InSheet s (c .place)
+    down-lies l =
+        down-message (InSheet s (c .place))
+        λ m h u. rw u (record { ordered = h .ordered; within = omega (arith, h .within, l .within) })
 
   -- the same, of what `down` answers
   module _ (r : Reached) (q : r ≡ placed (down s n (holding s p))) where
@@ -104,13 +100,10 @@ module _ (s n : List ℕ) (p : LookupScope) where
           placed-to r (down s n (holding s p)) q x g (down s n (holding s p) ≡ some (holding s x))
           λ c f u. rw u (f ∙ ap some (down-held c f))
 
-      pub down-to-ordered : x .body .from ≤ x .body .to
-      down-to-ordered = down-lies-ordered (holding s x) down-to
+      pub down-to-lies : InSheet s p → InSheet s x
+      down-to-lies = down-lies (holding s x) down-to
 
-      pub down-to-within : p .body .to ≤ length s → x .body .to ≤ length s
-      down-to-within = down-lies-within (holding s x) down-to
-
-pub ruleset down-to-laws = (down-nowhere, down-to, down-to-ordered, down-to-within)
+pub ruleset down-to-laws = (down-nowhere, down-to, down-to-lies)
 
 -- ---- an enum that is found
 pub record FoundEnum (s n : List ℕ) (c : Scope) (p : Span) : Type 0 where
@@ -122,7 +115,7 @@ module _ (s n : List ℕ) (p : LookupScope) where
   module _ (x : Enumeration) (q : enumNamed s n (holding s p) ≡ some x) where
     enum-stands : HeldEnum s (p .body .to) x
     enum-stands =
-        first-holds (HeldEnum s (p .body .to)) (λ x. isNamed s n (x .name))
+        first-holds (HeldEnum s (p .body .to)) (λ x. isText s n (x .name))
         (enums-held (p .left) s (p .body .to) (p .body .from)) x q
 
     pub enum-held : x .values ≡ valuesIn s (walk s (x .body .from) (x .body .to))
@@ -131,11 +124,8 @@ module _ (s n : List ℕ) (p : LookupScope) where
     pub enum-lies-ordered : x .body .from ≤ x .body .to
     enum-lies-ordered = enum-stands .ordered
 
-    pub enum-lies-within : p .body .to ≤ length s → x .body .to ≤ length s
-    enum-lies-within l = omega (arith, enum-stands .within)
-
-    pub enum-lies : Lies (p .body) s → Lies (x .body) s
-    enum-lies l = (enum-lies-ordered, enum-lies-within (l .1))
+    pub enum-lies-within : InSheet s p → x .body .to ≤ length s
+    enum-lies-within l = omega (arith, enum-stands .within, l .within)
 
   -- the same, of what `enum_named` answers
   module _ (r : Leaf) (q : r ≡ bodied (enumNamed s n (holding s p))) where
@@ -161,7 +151,7 @@ module _ (s n : List ℕ) (p : LookupScope) where
       enum-at-ordered =
           subst (λ (b : Span). b .from ≤ b .to) (sym (enum-at .body)) (enum-lies-ordered (enum-at .next) (enum-at .is))
 
-      pub enum-at-within : p .body .to ≤ length s → e ≤ length s
+      pub enum-at-within : InSheet s p → e ≤ length s
       enum-at-within l =
           subst (λ (b : Span). b .to ≤ length s) (sym (enum-at .body)) (enum-lies-within (enum-at .next) (enum-at .is) l)
 

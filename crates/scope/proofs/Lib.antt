@@ -4,3 +4,4 @@ pub mod NamedLaws
 pub mod Held
 pub mod Sample
 pub mod Controls
+pub mod DeclaredPlaces

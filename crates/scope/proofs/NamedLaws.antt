@@ -3,22 +3,22 @@
 -- first leaf of its payload.
 --
 --                    Named s a e p <-> the span p is the name that the payload from a to e begins with
---   declarationWhere good x s t a e ==  the declaration that a field of a scope is, where it passes the test
+--   declarationWhere good k s t a e ==  the declaration that a field of a scope is, where it passes the test
 --
 -- Assumes nothing.
 use mathlib.Core.Path.{_≡_, refl, sym, _∙_}
 use mathlib.Core.Bool.{Bool, true, false}
-use mathlib.Core.Option.{some}
+use mathlib.Core.Option.{Option, none, some}
 use mathlib.Core.List.{List, [], _++_}
 use Prim.Native.Nat.{ℕ}
-use borrow.Author.Tests.{eq-eqb, ne-eqb}
+use borrow.Author.Tests.{eq-eqb, ne-eqb, eqb-true, eqb-false}
 use lib.Dec.{eqb}
 use Rattle.basis.proofs.Never.{never}
-use Rattle.octets.specs.Octets.{bigAt}
+use Rattle.octets.specs.Octets.{sameBytes, bigAt}
 use Rattle.field.specs.declared.Leaf.{Leaf}
 use Rattle.field.specs.declared.Leaf.the-variants.{At, Not}
 use Rattle.field.specs.declared.Span.{Span}
-use Rattle.field.specs.Leaf.{span, text, anyBytes, ofSize, leafAt}
+use Rattle.field.specs.Leaf.{span, text, isText, anyBytes, ofSize, leafAt}
 use Rattle.field.specs.Walk.{Walk, walk}
 use Rattle.field.proofs.LeafLaws.{leaf-good, leaf-tested, leaf-untested, on-leaf-some}
 use Rattle.field.proofs.Seek.{seek, seek-is, seek-laws}
@@ -32,34 +32,36 @@ use Rattle.sheet.specs.declared.declaration.Valued.{Valued}
 use Rattle.sheet.specs.declared.declaration.Valued.the-variants.{Values, NoValue}
 use Rattle.sheet.specs.Table.{nameTag, extendeeTag, extensionTag, fieldTag, valueTag, signedNumberTag}
 use Rattle.sheet.specs.Declaration.{lastAt, shapeAt, declaredWith, extensionAt, messageFieldAt, valueAt}
-use Rattle.sheet.specs.Tree.{Items, none, valueOnto as valuedWith, valueIn, valuesIn, itemIn, messageIn, itemsIn}
+use Rattle.sheet.specs.Tree.{Items, valueOnto as valuedWith, valueIn, valuesIn, itemIn, messageIn, itemsIn}
+use Rattle.sheet.specs.Tree as items
 use Rattle.sheet.specs.Members.{declarationsOf}
 use Rattle.sheet.proofs.MemberLaws.{listed, extensions-item, fields-item}
 use Rattle.scope.specs.declared.lookup.LookupScope.{LookupScope}
-use Rattle.basis.specs.First.{onlyIf, first}
-use Rattle.scope.specs.Scope.{holding, isNamed, declarationNamed, valueNamed, declared, valued}
-use Rattle.scope.specs.Steps.{named, declarationAt, whose, whoseValue, valueNamedAt}
-use Rattle.scope.proofs.Answers.{orDeclared, orValued, declared-append, declared-listed}
+use Rattle.basis.specs.First.{onlyIf, told, first}
+use Rattle.scope.specs.Scope.{holding, declarationNamed, valueNamed, declared, valued}
+use Rattle.scope.specs.inner.Steps.{tellsDeclared, tellsValued, firstOf, whose, declarationAt, valueNamedAt}
+use Rattle.scope.proofs.Answers.{declared-append, declared-listed}
 
 -- ---- declaration_at
-module _ (x : Bool) (s : List ℕ) (t a e : ℕ) where
-  pub declaration-no-extension : x ≡ true → (t ≡ extensionTag → ⊥) → NoDeclaration ≡ declarationAt x s t a e
+module _ (k : ℕ) (s : List ℕ) (t a e : ℕ) where
+  pub declaration-other : (t ≡ k → ⊥) → NoDeclaration ≡ declarationAt k s t a e
   unfolding declarationAt
-  declaration-no-extension b o = rw b (simp (declarationAt, ne-eqb t extensionTag o))
+  declaration-other o = simp (declarationAt, ne-eqb t k o)
 
-  pub declaration-extension : x ≡ true → t ≡ extensionTag → (r : Declared) → r ≡ extensionAt s a e → r ≡ declarationAt x s t a e
-  unfolding declarationAt
-  declaration-extension b h r q = rw b (simp (declarationAt, eq-eqb t extensionTag h, q))
+  module _ (h : t ≡ k) where
+    pub declaration-extension : k ≡ extensionTag → (r : Declared) → r ≡ extensionAt s a e → r ≡ declarationAt k s t a e
+    unfolding declarationAt
+    declaration-extension g r q = rw (h, g) q
 
-  pub declaration-no-field : x ≡ false → (t ≡ fieldTag → ⊥) → NoDeclaration ≡ declarationAt x s t a e
-  unfolding declarationAt
-  declaration-no-field b o = rw b (simp (declarationAt, ne-eqb t fieldTag o))
+    pub declaration-field : k ≡ fieldTag → (r : Declared) → r ≡ messageFieldAt s a e → r ≡ declarationAt k s t a e
+    unfolding declarationAt
+    declaration-field g r q = rw (h, g) q
 
-  pub declaration-field : x ≡ false → t ≡ fieldTag → (r : Declared) → r ≡ messageFieldAt s a e → r ≡ declarationAt x s t a e
-  unfolding declarationAt
-  declaration-field b h r q = rw b (simp (declarationAt, eq-eqb t fieldTag h, q))
+    pub declaration-neither : (k ≡ extensionTag → ⊥) → (k ≡ fieldTag → ⊥) → NoDeclaration ≡ declarationAt k s t a e
+    unfolding declarationAt
+    declaration-neither x y = simp (declarationAt, eq-eqb t k h, ne-eqb k extensionTag x, ne-eqb k fieldTag y)
 
-pub ruleset declaration-at-laws = (declaration-no-extension, declaration-extension, declaration-no-field, declaration-field)
+pub ruleset declaration-at-laws = (declaration-other, declaration-extension, declaration-field, declaration-neither)
 
 -- ---- the name of a declaration and of a value is the leaf that its payload starts with
 abbrev Named : List ℕ → ℕ → ℕ → Span → Type 0
@@ -87,21 +89,25 @@ module _ (s : List ℕ) (a e : ℕ) (d : Declaration) where
       on-leaf-some NoDeclaration (Declares d) (leafAt nameTag anyBytes s a e) _ (Named s a e (d .name)) none-declared λ n shapes y.
       declared-name n shapes (span 0 0) y (shapeAt s shapes e)
 
-  tagged : (r : Declared) (b : Bool) → Declares d ≡ elim b [ true ↦ r | false ↦ NoDeclaration ] → Declares d ≡ r
-  tagged r true p = p
-  tagged r false p = absurd (none-declared p)
-
-  pub declares-extension : (t : ℕ) → Declares d ≡ declarationAt true s t a e → Declares d ≡ extensionAt s a e
+  -- whatever its tag, it is an extension or a field
+  pub declaration-cases : (P : Type 0) (k t : ℕ) → (Declares d ≡ extensionAt s a e → P) → (Declares d ≡ messageFieldAt s a e → P)
+      → Declares d ≡ declarationAt k s t a e → P
   unfolding declarationAt
-  declares-extension t = tagged (extensionAt s a e) (eqb t extensionTag)
+  declaration-cases P k t extension field = go (eqb t k) (eqb k extensionTag) (eqb k fieldTag)
+    where
+      go : (b b′ b″ : Bool)
+          → Declares d ≡ elim b [
+            | true ↦ onlyIf b′ (extensionAt s a e) (onlyIf b″ (messageFieldAt s a e) NoDeclaration)
+            | false ↦ NoDeclaration
+          ]
+          → P
+      go true true b″ p = extension p
+      go true false true p = field p
+      go true false false p = absurd (none-declared p)
+      go false b′ b″ p = absurd (none-declared p)
 
-  declares-field : (t : ℕ) → Declares d ≡ declarationAt false s t a e → Declares d ≡ messageFieldAt s a e
-  unfolding declarationAt
-  declares-field t = tagged (messageFieldAt s a e) (eqb t fieldTag)
-
-  declaration-name : (x : Bool) (t : ℕ) → Declares d ≡ declarationAt x s t a e → Named s a e (d .name)
-  declaration-name true t p = extension-name (declares-extension t p)
-  declaration-name false t p = field-name (declares-field t p)
+  declaration-name : (k t : ℕ) → Declares d ≡ declarationAt k s t a e → Named s a e (d .name)
+  declaration-name k t = declaration-cases (Named s a e (d .name)) k t extension-name field-name
 
 module _ (s : List ℕ) (a e : ℕ) (v : Value) where
   none-valued : Values v ≡ NoValue → ⊥
@@ -135,55 +141,103 @@ module _ (s : List ℕ) (a e : ℕ) (p : Span) (g : Named s a e p) (test : List 
       let v : p .to ≡ y = cc in
       rw (u, v) (leaf-tested nameTag test s a e x y f)
 
--- ---- declaration_named_at, whatever the test of names
-module _ (x : Bool) (s : List ℕ) (t a e : ℕ) (good : Declaration → Bool) (test : List ℕ → Bool)
-    (l : Leaf) (q : l ≡ leafAt nameTag test s a e) where
-  pub declaration-other-name : l ≡ Not → ((d : Declaration) → good d ≡ test (text s (d .name)))
-      → NoDeclaration ≡ whose good (declarationAt x s t a e)
-  declaration-other-name w same = go (declarationAt x s t a e) refl
+-- ---- an answer that tells of something which its payload names, whatever that is
+module _ {A R : Type 0} (nothing : R) (tells : R → Option A) (name : A → Span) (s n : List ℕ) (a e : ℕ) (x : R)
+    (starts : (v : A) → tells x ≡ some v → Named s a e (name v))
+    (good : A → Bool) (same : (v : A) → good v ≡ isText s n (name v))
+    (l : Leaf) (q : l ≡ leafAt nameTag (sameBytes n) s a e) where
+  other-name : l ≡ Not → nothing ≡ whose nothing tells good x
+  unfolding whose
+  other-name w = go (tells x) refl
     where
-      go : (r : Declared) → declarationAt x s t a e ≡ r → NoDeclaration ≡ whose good r
-      go NoDeclaration p = refl
-      go (Declares d) p = rw (same d, name-no s a e (d .name) (declaration-name s a e d x t (sym p)) test l q w)
+      go : (o : Option A) → tells x ≡ o → nothing ≡ told nothing (λ v. onlyIf (good v) x nothing) o
+      go none p = refl
+      go (some v) p = rw (same v, name-no s a e (name v) (starts v p) (sameBytes n) l q w)
 
-  pub declaration-same-name : (y z : ℕ) → l ≡ At y z → ((d : Declaration) → good d ≡ test (text s (d .name)))
-      → (r : Declared) → r ≡ declarationAt x s t a e → r ≡ whose good (declarationAt x s t a e)
-  declaration-same-name y z w same r p = rw (← p) (go r p)
+  same-name : (y z : ℕ) → l ≡ At y z → (tells x ≡ none → x ≡ nothing) → x ≡ whose nothing tells good x
+  unfolding whose
+  same-name y z w bare = go (tells x) refl
     where
-      go : (r : Declared) → r ≡ declarationAt x s t a e → r ≡ whose good r
-      go NoDeclaration p = refl
-      go (Declares d) p = rw (same d, name-yes s a e (d .name) (declaration-name s a e d x t p) test l q y z w)
+      go : (o : Option A) → tells x ≡ o → x ≡ told nothing (λ v. onlyIf (good v) x nothing) o
+      go none p = bare p
+      go (some v) p = rw (same v, name-yes s a e (name v) (starts v p) (sameBytes n) l q y z w)
+
+declares-some : (r : Declared) (d : Declaration) → tellsDeclared r ≡ some d → Declares d ≡ r
+declares-some NoDeclaration d p = never cc
+declares-some (Declares x) d p = let u : x ≡ d = cc in rw u
+
+declares-none : (r : Declared) → tellsDeclared r ≡ none → r ≡ NoDeclaration
+declares-none NoDeclaration p = refl
+declares-none (Declares d) p = never cc
+
+values-some : (r : Valued) (v : Value) → tellsValued r ≡ some v → Values v ≡ r
+values-some NoValue v p = never cc
+values-some (Values x) v p = let u : x ≡ v = cc in rw u
+
+values-none : (r : Valued) → tellsValued r ≡ none → r ≡ NoValue
+values-none NoValue p = refl
+values-none (Values v) p = never cc
+
+-- ---- declaration_named_at
+abbrev pub declarationWhere : (good : Declaration → Bool) (want : ℕ) (s : List ℕ) (tag from to : ℕ) → Declared
+declarationWhere good k s t a e = whose NoDeclaration tellsDeclared good (declarationAt k s t a e)
+
+module _ (good : Declaration → Bool) (k : ℕ) (s n : List ℕ) (t a e : ℕ) (l : Leaf) (q : l ≡ leafAt nameTag (sameBytes n) s a e) where
+  starts : (d : Declaration) → tellsDeclared (declarationAt k s t a e) ≡ some d → Named s a e (d .name)
+  starts d p = declaration-name s a e d k t (declares-some (declarationAt k s t a e) d p)
+
+  pub declaration-other-name : l ≡ Not → ((d : Declaration) → good d ≡ isText s n (d .name))
+      → NoDeclaration ≡ declarationWhere good k s t a e
+  declaration-other-name w same =
+      other-name NoDeclaration tellsDeclared (λ d. d .name) s n a e (declarationAt k s t a e) starts good same l q w
+
+  pub declaration-same-name : (y z : ℕ) → l ≡ At y z → ((d : Declaration) → good d ≡ isText s n (d .name))
+      → (r : Declared) → r ≡ declarationAt k s t a e → r ≡ declarationWhere good k s t a e
+  declaration-same-name y z w same r p =
+      p ∙ same-name NoDeclaration tellsDeclared (λ d. d .name) s n a e (declarationAt k s t a e) starts good same l q y z w
+      (declares-none (declarationAt k s t a e))
 
 pub ruleset declaration-named-at-laws = (declaration-other-name, declaration-same-name)
 
 -- ---- of the declarations of a scope the first that passes a test, whatever the test
-abbrev pub declarationWhere : (Declaration → Bool) → Bool → List ℕ → ℕ → ℕ → ℕ → Declared
-declarationWhere good x s t a e = whose good (declarationAt x s t a e)
+declarations-none : (k : ℕ) → declarationsOf k items.none ≡ []
+declarations-none k = go (eqb k extensionTag) (eqb k fieldTag)
+  where
+    go : (b b′ : Bool) → _≡_ {A = List Declaration} (onlyIf b [] (onlyIf b′ [] [])) []
+    go true b′ = refl
+    go false true = refl
+    go false false = refl
 
-declarations-none : (x : Bool) → declarationsOf x none ≡ []
-declarations-none true = refl
-declarations-none false = refl
-
-declarations-item : (x : Bool) (d : ℕ) (s : List ℕ) (t a e : ℕ) (rest : Items)
-    → declarationsOf x (itemIn (messageIn d s) s t a e rest) ≡ listed (declarationAt x s t a e) ++ declarationsOf x rest
+declarations-item : (k d : ℕ) (s : List ℕ) (t a e : ℕ) (rest : Items)
+    → declarationsOf k (itemIn (messageIn d s) s t a e rest) ≡ listed (declarationAt k s t a e) ++ declarationsOf k rest
 unfolding declarationAt
-declarations-item true = extensions-item
-declarations-item false = fields-item
+declarations-item k d s t a e rest = go (eqb k extensionTag) refl (eqb k fieldTag) refl
+  where
+    neither : (k ≡ extensionTag → ⊥) → (k ≡ fieldTag → ⊥) → (b : Bool) → eqb t k ≡ b → NoDeclaration ≡ declarationAt k s t a e
+    neither x y true p = declaration-neither k s t a e (eqb-true t k p) x y
+    neither x y false p = declaration-other k s t a e (eqb-false t k p)
 
-pub declarations-seek : (good : Declaration → Bool) (x : Bool) (d : ℕ) (s : List ℕ) (w : Walk)
-    → declared (first good (declarationsOf x (itemsIn d s w))) ≡ seek NoDeclaration orDeclared (declarationWhere good x s) w
+    go : (b : Bool) → eqb k extensionTag ≡ b → (b′ : Bool) → eqb k fieldTag ≡ b′
+        → declarationsOf k (itemIn (messageIn d s) s t a e rest) ≡ listed (declarationAt k s t a e) ++ declarationsOf k rest
+    go true p b′ p′ = rw (eqb-true k extensionTag p) (extensions-item d s t a e rest)
+    go false p true p′ = rw (eqb-true k fieldTag p′) (fields-item d s t a e rest)
+    go false p false p′ = rw (p, p′, ← neither (eqb-false k extensionTag p) (eqb-false k fieldTag p′) (eqb t k) refl)
+
+pub declarations-seek : (good : Declaration → Bool) (k d : ℕ) (s : List ℕ) (w : Walk)
+    → declared (first good (declarationsOf k (itemsIn d s w))) ≡ seek NoDeclaration (firstOf tellsDeclared) (declarationWhere good k s) w
 unfolding itemsIn
-declarations-seek good x d s =
-    seek-is NoDeclaration orDeclared (declarationWhere good x s) (λ w. declared (first good (declarationsOf x (itemsIn d s w))))
-    (rw (declarations-none x)) (rw (declarations-none x))
-    λ t a e w. rw (declarations-item x d s t a e (itemsIn d s w), declared-append, declared-listed)
+declarations-seek good k d s =
+    seek-is NoDeclaration (firstOf tellsDeclared) (declarationWhere good k s)
+    (λ w. declared (first good (declarationsOf k (itemsIn d s w)))) (rw (declarations-none k)) (rw (declarations-none k))
+    λ t a e w. rw (declarations-item k d s t a e (itemsIn d s w), declared-append, declared-listed)
 
 -- ---- declaration_named
-pub declaration-named-is : (x : Bool) (s n : List ℕ) (p : LookupScope) (r : Declared)
-    → r ≡ seek NoDeclaration orDeclared (declarationWhere (λ d. isNamed s n (d .name)) x s) (walk s (p .body .from) (p .body .to))
-    → r ≡ declared (declarationNamed x s n (holding s p))
-declaration-named-is x s n p r q =
-    q ∙ sym (declarations-seek (λ d. isNamed s n (d .name)) x (p .left) s (walk s (p .body .from) (p .body .to)))
+pub declaration-named-is : (k : ℕ) (s n : List ℕ) (p : LookupScope) (r : Declared)
+    → r ≡ seek NoDeclaration (firstOf tellsDeclared) (declarationWhere (λ d. isText s n (d .name)) k s)
+    (walk s (p .body .from) (p .body .to))
+    → r ≡ declared (declarationNamed k s n (holding s p))
+declaration-named-is k s n p r q =
+    q ∙ sym (declarations-seek (λ d. isText s n (d .name)) k (p .left) s (walk s (p .body .from) (p .body .to)))
 
 pub ruleset declaration-named-laws = (declaration-named-is, seek-laws)
 
@@ -193,47 +247,48 @@ module _ (n s : List ℕ) (t a e : ℕ) where
   unfolding valueNamedAt
   value-other-tag o = simp (valueNamedAt, ne-eqb t valueTag o)
 
-  module _ (h : t ≡ valueTag) (l : Leaf) (q : l ≡ leafAt nameTag (named n) s a e) where
+  module _ (h : t ≡ valueTag) (l : Leaf) (q : l ≡ leafAt nameTag (sameBytes n) s a e) where
+    starts-value : (v : Value) → tellsValued (valueAt s a e) ≡ some v → Named s a e (v .name)
+    starts-value v p = value-name s a e v (values-some (valueAt s a e) v p)
+
     pub value-other-name : l ≡ Not → NoValue ≡ valueNamedAt n s t a e
     unfolding valueNamedAt
-    value-other-name w = rw h (go (valueAt s a e) refl)
-      where
-        go : (r : Valued) → valueAt s a e ≡ r → NoValue ≡ whoseValue (λ v. isNamed s n (v .name)) r
-        go NoValue p = refl
-        go (Values v) p = rw (name-no s a e (v .name) (value-name s a e v (sym p)) (named n) l q w)
+    value-other-name w =
+        rw h (other-name NoValue tellsValued (λ v. v .name) s n a e (valueAt s a e) starts-value _ (λ v. refl) l q w)
 
     pub value-same-name : (y z : ℕ) → l ≡ At y z → (r : Valued) → r ≡ valueAt s a e → r ≡ valueNamedAt n s t a e
     unfolding valueNamedAt
-    value-same-name y z w r p = rw (h, ← p) (go r p)
-      where
-        go : (r : Valued) → r ≡ valueAt s a e → r ≡ whoseValue (λ v. isNamed s n (v .name)) r
-        go NoValue p = refl
-        go (Values v) p = rw (name-yes s a e (v .name) (value-name s a e v p) (named n) l q y z w)
+    value-same-name y z w r p =
+        p ∙ rw h (same-name NoValue tellsValued (λ v. v .name) s n a e (valueAt s a e) starts-value _ (λ v. refl) l q y z w
+        (values-none (valueAt s a e)))
 
 pub ruleset value-named-at-laws = (value-other-tag, value-other-name, value-same-name)
 
 -- ---- value_named
 module _ (s n : List ℕ) where
   value-step : (t a e : ℕ) (rest : List Value)
-      → valued (valueNamed s n (valueIn s t a e rest)) ≡ orValued (valueNamedAt n s t a e) (valued (valueNamed s n rest))
-  unfolding valueIn valueNamedAt
+      → valued (valueNamed s n (valueIn s t a e rest)) ≡ firstOf tellsValued (valueNamedAt n s t a e) (valued (valueNamed s n rest))
+  unfolding valueIn valueNamedAt whose
   value-step t a e rest = go (eqb t valueTag) (valueAt s a e)
     where
-      named-go : (b : Bool) (v : Value) → valued (onlyIf b (some v) (valueNamed s n rest)) ≡ orValued (onlyIf b (Values v) NoValue) (valued (valueNamed s n rest))
+      named-go : (b : Bool) (v : Value)
+          → valued (onlyIf b (some v) (valueNamed s n rest))
+          ≡ firstOf tellsValued (onlyIf b (Values v) NoValue) (valued (valueNamed s n rest))
       named-go true v = refl
       named-go false v = refl
 
       go : (b : Bool) (r : Valued)
           → valued (valueNamed s n (elim b [ true ↦ valuedWith r rest | false ↦ rest ]))
-          ≡ orValued (elim b [ true ↦ whoseValue (λ v. isNamed s n (v .name)) r | false ↦ NoValue ]) (valued (valueNamed s n rest))
+          ≡ firstOf tellsValued (elim b [ true ↦ whose NoValue tellsValued (λ v. isText s n (v .name)) r | false ↦ NoValue ])
+          (valued (valueNamed s n rest))
       go false r = refl
       go true NoValue = refl
-      go true (Values v) = named-go (isNamed s n (v .name)) v
+      go true (Values v) = named-go (isText s n (v .name)) v
 
-  pub value-named-is : (w : Walk) (r : Valued) → r ≡ seek NoValue orValued (valueNamedAt n s) w
+  pub value-named-is : (w : Walk) (r : Valued) → r ≡ seek NoValue (firstOf tellsValued) (valueNamedAt n s) w
       → r ≡ valued (valueNamed s n (valuesIn s w))
   value-named-is w r q =
-      q ∙ sym (seek-is NoValue orValued (valueNamedAt n s) (λ w. valued (valueNamed s n (valuesIn s w))) refl refl
+      q ∙ sym (seek-is NoValue (firstOf tellsValued) (valueNamedAt n s) (λ w. valued (valueNamed s n (valuesIn s w))) refl refl
       (λ t a e w. value-step t a e (valuesIn s w)) w)
 
 pub ruleset value-named-laws = (value-named-is, seek-laws)

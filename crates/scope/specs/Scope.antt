@@ -2,28 +2,27 @@
 -- at each level", "first declared extension with the last component as its name", "Of equal field or value names the first counts".
 --
 --                      Scope ==  a scope: where it stands, as the code keeps it, and what it holds
+--                InSheet s p <-> the place p of a scope is one of the sheet s
 --                holding s p ==  the scope that stands at the place p of the sheet s
 --              fileScope i f ==  the scope that the i-th file is, counted from 0
 --           messageScope c m ==  the scope that the message m of the scope c is
---              isNamed s n p <=> the name at the span p is n
 --                 down s n c ==  the scope of the first message of the name n in the scope c
---   declarationNamed x s n c ==  the first extension of that name that the scope declares, where x holds; else the first field
+--   declarationNamed k s n c ==  the first declaration of the tag k and of that name: an extension or a field
 --            enumNamed s n c ==  the first enum, likewise
 --          valueNamed s n vs ==  the first value of that name
 --
 --   placed, declared, valued, bodied == what the code answers, of what there is or is not
 --
 -- Assumes nothing.
-use mathlib.Core.Bool.{Bool, true, false}
+use mathlib.Core.Bool.{true, false}
 use mathlib.Core.List.{List}
 use mathlib.Core.Option.{Option, some}
-use Prim.Native.Nat.{ℕ, _-_}
+use Prim.Native.Nat.{ℕ, _-_, _≤_}
+use lib.ListN.{length}
 use Rattle.limits.specs.Figures.{mostMessages}
-use Rattle.octets.specs.Octets.{sameBytes}
 use Rattle.field.specs.declared.Leaf.{Leaf}
 use Rattle.field.specs.declared.Leaf.the-variants.{At, Not}
-use Rattle.field.specs.declared.Span.{Span}
-use Rattle.field.specs.Leaf.{text}
+use Rattle.field.specs.Leaf.{isText}
 use Rattle.field.specs.Walk.{walk}
 use Rattle.sheet.specs.declared.declaration.Declaration.{Declaration}
 use Rattle.sheet.specs.declared.declaration.Declared.{Declared}
@@ -42,10 +41,14 @@ pub record Scope : Type 0 where
   pub place : LookupScope
   pub items : Items
 
-abbrev pub holding : List ℕ → LookupScope → Scope
+pub record InSheet (s : List ℕ) (p : LookupScope) : Type 0 where
+  pub ordered : p .body .from ≤ p .body .to
+  pub within : p .body .to ≤ length s
+
+abbrev pub holding : (s : List ℕ) → LookupScope → Scope
 holding s p = record { place = p; items = itemsIn (p .left) s (walk s (p .body .from) (p .body .to)) }
 
-abbrev pub fileScope : ℕ → File → Scope
+abbrev pub fileScope : (index : ℕ) → File → Scope
 fileScope i f = record { place = record { file = i; message = false; body = f .body; left = mostMessages }; items = f .items }
 
 abbrev pub messageScope : Scope → Message → Scope
@@ -54,20 +57,17 @@ messageScope c m = record {
   items = m .inside;
 }
 
-abbrev pub isNamed : List ℕ → List ℕ → Span → Bool
-isNamed s n p = sameBytes (text s p) n
+abbrev pub down : (s name : List ℕ) → Scope → Option Scope
+down s n c = given (first (λ m. isText s n (m .name)) (messagesOf (c .items))) λ m. some (messageScope c m)
 
-abbrev pub down : List ℕ → List ℕ → Scope → Option Scope
-down s n c = given (first (λ m. isNamed s n (m .name)) (messagesOf (c .items))) λ m. some (messageScope c m)
+abbrev pub declarationNamed : (tag : ℕ) (s name : List ℕ) → Scope → Option Declaration
+declarationNamed k s n c = first (λ d. isText s n (d .name)) (declarationsOf k (c .items))
 
-abbrev pub declarationNamed : Bool → List ℕ → List ℕ → Scope → Option Declaration
-declarationNamed x s n c = first (λ d. isNamed s n (d .name)) (declarationsOf x (c .items))
+abbrev pub enumNamed : (s name : List ℕ) → Scope → Option Enumeration
+enumNamed s n c = first (λ e. isText s n (e .name)) (enumsOf (c .items))
 
-abbrev pub enumNamed : List ℕ → List ℕ → Scope → Option Enumeration
-enumNamed s n c = first (λ e. isNamed s n (e .name)) (enumsOf (c .items))
-
-abbrev pub valueNamed : List ℕ → List ℕ → List Value → Option Value
-valueNamed s n vs = first (λ v. isNamed s n (v .name)) vs
+abbrev pub valueNamed : (s name : List ℕ) → List Value → Option Value
+valueNamed s n vs = first (λ v. isText s n (v .name)) vs
 
 abbrev pub placed : Option Scope → Reached
 placed = told Nowhere (λ c. To (c .place))

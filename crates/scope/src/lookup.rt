@@ -2,10 +2,12 @@
 ghost use mathlib.Core.Path.{_≡_};
 ghost use Prim.Native.Nat.{_≤_};
 ghost use lib.ListN.{length};
-ghost use Rattle.field.specs.Leaf.{Lies, leafAt};
+ghost use Rattle.octets.specs.Octets.{sameBytes};
+ghost use Rattle.field.specs.Leaf.{leafAt};
+ghost use Rattle.field.specs.Walk.{walk};
 ghost use Rattle.sheet.specs.Table.{nameTag};
-ghost use Rattle.scope.specs.Scope.{holding, down as downOf, enumNamed, placed, bodied};
-ghost use Rattle.scope.specs.Steps.{named, bodyAt};
+ghost use Rattle.scope.specs.Scope.{InSheet, holding, down as downOf, enumNamed, placed, bodied};
+ghost use Rattle.scope.specs.inner.Steps.{bodyAt, bodyNamed};
 use field::Field;
 use field::Leaf;
 use field::Span;
@@ -31,12 +33,12 @@ pub enum Reached {
 // The name that a payload begins with, where it is this one.
 pub fn named_at(s: &[u8], from: usize, to: usize, name: &[u8]) -> Leaf
     requires { ⌜ (from ≤ to) × (to ≤ length (now s)) ⌝ }
-    ensures { λ r. ⌜ r ≡ leafAt nameTag (named (now (name .entry))) (now (s .entry)) from to ⌝ }
+    ensures { λ r. ⌜ r ≡ leafAt nameTag (sameBytes (now (name .entry))) (now (s .entry)) from to ⌝ }
 {
     let Leaf::At { from: n, to: m } = field::leaf_at(s, from, to, table::NAME) else {
         return Leaf::Not;
     };
-    if !octets::same(&s[n..m], name) {
+    if !octets::same(name, &s[n..m]) {
         return Leaf::Not;
     }
     Leaf::At { from: n, to: m }
@@ -56,37 +58,11 @@ fn body_at(s: &[u8], tag: u8, from: usize, to: usize, want: u8, name: &[u8]) -> 
     Leaf::At { from: body, to: to }
 }
 
-// The first message of that name in the scope.
-pub fn down(s: &[u8], scope: LookupScope, name: &[u8]) -> Reached
-    requires { ⌜ Lies (scope .body) (now s) ⌝ }
-    ensures { λ r. ⌜ r ≡ placed (downOf (now (s .entry)) (now (name .entry)) (holding (now (s .entry)) scope)) ⌝ }
-{
-    if scope.left == 0 {
-        return Reached::Nowhere;
-    }
-    let end = scope.body.to;
-    let mut at = scope.body.from;
-    while at < end {
-        let Field::Whole { tag, from, to } = field::field_at(s, at, end) else {
-            return Reached::Nowhere;
-        };
-        if let Leaf::At { from: a, to: e } = body_at(s, tag, from, to, table::MESSAGE, name) {
-            return Reached::To(LookupScope {
-                file: scope.file,
-                message: true,
-                body: Span { from: a, to: e },
-                left: scope.left - 1,
-            });
-        }
-        at = to;
-    }
-    Reached::Nowhere
-}
-
-// Where the values of the first enum of that name in the scope stand.
-pub fn enum_named(s: &[u8], scope: LookupScope, name: &[u8]) -> Leaf
-    requires { ⌜ Lies (scope .body) (now s) ⌝ }
-    ensures { λ r. ⌜ r ≡ bodied (enumNamed (now (s .entry)) (now (name .entry)) (holding (now (s .entry)) scope)) ⌝ }
+// What stands after the name in the first field of that tag and name in the scope.
+fn body_named(s: &[u8], scope: LookupScope, want: u8, name: &[u8]) -> Leaf
+    requires { ⌜ InSheet (now s) scope ⌝ }
+    ensures { λ r. ⌜ r ≡ bodyNamed want (now (name .entry)) (now (s .entry))
+        (walk (now (s .entry)) (scope .body .from) (scope .body .to)) ⌝ }
 {
     let end = scope.body.to;
     let mut at = scope.body.from;
@@ -94,10 +70,37 @@ pub fn enum_named(s: &[u8], scope: LookupScope, name: &[u8]) -> Leaf
         let Field::Whole { tag, from, to } = field::field_at(s, at, end) else {
             return Leaf::Not;
         };
-        if let Leaf::At { from: a, to: e } = body_at(s, tag, from, to, table::ENUM, name) {
+        if let Leaf::At { from: a, to: e } = body_at(s, tag, from, to, want, name) {
             return Leaf::At { from: a, to: e };
         }
         at = to;
     }
     Leaf::Not
+}
+
+// The first message of that name in the scope.
+pub fn down(s: &[u8], scope: LookupScope, name: &[u8]) -> Reached
+    requires { ⌜ InSheet (now s) scope ⌝ }
+    ensures { λ r. ⌜ r ≡ placed (downOf (now (s .entry)) (now (name .entry)) (holding (now (s .entry)) scope)) ⌝ }
+{
+    if scope.left == 0 {
+        return Reached::Nowhere;
+    }
+    let Leaf::At { from, to } = body_named(s, scope, table::MESSAGE, name) else {
+        return Reached::Nowhere;
+    };
+    Reached::To(LookupScope {
+        file: scope.file,
+        message: true,
+        body: Span { from: from, to: to },
+        left: scope.left - 1,
+    })
+}
+
+// Where the values of the first enum of that name in the scope stand.
+pub fn enum_named(s: &[u8], scope: LookupScope, name: &[u8]) -> Leaf
+    requires { ⌜ InSheet (now s) scope ⌝ }
+    ensures { λ r. ⌜ r ≡ bodied (enumNamed (now (s .entry)) (now (name .entry)) (holding (now (s .entry)) scope)) ⌝ }
+{
+    body_named(s, scope, table::ENUM, name)
 }

@@ -2,11 +2,12 @@
 ghost use mathlib.Core.Path.{_≡_};
 ghost use Prim.Native.Nat.{_≤_};
 ghost use lib.ListN.{length};
-ghost use Rattle.field.specs.Leaf.{Lies};
+ghost use Rattle.field.specs.Leaf.{isText, Lies};
 ghost use Rattle.field.specs.Walk.{walk};
 ghost use Rattle.sheet.specs.Tree.{valuesIn};
-ghost use Rattle.scope.specs.Scope.{holding, declarationNamed, isNamed, valueNamed, declared, valued};
-ghost use Rattle.scope.specs.Steps.{declarationAt, whose, valueNamedAt};
+ghost use Rattle.sheet.specs.declared.declaration.Declared.the-variants.{NoDeclaration};
+ghost use Rattle.scope.specs.Scope.{InSheet, holding, declarationNamed, valueNamed, declared, valued};
+ghost use Rattle.scope.specs.inner.Steps.{declarationAt, tellsDeclared, whose, valueNamedAt};
 use crate::lookup::LookupScope;
 use crate::lookup::named_at;
 use field::Field;
@@ -16,21 +17,21 @@ use sheet::declaration::Declared;
 use sheet::declaration::Valued;
 use sheet::table;
 
-// The extension that a field of a scope is, or the field of a message.
-pub fn declaration_at(s: &[u8], tag: u8, from: usize, to: usize, extension: bool) -> Declared
+// The declaration that a field of a scope is, where its tag is `want`: an extension or a field. No other tag has any.
+pub fn declaration_at(s: &[u8], tag: u8, from: usize, to: usize, want: u8) -> Declared
     requires { ⌜ (from ≤ to) × (to ≤ length (now s)) ⌝ }
-    ensures { λ r. ⌜ r ≡ declarationAt extension (now (s .entry)) tag from to ⌝ }
+    ensures { λ r. ⌜ r ≡ declarationAt want (now (s .entry)) tag from to ⌝ }
 {
-    if extension {
-        if tag != table::EXTENSION {
-            return Declared::NoDeclaration;
-        }
-        return sheet::declaration::extension_at(s, from, to);
-    }
-    if tag != table::FIELD {
+    if tag != want {
         return Declared::NoDeclaration;
     }
-    sheet::declaration::message_field_at(s, from, to)
+    if want == table::EXTENSION {
+        return sheet::declaration::extension_at(s, from, to);
+    }
+    if want == table::FIELD {
+        return sheet::declaration::message_field_at(s, from, to);
+    }
+    Declared::NoDeclaration
 }
 
 // The same, where it is of this name.
@@ -39,23 +40,23 @@ fn declaration_named_at(
     tag: u8,
     from: usize,
     to: usize,
-    extension: bool,
+    want: u8,
     name: &[u8],
 ) -> Declared
     requires { ⌜ (from ≤ to) × (to ≤ length (now s)) ⌝ }
-    ensures { λ r. ⌜ r ≡ whose (λ d. isNamed (now (s .entry)) (now (name .entry)) (d .name))
-        (declarationAt extension (now (s .entry)) tag from to) ⌝ }
+    ensures { λ r. ⌜ r ≡ whose NoDeclaration tellsDeclared (λ d. isText (now (s .entry)) (now (name .entry)) (d .name))
+        (declarationAt want (now (s .entry)) tag from to) ⌝ }
 {
     let Leaf::At { from: _, to: _ } = named_at(s, from, to, name) else {
         return Declared::NoDeclaration;
     };
-    declaration_at(s, tag, from, to, extension)
+    declaration_at(s, tag, from, to, want)
 }
 
-// The first extension of that name that the scope declares, or the first field.
-pub fn declaration_named(s: &[u8], scope: LookupScope, extension: bool, name: &[u8]) -> Declared
-    requires { ⌜ Lies (scope .body) (now s) ⌝ }
-    ensures { λ r. ⌜ r ≡ declared (declarationNamed extension (now (s .entry)) (now (name .entry)) (holding (now (s .entry)) scope)) ⌝ }
+// The first extension of that name that the scope declares, or the first field: the first declaration of the tag `want`.
+pub fn declaration_named(s: &[u8], scope: LookupScope, want: u8, name: &[u8]) -> Declared
+    requires { ⌜ InSheet (now s) scope ⌝ }
+    ensures { λ r. ⌜ r ≡ declared (declarationNamed want (now (s .entry)) (now (name .entry)) (holding (now (s .entry)) scope)) ⌝ }
 {
     let end = scope.body.to;
     let mut at = scope.body.from;
@@ -63,7 +64,7 @@ pub fn declaration_named(s: &[u8], scope: LookupScope, extension: bool, name: &[
         let Field::Whole { tag, from, to } = field::field_at(s, at, end) else {
             return Declared::NoDeclaration;
         };
-        if let Declared::Declares(d) = declaration_named_at(s, tag, from, to, extension, name) {
+        if let Declared::Declares(d) = declaration_named_at(s, tag, from, to, want, name) {
             return Declared::Declares(d);
         }
         at = to;

@@ -18,7 +18,7 @@ use Rattle.field.specs.declared.Field.{Field}
 use Rattle.field.specs.declared.Field.the-variants.{Whole, Cut}
 use Rattle.field.specs.Field.{fieldAt}
 use Rattle.field.specs.declared.Leaf.{Leaf}
-use Rattle.field.specs.Leaf.{Lies, onLeaf}
+use Rattle.field.specs.Leaf.{onLeaf}
 use Rattle.field.specs.Walk.{walk}
 use Rattle.field.proofs.FieldLaws.{field-bounds, field-ordered, field-inside}
 use Rattle.field.proofs.FieldLaws.{field-within, field-less}
@@ -34,9 +34,9 @@ use Rattle.search.specs.declared.scopes.Cursor.{Cursor}
 use Rattle.search.specs.declared.scopes.Next.{Next}
 use Rattle.search.specs.declared.scopes.Next.the-variants.{At, NoMore}
 use Rattle.basis.specs.First.{onto}
-use Rattle.scope.specs.Scope.{Scope, holding, placed}
+use Rattle.scope.specs.Scope.{Scope, InSheet, holding, placed}
 use Rattle.search.specs.Scopes.{scopesIn, scopesFrom, scopes}
-use Rattle.search.specs.Cursor.{frontAt, wider, here, ahead, startOf, packageAt, scopeAt, Within, Stands, Steps, Nexts}
+use Rattle.search.specs.inner.Cursor.{frontAt, wider, here, ahead, startOf, packageAt, scopeAt, Within, Stands, Steps, Nexts}
 use Rattle.basis.proofs.FirstLaws.{onto-none, onto-some}
 use Rattle.search.proofs.ScopesLaws.{end-fits, package-within, scopes-step, scope-nowhere, scope-to, scope-lies}
 
@@ -46,7 +46,7 @@ module _ (L : Cursor → List Scope) (s t : List ℕ) (c : Cursor) (r : Next) (n
   nexts-none g = n .none g
 
   module _ (p : LookupScope) (c′ : Cursor) (g : r ≡ At p c′) where
-    pub nexts-lies : Lies (p .body) s
+    pub nexts-lies : InSheet s p
     nexts-lies = n .some p c′ g .lies
 
     pub nexts-stands : Stands s t c′
@@ -162,7 +162,7 @@ module _ (L : Cursor → List Scope) (s t : List ℕ) (c c′ : Cursor) (k : Onw
   onward-none : L c′ ≡ [] → Nexts L s t c NoMore
   onward-none e = nexts-no-more L s t c (k .rest ∙ e)
 
-  onward-at : (p : LookupScope) (c″ : Cursor) → Lies (p .body) s → Stands s t c″ → L c′ ≡ holding s p ∷ L c″ → Nexts L s t c (At p c″)
+  onward-at : (p : LookupScope) (c″ : Cursor) → InSheet s p → Stands s t c″ → L c′ ≡ holding s p ∷ L c″ → Nexts L s t c (At p c″)
   onward-at p c″ l d e = nexts-at L s t c p c″ (record { lies = l; stands = d; is = k .rest ∙ e })
 
 -- ---- next_here

@@ -17,15 +17,16 @@ use lib.Dec.{eqb}
 use lib.ListN.{length, take, drop, drop-of-length-le}
 use lib.Seq.{length-take-le, drop-cons, sets-eq, take-append-seam}
 use Rattle.limits.specs.Figures.{mostCandidate}
-use Rattle.octets.specs.Octets.{Laid, part, sameBytes}
+use Rattle.octets.specs.Octets.{Laid, part}
 use Rattle.octets.proofs.Overlay.{laid-length}
-use Rattle.field.specs.Leaf.{text}
+use Rattle.field.specs.Leaf.{isText}
 use Rattle.reply.specs.declared.Refusal.the-variants.{ExtensionNotFound, WrongExtensionType}
 use Rattle.path.specs.Path.{Name, Path, spell, components, parent, last, isRelOrEmpty, isPath}
 use Rattle.path.specs.Last.{LastAt}
 use Rattle.path.specs.Candidates.{candidates, candidate}
 use Rattle.path.proofs.PathLaws.{components-nil}
 use Rattle.path.proofs.CandidateLaws.{candidate-components, candidate-text-le}
+use Rattle.sheet.specs.Table.{extensionTag}
 use Rattle.sheet.specs.declared.declaration.Declaration.{Declaration}
 use Rattle.sheet.specs.declared.declaration.Declared.{Declared}
 use Rattle.sheet.specs.declared.declaration.Declared.the-variants.{Declares, NoDeclaration}
@@ -40,10 +41,11 @@ use Rattle.search.specs.declared.extension.Resolved.the-variants.{Field,
 use Rattle.basis.specs.First.{firstSome}
 use Rattle.scope.specs.Scope.{Scope, holding, declarationNamed, declared}
 use Rattle.search.specs.Scopes.{scopes}
-use Rattle.search.specs.Cursor.{ahead, startOf, Nexts}
+use Rattle.search.specs.inner.Cursor.{ahead, startOf, Nexts}
 use Rattle.search.specs.Lookup.{foundIn, findExtensionByAbsPath, findExtensionByPath, searched, extResolveField}
 use Rattle.scope.proofs.Answers.{declared-none, declared-some}
-use Rattle.search.proofs.LiesLaws.{searched-none, searched-some, found-extendee-ordered, found-extendee-within}
+use Rattle.scope.proofs.DeclaredPlaces.{places-laws}
+use Rattle.search.proofs.LiesLaws.{searched-none, searched-some, found-ordered, found-places}
 use Rattle.search.proofs.Left.{Left, left-end, left-step, left-next, left-laws}
 use Rattle.search.proofs.StartLaws.{components-some, last-text, start-before, start-before-stands}
 
@@ -57,15 +59,15 @@ module _ (v : Search) (s t : List ℕ) (n : Name) (c : Cursor) (k : Left v (foun
   extension-end g = sym (left-end v (foundAmong s n) s t c k r q g)
 
   module _ (p : LookupScope) (c′ : Cursor) (g : r ≡ At p c′)
-      (d : Declared) (x : d ≡ declared (declarationNamed true s n (holding s p))) where
+      (d : Declared) (x : d ≡ declared (declarationNamed extensionTag s n (holding s p))) where
     pub extension-found : (y : Declaration) → d ≡ Declares y → Is (record { file = p .file; declaration = y }) ≡ v
     extension-found y z =
         sym (left-step v (foundAmong s n) s t c k r q p c′ g
-        ∙ rw (declared-some d (declarationNamed true s n (holding s p)) x y z))
+        ∙ rw (declared-some d (declarationNamed extensionTag s n (holding s p)) x y z))
 
     pub extension-next : d ≡ NoDeclaration → Left v (foundAmong s n) s t c′
     extension-next z =
-        left-next v (foundAmong s n) s t c k r q p c′ g (rw (declared-none d (declarationNamed true s n (holding s p)) x z))
+        left-next v (foundAmong s n) s t c k r q p c′ g (rw (declared-none d (declarationNamed extensionTag s n (holding s p)) x z))
 
 pub ruleset first-extension-laws = (left-laws, extension-end, extension-found, extension-next)
 
@@ -153,7 +155,7 @@ module _ (s scope m name : List ℕ) (r : Search) (q : r ≡ searched (findExten
   unfolding extResolveField
   resolved-nowhere g = rw (searched-none (findExtensionByPath s scope name) r q g)
 
-  module _ (f : Found) (g : r ≡ Is f) (b : Bool) (x : b ≡ sameBytes (text s (f .declaration .extendee)) m) where
+  module _ (f : Found) (g : r ≡ Is f) (b : Bool) (x : b ≡ isText s m (f .declaration .extendee)) where
     pub resolved-wrong : b ≡ false → Refused WrongExtensionType ≡ extResolveField s scope m name
     unfolding extResolveField
     resolved-wrong y = rw (searched-some (findExtensionByPath s scope name) r q f g, ← x, y)
@@ -166,8 +168,9 @@ pub ruleset resolve-laws = (
   resolved-nowhere,
   resolved-wrong,
   resolved-field,
-  found-extendee-ordered,
-  found-extendee-within,
+  found-ordered,
+  found-places,
+  places-laws,
   not-true,
   not-false,
 )

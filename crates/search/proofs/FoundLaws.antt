@@ -11,12 +11,13 @@ use Rattle.basis.proofs.Never.{never}
 use Rattle.reply.specs.declared.Refusal.the-variants.{ExtensionNotFound}
 use Rattle.path.specs.Path.{Path, isPath, parent, last}
 use Rattle.path.specs.Candidates.{candidates}
+use Rattle.field.specs.Leaf.{isText}
 use Rattle.sheet.specs.declared.declaration.Declaration.{Declaration}
 use Rattle.sheet.specs.Members.{extensionsOf}
 use Rattle.search.specs.declared.extension.Found.{Found}
 use Rattle.search.specs.declared.extension.Resolved.the-variants.{Refused}
 use Rattle.basis.specs.First.{first, given, firstSome}
-use Rattle.scope.specs.Scope.{Scope, isNamed}
+use Rattle.scope.specs.Scope.{Scope}
 use Rattle.search.specs.Scopes.{scopes}
 use Rattle.search.specs.Number.{extends}
 use Rattle.search.specs.Lookup.{foundIn, findExtensionByAbsPath, findExtensionByPath, extended, compared}
@@ -34,7 +35,7 @@ given-none (some a) g e = never cc
 
 module _ (s : List ℕ) (p : Path) (c : Scope) where
   abbrev named : Declaration → Bool
-  named d = isNamed s (last p) (d .name)
+  named d = isText s (last p) (d .name)
 
   abbrev extensions : List Declaration
   extensions = extensionsOf (c .items)

@@ -30,7 +30,7 @@ use Rattle.search.specs.declared.full_name.NextEnum.the-variants as enum
 use Rattle.basis.specs.First.{collect}
 use Rattle.scope.specs.Scope.{holding, enumNamed, bodied}
 use Rattle.search.specs.Scopes.{scopes}
-use Rattle.search.specs.Cursor.{ahead, startOf, Stands, Nexts}
+use Rattle.search.specs.inner.Cursor.{ahead, startOf, Stands, Nexts}
 use Rattle.search.specs.Lookup.{messageOf, messagesAt, enumsAt, lookedUp, lookedUpEnum}
 use Rattle.search.specs.Ahead.{messagesAhead, enumsAhead, StepsEnum, NextsEnum}
 use Rattle.scope.proofs.Held.{FoundEnum, enum-at, enum-not}

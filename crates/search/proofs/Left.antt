@@ -11,7 +11,7 @@ use Rattle.search.specs.declared.scopes.Next.{Next}
 use Rattle.search.specs.declared.scopes.Next.the-variants.{At, NoMore}
 use Rattle.basis.specs.First.{collect}
 use Rattle.scope.specs.Scope.{Scope, holding}
-use Rattle.search.specs.Cursor.{ahead, Stands, Nexts}
+use Rattle.search.specs.inner.Cursor.{ahead, Stands, Nexts}
 use Rattle.basis.proofs.FirstLaws.{collect-none, collect-some}
 use Rattle.search.proofs.CursorLaws.{nexts-less, nexts-lies}
 

@@ -11,31 +11,30 @@ use Prim.Native.Nat.{ℕ, _-_, _≤_}
 use native.Mathlib.Omega.{arith}
 use borrow.Author.Tests.{eq-eqb, ne-eqb, not-true, not-false}
 use lib.ListN.{length}
-use Rattle.octets.specs.Octets.{sameBytes}
 use Rattle.limits.specs.Figures.{mostMessages}
 use Rattle.field.specs.declared.Leaf.{Leaf}
 use Rattle.field.specs.declared.Leaf.the-variants.{At, Not}
-use Rattle.field.specs.Leaf.{text, anyBytes, leafAt}
+use Rattle.field.specs.Leaf.{isText, anyBytes, leafAt}
 use Rattle.field.specs.Walk.{Walk, walk}
 use Rattle.field.proofs.LeafLaws.{leaf-inside}
 use Rattle.field.proofs.Seek.{seek, seek-is, Seeking, seek-start, seek-laws}
 use Rattle.sheet.specs.declared.declaration.Declaration.{Declaration}
 use Rattle.sheet.specs.declared.declaration.Declared.{Declared}
 use Rattle.sheet.specs.declared.declaration.Declared.the-variants.{Declares, NoDeclaration}
-use Rattle.sheet.specs.Table.{fileTag, messageTag, packageTag, nameTag}
+use Rattle.sheet.specs.Table.{fileTag, messageTag, extensionTag, fieldTag, packageTag, nameTag}
 use Rattle.sheet.specs.Tree.{none, messageIn, itemsIn, filesIn}
 use Rattle.sheet.specs.Members.{everyExtensionOf, everyExtension}
-use Rattle.sheet.proofs.PlaceLaws.{extension-extendee-ordered, extension-extendee-within}
 use Rattle.sheet.proofs.TreeLaws.{item-message, message-beyond, message-unnamed, message-named}
 use Rattle.sheet.proofs.TreeLaws.{file-other, file-unnamed, file-named, tree-files}
 use Rattle.sheet.proofs.MemberLaws.{every-extension-item, every-extension-flat, every-extension-file}
 use Rattle.scope.specs.declared.lookup.LookupScope.{LookupScope}
 use Rattle.basis.specs.First.{first}
 use Rattle.scope.specs.Scope.{Scope, holding, declared}
-use Rattle.scope.specs.Steps.{declarationAt, whose, itemAt, messageAt, fileAt}
+use Rattle.scope.specs.inner.Steps.{tellsDeclared, firstOf, declarationAt, itemAt, fileAt}
 use Rattle.search.specs.Number.{hasNumber, isExtensionOf, fieldNumbered, extensionNumbered, declarationOf}
-use Rattle.scope.proofs.Answers.{orDeclared, declared-or-else, declared-append, declared-listed, whose-laws}
-use Rattle.scope.proofs.NamedLaws.{declares-extension, declarationWhere, declarations-seek}
+use Rattle.scope.proofs.Answers.{declared-or-else, declared-append, declared-listed, whose-laws}
+use Rattle.scope.proofs.DeclaredPlaces.{declaration-at-ordered, declaration-at-places, places-laws}
+use Rattle.scope.proofs.NamedLaws.{declarationWhere, declarations-seek}
 
 -- ---- field_numbered_at
 pub ruleset field-numbered-at-laws = (whose-laws, eq-eqb, ne-eqb)
@@ -45,76 +44,65 @@ module _ (s m : List ℕ) (k : ℕ) (d : Declaration) where
   pub extension-of-other-number : (d .shape .number ≡ k → ⊥) → isExtensionOf s m k d ≡ false
   extension-of-other-number h = rw (ne-eqb (d .shape .number) k h)
 
-  module _ (h : d .shape .number ≡ k) (b : Bool) (q : b ≡ sameBytes (text s (d .extendee)) m) where
+  module _ (h : d .shape .number ≡ k) (b : Bool) (q : b ≡ isText s m (d .extendee)) where
     pub extension-of-other-message : b ≡ false → isExtensionOf s m k d ≡ false
     extension-of-other-message g = rw (eq-eqb (d .shape .number) k h, ← q, g)
 
     pub extension-of-both : b ≡ true → isExtensionOf s m k d ≡ true
     extension-of-both g = rw (eq-eqb (d .shape .number) k h, ← q, g)
 
--- the extendee of an extension lies in the sheet
-module _ (s : List ℕ) (t a e : ℕ) (r : Declared) (q : r ≡ declarationAt true s t a e) (d : Declaration) (g : r ≡ Declares d) where
-  pub extendee-ordered : d .extendee .from ≤ d .extendee .to
-  extendee-ordered = extension-extendee-ordered s a e (Declares d) (declares-extension s a e d t (sym g ∙ q)) d refl
-
-  pub extendee-within : e ≤ length s → d .extendee .to ≤ length s
-  extendee-within = extension-extendee-within s a e (Declares d) (declares-extension s a e d t (sym g ∙ q)) d refl
-
 pub ruleset extension-numbered-at-laws = (
   whose-laws,
   extension-of-other-number,
   extension-of-other-message,
   extension-of-both,
-  extendee-ordered,
-  extendee-within,
+  declaration-at-ordered,
+  declaration-at-places,
+  places-laws,
   not-true,
   not-false,
 )
 
 -- ---- field_numbered
 pub field-numbered-is : (k : ℕ) (s : List ℕ) (p : LookupScope) (r : Declared)
-    → r ≡ seek NoDeclaration orDeclared (declarationWhere (hasNumber k) false s) (walk s (p .body .from) (p .body .to))
+    → r ≡ seek NoDeclaration (firstOf tellsDeclared) (declarationWhere (hasNumber k) fieldTag s) (walk s (p .body .from) (p .body .to))
     → r ≡ declared (fieldNumbered k (holding s p))
-field-numbered-is k s p r q = q ∙ sym (declarations-seek (hasNumber k) false (p .left) s (walk s (p .body .from) (p .body .to)))
+field-numbered-is k s p r q = q ∙ sym (declarations-seek (hasNumber k) fieldTag (p .left) s (walk s (p .body .from) (p .body .to)))
 
 pub ruleset field-numbered-laws = (field-numbered-is, seek-laws)
 
--- ---- extension_in_item, extension_in_message, extension_in_items
-module _ (good : Declaration → Bool) (d : ℕ) (s : List ℕ) (t a e : ℕ) (r : Declared) where
-  pub in-item-message : t ≡ messageTag → r ≡ declared (first good (everyExtensionOf (messageAt d s a e)))
-      → r ≡ declared (first good (everyExtensionOf (itemAt d s t a e)))
-  in-item-message h q = rw (item-message (messageIn d s) s t a e none h) q
-
-  pub in-item-other : (t ≡ messageTag → ⊥) → r ≡ whose good (declarationAt true s t a e)
+-- ---- extension_in_item and extension_in_items
+module _ (good : Declaration → Bool) (d : ℕ) (s : List ℕ) (t a e : ℕ) where
+  pub in-item-other : (t ≡ messageTag → ⊥) → (r : Declared) → r ≡ declarationWhere good extensionTag s t a e
       → r ≡ declared (first good (everyExtensionOf (itemAt d s t a e)))
   unfolding declarationAt
-  in-item-other h q = rw (every-extension-flat d s t a e none h, append-nil, declared-listed) q
+  in-item-other h r q = rw (every-extension-flat d s t a e none h, append-nil, declared-listed) q
 
-pub ruleset in-item-laws = (in-item-message, in-item-other)
+  module _ (h : t ≡ messageTag) where
+    pub in-item-beyond : d ≡ 0 → NoDeclaration ≡ declared (first good (everyExtensionOf (itemAt d s t a e)))
+    in-item-beyond z = rw (item-message (messageIn d s) s t a e none h, message-beyond d s a e none z)
 
-module _ (good : Declaration → Bool) (d : ℕ) (s : List ℕ) (a e : ℕ) where
-  pub in-message-beyond : d ≡ 0 → NoDeclaration ≡ declared (first good (everyExtensionOf (messageAt d s a e)))
-  in-message-beyond h = rw (message-beyond d s a e none h)
+    module _ (l : Leaf) (q : l ≡ leafAt nameTag anyBytes s a e) where
+      pub in-item-unnamed : l ≡ Not → NoDeclaration ≡ declared (first good (everyExtensionOf (itemAt d s t a e)))
+      in-item-unnamed g = rw (item-message (messageIn d s) s t a e none h, message-unnamed d s a e none l q g)
 
-  module _ (r : Leaf) (q : r ≡ leafAt nameTag anyBytes s a e) where
-    pub in-message-unnamed : r ≡ Not → NoDeclaration ≡ declared (first good (everyExtensionOf (messageAt d s a e)))
-    in-message-unnamed g = rw (message-unnamed d s a e none r q g)
+      pub in-item-named : (d ≡ 0 → ⊥) → (n m : ℕ) → l ≡ At n m → (x : Declared)
+          → x ≡ declared (first good (everyExtensionOf (itemsIn (d - 1) s (walk s m e))))
+          → x ≡ declared (first good (everyExtensionOf (itemAt d s t a e)))
+      in-item-named z n m g x p =
+          rw (item-message (messageIn d s) s t a e none h, message-named d s a e none z l q n m g, append-nil) p
 
-    pub in-message-named : (d ≡ 0 → ⊥) → (n m : ℕ) → r ≡ At n m → (x : Declared)
-        → x ≡ declared (first good (everyExtensionOf (itemsIn (d - 1) s (walk s m e))))
-        → x ≡ declared (first good (everyExtensionOf (messageAt d s a e)))
-    in-message-named z n m g x p = rw (message-named d s a e none z r q n m g, append-nil) p
+pub ruleset in-item-laws = (in-item-other, in-item-beyond, in-item-unnamed, in-item-named, leaf-inside)
 
-pub ruleset in-message-laws = (in-message-beyond, in-message-unnamed, in-message-named, leaf-inside)
-
-abbrev pub itemWhere : (Declaration → Bool) → ℕ → List ℕ → ℕ → ℕ → ℕ → Declared
+abbrev pub itemWhere : (good : Declaration → Bool) (left : ℕ) (s : List ℕ) (tag from to : ℕ) → Declared
 itemWhere good d s t a e = declared (first good (everyExtensionOf (itemAt d s t a e)))
 
 pub in-items-is : (good : Declaration → Bool) (d : ℕ) (s : List ℕ) (w : Walk) (r : Declared)
-    → r ≡ seek NoDeclaration orDeclared (itemWhere good d s) w → r ≡ declared (first good (everyExtensionOf (itemsIn d s w)))
+    → r ≡ seek NoDeclaration (firstOf tellsDeclared) (itemWhere good d s) w → r ≡ declared (first good (everyExtensionOf (itemsIn d s w)))
 unfolding itemsIn
 in-items-is good d s w r q =
-    q ∙ sym (seek-is NoDeclaration orDeclared (itemWhere good d s) (λ w. declared (first good (everyExtensionOf (itemsIn d s w)))) refl refl
+    q ∙ sym (seek-is NoDeclaration (firstOf tellsDeclared) (itemWhere good d s)
+    (λ w. declared (first good (everyExtensionOf (itemsIn d s w)))) refl refl
     (λ t a e w. rw (every-extension-item d s t a e (itemsIn d s w), declared-append)) w)
 
 pub ruleset in-items-laws = (in-items-is, seek-laws)
@@ -136,23 +124,25 @@ module _ (good : Declaration → Bool) (s : List ℕ) (t a e : ℕ) where
 pub ruleset in-file-laws = (in-file-other, in-file-unnamed, in-file-named, leaf-inside)
 
 -- ---- extension_numbered
-abbrev pub fileWhere : (Declaration → Bool) → List ℕ → ℕ → ℕ → ℕ → Declared
+abbrev pub fileWhere : (good : Declaration → Bool) (s : List ℕ) (tag from to : ℕ) → Declared
 fileWhere good s t a e = declared (first good (everyExtension (fileAt s t a e)))
 
 module _ (s m : List ℕ) (k to : ℕ) (h : to ≡ length s) where
-  pub extension-numbered-start : Seeking NoDeclaration orDeclared (fileWhere (isExtensionOf s m k) s) s 0 to 0
+  pub extension-numbered-start : Seeking NoDeclaration (firstOf tellsDeclared) (fileWhere (isExtensionOf s m k) s) s 0 to 0
   extension-numbered-start =
-      seek-start NoDeclaration orDeclared (fileWhere (isExtensionOf s m k) s) s 0 to (omega arith) (omega arith)
+      seek-start NoDeclaration (firstOf tellsDeclared) (fileWhere (isExtensionOf s m k) s) s 0 to (omega arith) (omega arith)
 
   -- the loop is a premise so that a search reads from it where the sheet ends
-  pub extension-numbered-is : (r : Declared) (i : ℕ) → Seeking NoDeclaration orDeclared (fileWhere (isExtensionOf s m k) s) s 0 to i
-      → r ≡ seek NoDeclaration orDeclared (fileWhere (isExtensionOf s m k) s) (walk s 0 to) → r ≡ declared (extensionNumbered s m k)
+  pub extension-numbered-is : (r : Declared) (i : ℕ)
+      → Seeking NoDeclaration (firstOf tellsDeclared) (fileWhere (isExtensionOf s m k) s) s 0 to i
+      → r ≡ seek NoDeclaration (firstOf tellsDeclared) (fileWhere (isExtensionOf s m k) s) (walk s 0 to)
+      → r ≡ declared (extensionNumbered s m k)
   extension-numbered-is r i _ q = q ∙ rw (h, tree-files s) (sym (files (walk s 0 (length s))))
     where
       files : (w : Walk) → declared (first (isExtensionOf s m k) (everyExtension (filesIn s w)))
-          ≡ seek NoDeclaration orDeclared (fileWhere (isExtensionOf s m k) s) w
+          ≡ seek NoDeclaration (firstOf tellsDeclared) (fileWhere (isExtensionOf s m k) s) w
       files =
-          seek-is NoDeclaration orDeclared (fileWhere (isExtensionOf s m k) s)
+          seek-is NoDeclaration (firstOf tellsDeclared) (fileWhere (isExtensionOf s m k) s)
           (λ w. declared (first (isExtensionOf s m k) (everyExtension (filesIn s w)))) refl refl
           λ t a e w. rw (every-extension-file s t a e (filesIn s w), declared-append)
 
@@ -160,7 +150,7 @@ pub ruleset extension-numbered-laws = (extension-numbered-start, extension-numbe
 
 -- ---- declaration_of
 module _ (s m : List ℕ) (c : Scope) (k : ℕ) (r : Declared) (q : r ≡ declared (fieldNumbered k c)) where
-  declaration-of-or : declared (declarationOf s c m k) ≡ orDeclared r (declared (extensionNumbered s m k))
+  declaration-of-or : declared (declarationOf s c m k) ≡ firstOf tellsDeclared r (declared (extensionNumbered s m k))
   unfolding declarationOf
   declaration-of-or = rw q (declared-or-else (fieldNumbered k c) (extensionNumbered s m k))
 

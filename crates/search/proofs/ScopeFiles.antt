@@ -10,23 +10,23 @@ use lib.ListN.{getElem?}
 use Rattle.basis.proofs.Never.{never}
 use Rattle.octets.specs.Octets.{sameBytes}
 use Rattle.octets.proofs.SameBytes.{same-refl, same-sound}
-use Rattle.field.specs.Leaf.{text}
+use Rattle.field.specs.Leaf.{isText}
 use Rattle.path.specs.Path.{Name, Path, components, spell, allIdent}
 use Rattle.path.proofs.PathLaws.{spell-components, components-spell}
 use Rattle.sheet.specs.Tree.{File}
 use Rattle.sheet.specs.Members.{messagesOf}
 use Rattle.basis.specs.First.{onlyIf, first}
-use Rattle.scope.specs.Scope.{Scope, fileScope, messageScope, isNamed, down}
+use Rattle.scope.specs.Scope.{Scope, fileScope, messageScope, down}
 use Rattle.search.specs.Scopes.{follow, scopeIn, scopesIn}
 use Rattle.basis.specs.Among.{Among, Ordered}
 use Rattle.basis.proofs.AmongLaws.{among-nil, among-onto-first, among-onto, among-onto-cases, ordered-onto}
 use Rattle.basis.proofs.AmongFirsts.{given-some}
 
 -- ---- texts and paths
-pub same-components : (t : List ℕ) (p : Path) → allIdent p ≡ true → sameBytes t (spell p) ≡ true → components t ≡ p
-same-components t p h e = ap components (same-sound t (spell p) e) ∙ components-spell p h
+pub same-components : (t : List ℕ) (p : Path) → allIdent p ≡ true → sameBytes (spell p) t ≡ true → components t ≡ p
+same-components t p h e = ap components (sym (same-sound (spell p) t e)) ∙ components-spell p h
 
-pub components-same : (t : List ℕ) (p : Path) → components t ≡ p → sameBytes t (spell p) ≡ true
+pub components-same : (t : List ℕ) (p : Path) → components t ≡ p → sameBytes (spell p) t ≡ true
 components-same t p e = rw (← e, spell-components t) (same-refl t)
 
 -- ---- the scope that a file gives
@@ -38,7 +38,7 @@ module _ (s : List ℕ) where
   -- a message is in the file of the scope that it stands in
   pub down-file : (n : Name) (c d : Scope) → down s n c ≡ some d → d .place .file ≡ c .place .file
   down-file n c d e =
-      let r = given-some (first (λ m. isNamed s n (m .name)) (messagesOf (c .items))) (λ m. some (messageScope c m)) d e in
+      let r = given-some (first (λ m. isText s n (m .name)) (messagesOf (c .items))) (λ m. some (messageScope c m)) d e in
       let q : messageScope c (r .0) ≡ d = cc in
       ap (λ (x : Scope). x .place .file) (sym q)
 
@@ -80,8 +80,8 @@ module _ (s : List ℕ) where
         go i (f ∷ fs) (suc k) n e = among-onto (scopeIn s t ns i f) (go (i + 1) fs k (omega arith) e)
 
     module _ (i : ℕ) (f : File) (c : Scope) (e : scopeIn s t ns i f ≡ some c) where
-      pub follows : (sameBytes (text s (f .packageName)) t ≡ true) × (follow s ns (fileScope i f) ≡ some c)
-      follows = only-some (sameBytes (text s (f .packageName)) t) (follow s ns (fileScope i f)) c e
+      pub follows : (isText s t (f .packageName) ≡ true) × (follow s ns (fileScope i f) ≡ some c)
+      follows = only-some (isText s t (f .packageName)) (follow s ns (fileScope i f)) c e
 
       pub index : c .place .file ≡ i
       index = follow-file ns (fileScope i f) c (follows .1)

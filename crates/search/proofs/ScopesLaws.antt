@@ -23,7 +23,7 @@ use Rattle.limits.specs.Figures.{mostMessages}
 use Rattle.octets.specs.Octets.{part, sameBytes}
 use Rattle.field.specs.declared.Leaf.{Leaf}
 use Rattle.field.specs.declared.Leaf.the-variants.{At, Not}
-use Rattle.field.specs.Leaf.{span, anyBytes, leafAt, onLeaf, Lies}
+use Rattle.field.specs.Leaf.{span, anyBytes, leafAt, onLeaf}
 use Rattle.field.specs.Walk.{walk}
 use Rattle.field.proofs.LeafLaws.{leaf-ordered, leaf-inside}
 use Rattle.path.specs.Path.{Path, untilDot, namesFrom}
@@ -35,12 +35,12 @@ use Rattle.scope.specs.declared.lookup.Reached.{Reached}
 use Rattle.scope.specs.declared.lookup.Reached.the-variants.{To, Nowhere}
 use Rattle.search.specs.declared.scopes.Cursor.{Cursor}
 use Rattle.basis.specs.First.{onlyIf, onto}
-use Rattle.scope.specs.Scope.{Scope, holding, down, placed}
+use Rattle.scope.specs.Scope.{Scope, InSheet, holding, down, placed}
 use Rattle.search.specs.Scopes.{follow, scopesIn}
-use Rattle.search.specs.Cursor.{startOf, packageAt, scopeAt, Within}
+use Rattle.search.specs.inner.Cursor.{startOf, packageAt, scopeAt, Within}
 use Rattle.basis.proofs.FirstLaws.{given-holds}
 use Rattle.scope.proofs.Answers.{placed-nowhere}
-use Rattle.scope.proofs.Held.{down-held, down-lies, down-nowhere, down-to, down-to-ordered, down-to-within}
+use Rattle.scope.proofs.Held.{down-held, down-lies, down-nowhere, down-to, down-to-lies}
 
 -- ---- start
 pub start-bare : (b : Bool) → b ≡ true → _≡_ {A = Cursor} (record { next = 1; at = 0; file = 0 }) (startOf b)
@@ -102,9 +102,9 @@ scopes-step s t next i tag a e rest l q = rw (file-package s tag a e rest, ← q
     go (At n m) = refl
 
 -- ---- a scope that names lead to
-record Placed (s : List ℕ) (c : Scope) : Type 0 where
+pub record Placed (s : List ℕ) (c : Scope) : Type 0 where
   pub held : c ≡ holding s (c .place)
-  pub lies : Lies (c .place .body) s
+  pub lies : InSheet s (c .place)
 
 module _ (s : List ℕ) where
   down-placed : (n : List ℕ) (c : Scope) → Placed s c → (d : Scope) → down s n c ≡ some d → Placed s d
@@ -112,7 +112,7 @@ module _ (s : List ℕ) where
       let f : down s n (holding s (c .place)) ≡ some d = ap (down s n) (sym (k .held)) ∙ q in
       record { held = down-held s n (c .place) d f; lies = down-lies s n (c .place) d f (k .lies) }
 
-  followed-placed : (ns : Path) (c : Scope) → Placed s c → (d : Scope) → follow s ns c ≡ some d → Placed s d
+  pub followed-placed : (ns : Path) (c : Scope) → Placed s c → (d : Scope) → follow s ns c ≡ some d → Placed s d
   followed-placed [] c k d q = let u : d ≡ c = cc in rw u k
   followed-placed (n ∷ ns) c k d q =
       given-holds (down s n c) (follow s ns) d (Placed s d) (λ x f g. followed-placed ns x (down-placed n c k x f) d g) q
@@ -125,14 +125,13 @@ module _ (s : List ℕ) where
 
 -- ---- follow
 pub record Following (v : Option Scope) (s t : List ℕ) (at : ℕ) (p : LookupScope) : Type 0 where
-  pub ordered : p .body .from ≤ p .body .to
-  pub within : p .body .to ≤ length s
+  pub lies : InSheet s p
   pub reached : at ≤ suc (length t)
   pub rest : v ≡ follow s (namesFrom t at) (holding s p)
 
-pub following-start : (s t : List ℕ) (at : ℕ) (p : LookupScope) → p .body .from ≤ p .body .to → p .body .to ≤ length s
-    → at ≤ suc (length t) → Following (follow s (namesFrom t at) (holding s p)) s t at p
-following-start s t at p h k l = record { ordered = h; within = k; reached = l; rest = refl }
+pub following-start : (s t : List ℕ) (at : ℕ) (p : LookupScope) → InSheet s p → at ≤ suc (length t)
+    → Following (follow s (namesFrom t at) (holding s p)) s t at p
+following-start s t at p h l = record { lies = h; reached = l; rest = refl }
 
 module _ (v : Option Scope) (s t : List ℕ) (at : ℕ) (p : LookupScope) (k : Following v s t at p) where
   pub following-end : length t < at → To p ≡ placed v
@@ -147,8 +146,7 @@ module _ (v : Option Scope) (s t : List ℕ) (at : ℕ) (p : LookupScope) (k : F
     following-next x g =
         let w = end-within t at e f h in
         record {
-          ordered = down-to-ordered s (part t at e) p r q x g;
-          within = down-to-within s (part t at e) p r q x g (k .within);
+          lies = down-to-lies s (part t at e) p r q x g (k .lies);
           reached = omega arith;
           rest = k .rest ∙ rw (names-next t at h e f, down-to s (part t at e) p r q x g);
         }
@@ -167,7 +165,7 @@ module _ (s t : List ℕ) (next i : ℕ) (l : Leaf) (e : ℕ) where
   pub scope-none : l ≡ Not → Nowhere ≡ placed (scopeAt s t next i l e)
   scope-none g = rw g
 
-  module _ (n m : ℕ) (g : l ≡ At n m) (x : List ℕ) (f : x ≡ take (next - 1) t) (b : Bool) (y : b ≡ sameBytes (part s n m) x) where
+  module _ (n m : ℕ) (g : l ≡ At n m) (x : List ℕ) (f : x ≡ take (next - 1) t) (b : Bool) (y : b ≡ sameBytes x (part s n m)) where
     scope-open : scopeAt s t next i l e ≡ onlyIf b (follow s (namesFrom t next) (holding s (filePlace i m e))) none
     scope-open = rw (g, ← f, ← y)
 
@@ -183,11 +181,11 @@ module _ (l : Leaf) (e : ℕ) (w : Within l e) (n m : ℕ) (g : l ≡ At n m) wh
   pub within-ordered : n ≤ m
   within-ordered = w .ordered n m g
 
-  pub within-inside : m ≤ e
-  within-inside = w .inside n m g
-
   pub within-sheet : (s : List ℕ) → e ≤ length s → m ≤ length s
   within-sheet s h = omega (arith, w .inside n m g)
+
+  pub file-lies : (s : List ℕ) (i : ℕ) → e ≤ length s → InSheet s (filePlace i m e)
+  file-lies s i h = record { ordered = w .inside n m g; within = h }
 
 module _ (s t : List ℕ) (next i : ℕ) (l : Leaf) (e : ℕ) (w : Within l e) (h : e ≤ length s) where
   scope-placed : (c : Scope) → scopeAt s t next i l e ≡ some c → Placed s c
@@ -196,11 +194,12 @@ module _ (s t : List ℕ) (next i : ℕ) (l : Leaf) (e : ℕ) (w : Within l e) (
       at : (m : ℕ) → m ≤ e → (b : Bool) → onlyIf b (follow s (namesFrom t next) (holding s (filePlace i m e))) none ≡ some c → Placed s c
       at m k false q = never cc
       at m k true q =
-          followed-placed s (namesFrom t next) (holding s (filePlace i m e)) (record { held = refl; lies = (k, h) }) c q
+          let f : InSheet s (filePlace i m e) = record { ordered = k; within = h } in
+          followed-placed s (namesFrom t next) (holding s (filePlace i m e)) (record { held = refl; lies = f }) c q
 
       go : (l : Leaf) → Within l e → scopeAt s t next i l e ≡ some c → Placed s c
       go Not w q = never cc
-      go (At n m) w q = at m (w .inside n m refl) (sameBytes (part s n m) (take (next - 1) t)) q
+      go (At n m) w q = at m (w .inside n m refl) (sameBytes (take (next - 1) t) (part s n m)) q
 
   -- what `scope_at` answers, to its caller
   module _ (r : Reached) (q : r ≡ placed (scopeAt s t next i l e)) where
@@ -211,8 +210,8 @@ module _ (s t : List ℕ) (next i : ℕ) (l : Leaf) (e : ℕ) (w : Within l e) (
       pub scope-to : scopeAt s t next i l e ≡ some (holding s p)
       scope-to = placed-to s (scopeAt s t next i l e) scope-placed r q p g
 
-      pub scope-lies : Lies (p .body) s
+      pub scope-lies : InSheet s p
       scope-lies = scope-placed (holding s p) scope-to .lies
 
 pub ruleset scope-laws =
-    (scope-none, scope-elsewhere, scope-followed, within-ordered, within-inside, within-sheet, not-true, not-false)
+    (scope-none, scope-elsewhere, scope-followed, within-ordered, within-sheet, file-lies, not-true, not-false)

@@ -15,7 +15,7 @@ use Rattle.path.proofs.PathLaws.{spell-components}
 use Rattle.path.proofs.Names.{names-start, names-empty}
 use Rattle.search.specs.declared.scopes.Cursor.{Cursor}
 use Rattle.search.specs.Scopes.{scopes}
-use Rattle.search.specs.Cursor.{ahead, startOf, Stands}
+use Rattle.search.specs.inner.Cursor.{ahead, startOf, Stands}
 use Rattle.search.proofs.CursorLaws.{stands-start, ahead-start}
 
 -- ---- at a path

@@ -137,8 +137,8 @@ unfolding scopes allIdent
 scopes-ordered s p h = from-ordered s [] p refl h
 
 -- 01, Changed shape: "strings paths compared by component". Of a path of identifiers the text is compared, and that is the same.
-pub same-components : (t : List ℕ) (p : Path) → allIdent p ≡ true → sameBytes t (spell p) ≡ true → components t ≡ p
+pub same-components : (t : List ℕ) (p : Path) → allIdent p ≡ true → sameBytes (spell p) t ≡ true → components t ≡ p
 same-components = files.same-components
 
-pub components-same : (t : List ℕ) (p : Path) → components t ≡ p → sameBytes t (spell p) ≡ true
+pub components-same : (t : List ℕ) (p : Path) → components t ≡ p → sameBytes (spell p) t ≡ true
 components-same = files.components-same

@@ -17,7 +17,7 @@ use Rattle.scope.specs.Scope.{Scope, enumNamed}
 use Rattle.search.specs.declared.scopes.Cursor.{Cursor}
 use Rattle.search.specs.declared.full_name.NextEnum.{NextEnum}
 use Rattle.search.specs.declared.full_name.NextEnum.the-variants.{At, NoMore}
-use Rattle.search.specs.Cursor.{ahead, Stands}
+use Rattle.search.specs.inner.Cursor.{ahead, Stands}
 use Rattle.search.specs.Lookup.{messageOf}
 
 abbrev pub messagesAhead : List ℕ → List ℕ → Cursor → List Scope

@@ -15,7 +15,7 @@ use mathlib.Core.List.{List, [], _++_, map}
 use mathlib.Core.Option.{some}
 use Prim.Native.Nat.{ℕ, _<_}
 use lib.ListN.{length, getD, getElem?}
-use Rattle.field.specs.Leaf.{text}
+use Rattle.field.specs.Leaf.{text, isText}
 use Rattle.path.specs.Path.{Path, components, parent, last}
 use Rattle.path.specs.Candidates.{candidates}
 use Rattle.sheet.specs.declared.declaration.Declaration.{Declaration}
@@ -23,14 +23,14 @@ use Rattle.sheet.specs.Tree.{File, treeOf}
 use Rattle.sheet.specs.Members.{extensionsOf}
 use Rattle.basis.specs.Among.{Among, Behind}
 use Rattle.search.specs.declared.extension.Found.{Found}
-use Rattle.scope.specs.Scope.{Scope, fileScope, isNamed}
+use Rattle.scope.specs.Scope.{Scope, fileScope}
 use Rattle.search.specs.Scopes.{follow, scopes}
 
 -- ---- what is declared, and what answers
 pub record Declares (s : List ℕ) (p : Path) (d : Declaration) (c : Scope) : Type 0 where
   pub scope : Among c (scopes s (parent p))
   pub extension : Among d (extensionsOf (c .items))
-  pub name : isNamed s (last p) (d .name) ≡ true
+  pub name : isText s (last p) (d .name) ≡ true
 
 abbrev pub Undeclared : List ℕ → Path → Type 0
 Undeclared s p = (d : Declaration) (c : Scope) → Declares s p d c → ⊥

@@ -1,5 +1,5 @@
 pub mod Scopes
-pub mod Cursor
+pub mod inner
 pub mod Lookup
 pub mod Ahead
 pub mod Answers

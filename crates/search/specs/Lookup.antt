@@ -21,6 +21,7 @@ use Rattle.reply.specs.declared.Refusal.the-variants.{ExtensionNotFound, WrongE
 use Rattle.reply.specs.declared.Refusal.the-variants.{MessageNotFound, MessageFoundMoreThanOnce}
 use Rattle.path.specs.Path.{Name, Path, parent, last}
 use Rattle.path.specs.Candidates.{candidates}
+use Rattle.sheet.specs.Table.{extensionTag}
 use Rattle.sheet.specs.Members.{Enumeration}
 use Rattle.basis.specs.First.{onlyIf, given, firstSome, collect}
 use Rattle.scope.specs.Scope.{Scope, declarationNamed, enumNamed}
@@ -37,7 +38,7 @@ use Rattle.search.specs.declared.full_name.LookedUpEnum.the-variants.{Va
 use Rattle.search.specs.Scopes.{scopes}
 
 abbrev pub foundIn : List ℕ → Name → Scope → Option Found
-foundIn s n c = given (declarationNamed true s n c) λ d. some (record { file = c .place .file; declaration = d })
+foundIn s n c = given (declarationNamed extensionTag s n c) λ d. some (record { file = c .place .file; declaration = d })
 
 -- "The answer is the first candidate, then first scope, then first declared extension with the last component as its name."
 unfoldable pub findExtensionByAbsPath : List ℕ → Path → Option Found

@@ -3,7 +3,7 @@
 --
 --             hasNumber k d <=> the declaration is of the number k
 --             extends s m d <=> the extension is of the message whose full name is m
---       isExtensionOf s m k d <=> it is of that message and that number
+--     isExtensionOf s m k d <=> it is of that message and that number
 --         fieldNumbered k c ==  the first field of the number k in the scope c
 --   extensionNumbered s m k ==  the first extension of the message m, wherever the sheet declares it, of the number k
 --     declarationOf s c m k ==  what declares the number k at the message that the scope c is and whose full name is m; the caller hands on
@@ -15,29 +15,28 @@ use mathlib.Core.List.{List}
 use mathlib.Core.Option.{Option}
 use Prim.Native.Nat.{ℕ}
 use lib.Dec.{eqb}
-use Rattle.octets.specs.Octets.{sameBytes}
-use Rattle.field.specs.Leaf.{text}
+use Rattle.field.specs.Leaf.{isText}
 use Rattle.sheet.specs.declared.declaration.Declaration.{Declaration}
 use Rattle.sheet.specs.Tree.{treeOf}
 use Rattle.sheet.specs.Members.{fieldsOf, everyExtension}
 use Rattle.basis.specs.First.{first, orElse}
 use Rattle.scope.specs.Scope.{Scope}
 
-abbrev pub hasNumber : ℕ → Declaration → Bool
+abbrev pub hasNumber : (number : ℕ) → Declaration → Bool
 hasNumber k d = eqb (d .shape .number) k
 
 -- the extendee is compared as it is written with the full name by which the message was reached
-abbrev pub extends : List ℕ → List ℕ → Declaration → Bool
-extends s m d = sameBytes (text s (d .extendee)) m
+abbrev pub extends : (s message : List ℕ) → Declaration → Bool
+extends s m d = isText s m (d .extendee)
 
-abbrev pub fieldNumbered : ℕ → Scope → Option Declaration
+abbrev pub fieldNumbered : (number : ℕ) → Scope → Option Declaration
 fieldNumbered k c = first (hasNumber k) (fieldsOf (c .items))
 
-abbrev pub isExtensionOf : List ℕ → List ℕ → ℕ → Declaration → Bool
+abbrev pub isExtensionOf : (s message : List ℕ) (number : ℕ) → Declaration → Bool
 isExtensionOf s m k d = hasNumber k d && extends s m d
 
-abbrev pub extensionNumbered : List ℕ → List ℕ → ℕ → Option Declaration
+abbrev pub extensionNumbered : (s message : List ℕ) (number : ℕ) → Option Declaration
 extensionNumbered s m k = first (isExtensionOf s m k) (everyExtension (treeOf s))
 
-unfoldable pub declarationOf : List ℕ → Scope → List ℕ → ℕ → Option Declaration
+unfoldable pub declarationOf : (s : List ℕ) → Scope → (message : List ℕ) (number : ℕ) → Option Declaration
 declarationOf s c m k = orElse (fieldNumbered k c) (extensionNumbered s m k)

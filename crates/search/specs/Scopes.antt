@@ -11,30 +11,29 @@ use mathlib.Core.Bool.{Bool, true, false}
 use mathlib.Core.List.{List, [], _∷_, _++_}
 use mathlib.Core.Option.{Option, none, some}
 use Prim.Native.Nat.{ℕ, _+_}
-use Rattle.octets.specs.Octets.{sameBytes}
-use Rattle.field.specs.Leaf.{text}
+use Rattle.field.specs.Leaf.{isText}
 use Rattle.path.specs.Path.{Path, spell}
 use Rattle.sheet.specs.Tree.{File, treeOf}
 use Rattle.basis.specs.First.{onlyIf, given, onto}
 use Rattle.scope.specs.Scope.{Scope, fileScope, down}
 
 -- "follows the rest as message names, the first of that name at each level; if all are found, it gives one scope"
-abbrev pub follow : List ℕ → Path → Scope → Option Scope
+abbrev pub follow : (s : List ℕ) (names : Path) → Scope → Option Scope
 follow s [] c = some c
 follow s (n ∷ ns) c = given (down s n c) (follow s ns)
 
 -- paths are compared as they are written: two paths of identifiers are the same where their texts are
-abbrev pub scopeIn : List ℕ → List ℕ → Path → ℕ → File → Option Scope
-scopeIn s p ns i f = onlyIf (sameBytes (text s (f .packageName)) p) (follow s ns (fileScope i f)) none
+abbrev pub scopeIn : (s front : List ℕ) (names : Path) (index : ℕ) → File → Option Scope
+scopeIn s p ns i f = onlyIf (isText s p (f .packageName)) (follow s ns (fileScope i f)) none
 
-abbrev pub scopesIn : List ℕ → List ℕ → Path → ℕ → List File → List Scope
+abbrev pub scopesIn : (s front : List ℕ) (names : Path) (index : ℕ) → List File → List Scope
 scopesIn s p ns i [] = []
 scopesIn s p ns i (f ∷ fs) = onto (scopeIn s p ns i f) (scopesIn s p ns (i + 1) fs)
 
 -- "each file whose package (empty included) leads the path's components"; "Order: fewest package components, then file order"
-abbrev pub scopesFrom : List ℕ → Path → Path → List Scope
+abbrev pub scopesFrom : (s : List ℕ) (front names : Path) → List Scope
 scopesFrom s front [] = scopesIn s (spell front) [] 0 (treeOf s)
 scopesFrom s front (n ∷ ns) = scopesIn s (spell front) (n ∷ ns) 0 (treeOf s) ++ scopesFrom s (front ++ n ∷ []) ns
 
-unfoldable pub scopes : List ℕ → Path → List Scope
+unfoldable pub scopes : (s : List ℕ) → Path → List Scope
 scopes s p = scopesFrom s [] p

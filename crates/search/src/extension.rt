@@ -6,7 +6,7 @@ ghost use lib.ListN.{length};
 ghost use Rattle.limits.specs.Figures.{mostCandidate};
 ghost use Rattle.path.specs.Path.{components, isRelOrEmpty, isPath};
 ghost use Rattle.basis.specs.First.{firstSome};
-ghost use Rattle.search.specs.Cursor.{ahead, Stands};
+ghost use Rattle.search.specs.inner.Cursor.{ahead, Stands};
 ghost use Rattle.search.specs.Lookup.{foundIn, findExtensionByAbsPath, findExtensionByPath, extResolveField, searched};
 use crate::scopes::Cursor;
 use crate::scopes::Next;
@@ -20,6 +20,7 @@ use reply::Refusal;
 use scope::named::declaration_named;
 use sheet::declaration::Declaration;
 use sheet::declaration::Declared;
+use sheet::table;
 
 // An extension that was found, and the index of its file.
 pub struct Found {
@@ -51,7 +52,7 @@ fn first_extension(s: &[u8], names: &[u8], cursor: Cursor, name: &[u8]) -> Searc
             return Search::Nowhere;
         };
         c = rest;
-        if let Declared::Declares(d) = declaration_named(s, scope, true, name) {
+        if let Declared::Declares(d) = declaration_named(s, scope, table::EXTENSION, name) {
             return Search::Is(Found {
                 file: scope.file,
                 declaration: d,
@@ -104,7 +105,7 @@ pub fn ext_resolve_field_ext(
     };
     let from = found.declaration.extendee.from;
     let to = found.declaration.extendee.to;
-    if !octets::same(&s[from..to], message) {
+    if !octets::same(message, &s[from..to]) {
         return Resolved::Refused(Refusal::WrongExtensionType);
     }
     Resolved::Field(found)

@@ -1,7 +1,7 @@
 // Messages and enums by full name: there has to be exactly one.
 ghost use mathlib.Core.Path.{_≡_};
 ghost use Rattle.path.specs.Path.{components};
-ghost use Rattle.search.specs.Cursor.{Stands, Nexts};
+ghost use Rattle.search.specs.inner.Cursor.{Stands, Nexts};
 ghost use Rattle.search.specs.Lookup.{messagesAt, enumsAt, lookedUp, lookedUpEnum};
 ghost use Rattle.search.specs.Ahead.{messagesAhead, enumsAhead, NextsEnum};
 use crate::scopes::Cursor;

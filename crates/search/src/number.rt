@@ -1,18 +1,18 @@
 // The declaration of a number at a message: the message's fields first, then the sheet's extensions of it in the order of the bytes.
 ghost use mathlib.Core.Path.{_≡_};
-ghost use mathlib.Core.Bool.{true, false};
-ghost use Prim.Native.Nat.{_≤_};
-ghost use lib.ListN.{length};
 ghost use Rattle.field.specs.Leaf.{Lies};
 ghost use Rattle.field.specs.Walk.{walk};
+ghost use Rattle.sheet.specs.declared.declaration.Declared.the-variants.{NoDeclaration};
+ghost use Rattle.sheet.specs.Table.{extensionTag, fieldTag};
 ghost use Rattle.sheet.specs.Tree.{itemsIn};
 ghost use Rattle.sheet.specs.Members.{everyExtensionOf, everyExtension};
 ghost use Rattle.basis.specs.First.{first};
-ghost use Rattle.scope.specs.Scope.{holding, declared};
-ghost use Rattle.scope.specs.Steps.{declarationAt, whose, itemAt, messageAt, fileAt};
+ghost use Rattle.scope.specs.Scope.{InSheet, holding, declared};
+ghost use Rattle.scope.specs.inner.Steps.{declarationAt, tellsDeclared, whose, itemAt, fileAt};
 ghost use Rattle.search.specs.Number.{hasNumber, isExtensionOf, fieldNumbered, extensionNumbered, declarationOf};
 use field::Field;
 use field::Leaf;
+use field::Span;
 use limits::MOST_MESSAGES;
 use scope::lookup::LookupScope;
 use scope::named::declaration_at;
@@ -20,11 +20,12 @@ use sheet::declaration::Declared;
 use sheet::table;
 
 // The field of a message that a field of its body is, where it is of this number.
-fn field_numbered_at(s: &[u8], tag: u8, from: usize, to: usize, number: u32) -> Declared
-    requires { ⌜ (from ≤ to) × (to ≤ length (now s)) ⌝ }
-    ensures { λ r. ⌜ r ≡ whose (hasNumber number) (declarationAt false (now (s .entry)) tag from to) ⌝ }
+fn field_numbered_at(s: &[u8], tag: u8, item: Span, number: u32) -> Declared
+    requires { ⌜ Lies item (now s) ⌝ }
+    ensures { λ r. ⌜ r ≡ whose NoDeclaration tellsDeclared (hasNumber number)
+        (declarationAt fieldTag (now (s .entry)) tag (item .from) (item .to)) ⌝ }
 {
-    let Declared::Declares(d) = declaration_at(s, tag, from, to, false) else {
+    let Declared::Declares(d) = declaration_at(s, tag, item.from, item.to, table::FIELD) else {
         return Declared::NoDeclaration;
     };
     if d.shape.number != number {
@@ -35,7 +36,7 @@ fn field_numbered_at(s: &[u8], tag: u8, from: usize, to: usize, number: u32) -> 
 
 // The first field of that number of the message.
 fn field_numbered(s: &[u8], scope: LookupScope, number: u32) -> Declared
-    requires { ⌜ Lies (scope .body) (now s) ⌝ }
+    requires { ⌜ InSheet (now s) scope ⌝ }
     ensures { λ r. ⌜ r ≡ declared (fieldNumbered number (holding (now (s .entry)) scope)) ⌝ }
 {
     let end = scope.body.to;
@@ -44,7 +45,8 @@ fn field_numbered(s: &[u8], scope: LookupScope, number: u32) -> Declared
         let Field::Whole { tag, from, to } = field::field_at(s, at, end) else {
             return Declared::NoDeclaration;
         };
-        if let Declared::Declares(d) = field_numbered_at(s, tag, from, to, number) {
+        let item = Span { from: from, to: to };
+        if let Declared::Declares(d) = field_numbered_at(s, tag, item, number) {
             return Declared::Declares(d);
         }
         at = to;
@@ -53,19 +55,12 @@ fn field_numbered(s: &[u8], scope: LookupScope, number: u32) -> Declared
 }
 
 // The extension that a field of a scope is, where it is of this message and number.
-fn extension_numbered_at(
-    s: &[u8],
-    tag: u8,
-    from: usize,
-    to: usize,
-    message: &[u8],
-    number: u32,
-) -> Declared
-    requires { ⌜ (from ≤ to) × (to ≤ length (now s)) ⌝ }
-    ensures { λ r. ⌜ r ≡ whose (isExtensionOf (now (s .entry)) (now (message .entry)) number)
-        (declarationAt true (now (s .entry)) tag from to) ⌝ }
+fn extension_numbered_at(s: &[u8], tag: u8, item: Span, message: &[u8], number: u32) -> Declared
+    requires { ⌜ Lies item (now s) ⌝ }
+    ensures { λ r. ⌜ r ≡ whose NoDeclaration tellsDeclared (isExtensionOf (now (s .entry)) (now (message .entry)) number)
+        (declarationAt extensionTag (now (s .entry)) tag (item .from) (item .to)) ⌝ }
 {
-    let Declared::Declares(d) = declaration_at(s, tag, from, to, true) else {
+    let Declared::Declares(d) = declaration_at(s, tag, item.from, item.to, table::EXTENSION) else {
         return Declared::NoDeclaration;
     };
     if d.shape.number != number {
@@ -73,7 +68,7 @@ fn extension_numbered_at(
     }
     let a = d.extendee.from;
     let e = d.extendee.to;
-    if !octets::same(&s[a..e], message) {
+    if !octets::same(message, &s[a..e]) {
         return Declared::NoDeclaration;
     }
     Declared::Declares(d)
@@ -83,95 +78,81 @@ fn extension_numbered_at(
 fn extension_in_item(
     s: &[u8],
     tag: u8,
-    from: usize,
-    to: usize,
+    item: Span,
     left: usize,
     message: &[u8],
     number: u32,
 ) -> Declared
-    requires { ⌜ (from ≤ to) × (to ≤ length (now s)) ⌝ }
+    requires { ⌜ Lies item (now s) ⌝ }
     ensures { λ r. ⌜ r ≡ declared (first (isExtensionOf (now (s .entry)) (now (message .entry)) number)
-        (everyExtensionOf (itemAt left (now (s .entry)) tag from to))) ⌝ }
+        (everyExtensionOf (itemAt left (now (s .entry)) tag (item .from) (item .to)))) ⌝ }
 {
-    if tag == table::MESSAGE {
-        return extension_in_message(s, from, to, left, message, number);
+    if tag != table::MESSAGE {
+        return extension_numbered_at(s, tag, item, message, number);
     }
-    extension_numbered_at(s, tag, from, to, message, number)
-}
-
-// The first one in a message.
-fn extension_in_message(
-    s: &[u8],
-    from: usize,
-    to: usize,
-    left: usize,
-    message: &[u8],
-    number: u32,
-) -> Declared
-    requires { ⌜ (from ≤ to) × (to ≤ length (now s)) ⌝ }
-    ensures { λ r. ⌜ r ≡ declared (first (isExtensionOf (now (s .entry)) (now (message .entry)) number)
-        (everyExtensionOf (messageAt left (now (s .entry)) from to))) ⌝ }
-{
     if left == 0 {
         return Declared::NoDeclaration;
     }
-    let Leaf::At { from: _, to: body } = field::leaf_at(s, from, to, table::NAME) else {
+    let end = item.to;
+    let Leaf::At { from: _, to: body } = field::leaf_at(s, item.from, end, table::NAME) else {
         return Declared::NoDeclaration;
     };
-    extension_in_items(s, body, to, left - 1, message, number)
+    extension_in_items(
+        s,
+        Span {
+            from: body,
+            to: end,
+        },
+        left - 1,
+        message,
+        number,
+    )
 }
 
-// The first one between two places of a scope.
-fn extension_in_items(
-    s: &[u8],
-    from: usize,
-    to: usize,
-    left: usize,
-    message: &[u8],
-    number: u32,
-) -> Declared
-    requires { ⌜ (from ≤ to) × (to ≤ length (now s)) ⌝ }
+// The first one in what a scope holds.
+fn extension_in_items(s: &[u8], body: Span, left: usize, message: &[u8], number: u32) -> Declared
+    requires { ⌜ Lies body (now s) ⌝ }
     ensures { λ r. ⌜ r ≡ declared (first (isExtensionOf (now (s .entry)) (now (message .entry)) number)
-        (everyExtensionOf (itemsIn left (now (s .entry)) (walk (now (s .entry)) from to)))) ⌝ }
+        (everyExtensionOf (itemsIn left (now (s .entry)) (walk (now (s .entry)) (body .from) (body .to))))) ⌝ }
 {
-    let mut at = from;
-    while at < to {
-        let Field::Whole {
-            tag,
-            from: a,
-            to: e,
-        } = field::field_at(s, at, to)
-        else {
+    let end = body.to;
+    let mut at = body.from;
+    while at < end {
+        let Field::Whole { tag, from, to } = field::field_at(s, at, end) else {
             return Declared::NoDeclaration;
         };
-        if let Declared::Declares(d) = extension_in_item(s, tag, a, e, left, message, number) {
+        let item = Span { from: from, to: to };
+        if let Declared::Declares(d) = extension_in_item(s, tag, item, left, message, number) {
             return Declared::Declares(d);
         }
-        at = e;
+        at = to;
     }
     Declared::NoDeclaration
 }
 
 // The first one in a field of a sheet.
-fn extension_in_file(
-    s: &[u8],
-    tag: u8,
-    from: usize,
-    to: usize,
-    message: &[u8],
-    number: u32,
-) -> Declared
-    requires { ⌜ (from ≤ to) × (to ≤ length (now s)) ⌝ }
+fn extension_in_file(s: &[u8], tag: u8, item: Span, message: &[u8], number: u32) -> Declared
+    requires { ⌜ Lies item (now s) ⌝ }
     ensures { λ r. ⌜ r ≡ declared (first (isExtensionOf (now (s .entry)) (now (message .entry)) number)
-        (everyExtension (fileAt (now (s .entry)) tag from to))) ⌝ }
+        (everyExtension (fileAt (now (s .entry)) tag (item .from) (item .to)))) ⌝ }
 {
     if tag != table::FILE {
         return Declared::NoDeclaration;
     }
-    let Leaf::At { from: _, to: body } = field::leaf_at(s, from, to, table::PACKAGE) else {
+    let end = item.to;
+    let Leaf::At { from: _, to: body } = field::leaf_at(s, item.from, end, table::PACKAGE) else {
         return Declared::NoDeclaration;
     };
-    extension_in_items(s, body, to, MOST_MESSAGES, message, number)
+    extension_in_items(
+        s,
+        Span {
+            from: body,
+            to: end,
+        },
+        MOST_MESSAGES,
+        message,
+        number,
+    )
 }
 
 // The first extension of that message and number, wherever the sheet declares it.
@@ -184,7 +165,8 @@ fn extension_numbered(s: &[u8], message: &[u8], number: u32) -> Declared
         let Field::Whole { tag, from, to } = field::field_at(s, at, end) else {
             return Declared::NoDeclaration;
         };
-        if let Declared::Declares(d) = extension_in_file(s, tag, from, to, message, number) {
+        let item = Span { from: from, to: to };
+        if let Declared::Declares(d) = extension_in_file(s, tag, item, message, number) {
             return Declared::Declares(d);
         }
         at = to;
@@ -194,7 +176,7 @@ fn extension_numbered(s: &[u8], message: &[u8], number: u32) -> Declared
 
 // What declares the number at the message that the scope is and whose full name is `message`.
 pub fn declaration_of(s: &[u8], scope: LookupScope, message: &[u8], number: u32) -> Declared
-    requires { ⌜ Lies (scope .body) (now s) ⌝ }
+    requires { ⌜ InSheet (now s) scope ⌝ }
     ensures { λ r. ⌜ r ≡ declared (declarationOf (now (s .entry)) (holding (now (s .entry)) scope) (now (message .entry)) number) ⌝ }
 {
     if let Declared::Declares(d) = field_numbered(s, scope, number) {

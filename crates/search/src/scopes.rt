@@ -3,12 +3,12 @@
 ghost use mathlib.Core.Path.{_≡_};
 ghost use Prim.Native.Nat.{suc, _≤_};
 ghost use lib.ListN.{length};
-ghost use Rattle.field.specs.Leaf.{Lies, onLeaf};
+ghost use Rattle.field.specs.Leaf.{onLeaf};
 ghost use Rattle.path.specs.Path.{namesFrom};
-ghost use Rattle.scope.specs.Scope.{holding, placed};
+ghost use Rattle.scope.specs.Scope.{InSheet, holding, placed};
 ghost use Rattle.search.specs.Scopes.{follow as followOf};
 ghost use Rattle.search.specs.declared.scopes.Next.the-variants.{At};
-ghost use Rattle.search.specs.Cursor.{here, ahead, startOf, packageAt, scopeAt, Within, Stands, Nexts};
+ghost use Rattle.search.specs.inner.Cursor.{here, ahead, startOf, packageAt, scopeAt, Within, Stands, Nexts};
 use field::Field;
 use field::Leaf;
 use field::Span;
@@ -55,7 +55,7 @@ pub fn start(bare: bool) -> Cursor
 
 // The scope that the names from a place on lead to, each the first message of its name.
 fn follow(s: &[u8], names: &[u8], next: usize, scope: LookupScope) -> Reached
-    requires { ⌜ Lies (scope .body) (now s) × (next ≤ suc (length (now names))) ⌝ }
+    requires { ⌜ InSheet (now s) scope × (next ≤ suc (length (now names))) ⌝ }
     ensures { λ r. ⌜ r ≡ placed (followOf (now (s .entry)) (namesFrom (now (names .entry)) next) (holding (now (s .entry)) scope)) ⌝ }
 {
     let mut reached = scope;
@@ -108,7 +108,7 @@ fn scope_at(
     let Leaf::At { from, to: body } = package_name else {
         return Reached::Nowhere;
     };
-    if !octets::same(&s[from..body], before(names, next)) {
+    if !octets::same(before(names, next), &s[from..body]) {
         return Reached::Nowhere;
     }
     follow(

@@ -6,16 +6,19 @@
 --        extensionsOf i == the extensions, likewise
 --             enumsOf i == the enums, likewise
 --            fieldsOf i == the fields, likewise
---    declarationsOf x i == the extensions where x holds, else the fields
+--    declarationsOf k i == the declarations of the tag k: the extensions or the fields; no other tag has any
 --    everyExtensionOf i == the extensions among the items and in their messages, at every depth
 --   everyExtension fs   == the extensions of the files, at every depth
 --
 -- Assumes nothing.
-use mathlib.Core.Bool.{Bool, true, false}
 use mathlib.Core.List.{List, [], _∷_, _++_}
+use Prim.Native.Nat.{ℕ}
+use lib.Dec.{eqb}
+use Rattle.basis.specs.First.{onlyIf}
 use Rattle.field.specs.declared.Span.{Span}
 use Rattle.sheet.specs.declared.declaration.Declaration.{Declaration}
 use Rattle.sheet.specs.declared.declaration.Value.{Value}
+use Rattle.sheet.specs.Table.{extensionTag, fieldTag}
 use Rattle.sheet.specs.Tree.{Items, none, message, extension, enumeration, field, File}
 
 pub record Message : Type 0 where
@@ -56,9 +59,8 @@ fieldsOf (extension d r) = fieldsOf r
 fieldsOf (enumeration n b vs r) = fieldsOf r
 fieldsOf (field d r) = d ∷ fieldsOf r
 
-abbrev pub declarationsOf : Bool → Items → List Declaration
-declarationsOf true i = extensionsOf i
-declarationsOf false i = fieldsOf i
+abbrev pub declarationsOf : (tag : ℕ) → Items → List Declaration
+declarationsOf k i = onlyIf (eqb k extensionTag) (extensionsOf i) (onlyIf (eqb k fieldTag) (fieldsOf i) [])
 
 -- 01, Listing: "then sheet order", which is the order of the bytes; every 03 of the sheet counts
 abbrev pub everyExtensionOf : Items → List Declaration

@@ -10,6 +10,6 @@ declaration-at-spec = tie.close (tie.spec
     (λ c. search (needs, declaration-at-laws))
     (λ c κs. search (needs, declaration-at-laws))
     (λ c. search (needs, declaration-at-laws))
-    (λ c. search (needs, declaration-at-laws))
     (λ c κs. search (needs, declaration-at-laws))
+    (λ c. search (needs, declaration-at-laws))
     (λ c. search (needs, declaration-at-laws)))

@@ -3,19 +3,19 @@
 use Prim.Native.Nat.{_-_}
 use Rattle.sheet.specs.declared.declaration.Declared.the-variants.{NoDeclaration}
 use Rattle.field.proofs.Seek.{Seeking}
-use Rattle.scope.specs.Scope.{isNamed}
-use Rattle.scope.proofs.Answers.{orDeclared}
+use Rattle.field.specs.Leaf.{isText}
+use Rattle.scope.specs.inner.Steps.{tellsDeclared, firstOf}
 use Rattle.scope.proofs.NamedLaws.{declarationWhere, declaration-named-laws}
 use borrow.Author.Needs.{needs}
 use Rattle.scope.proofs.named.declaration_named.Statement.{statement}
 use Rattle.scope.proofs.named.declaration_named.Tie as tie
 
 abbrev Inv-loop : tie.InvT-loop
-Inv-loop s extension name end at₀ at =
-    Seeking NoDeclaration orDeclared (declarationWhere (λ d. isNamed s name (d .name)) extension s) s at₀ end at
+Inv-loop s want name end at₀ at =
+    Seeking NoDeclaration (firstOf tellsDeclared) (declarationWhere (λ d. isText s name (d .name)) want s) s at₀ end at
 
 abbrev μ-loop : tie.MeasureT-loop
-μ-loop s extension name end at₀ at = end - at
+μ-loop s want name end at₀ at = end - at
 
 pub declaration-named-spec : {M : Type 1} → statement M
 declaration-named-spec = tie.close (tie.spec Inv-loop μ-loop

@@ -2,16 +2,15 @@
 -- Assumes nothing.
 use Prim.Native.Nat.{_-_}
 use Rattle.sheet.specs.declared.declaration.Valued.the-variants.{NoValue}
-use Rattle.scope.specs.Steps.{valueNamedAt}
+use Rattle.scope.specs.inner.Steps.{tellsValued, firstOf, valueNamedAt}
 use Rattle.field.proofs.Seek.{Seeking}
-use Rattle.scope.proofs.Answers.{orValued}
 use Rattle.scope.proofs.NamedLaws.{value-named-laws}
 use borrow.Author.Needs.{needs}
 use Rattle.scope.proofs.named.value_named.Statement.{statement}
 use Rattle.scope.proofs.named.value_named.Tie as tie
 
 abbrev Inv-loop : tie.InvT-loop
-Inv-loop s name end at₀ at = Seeking NoValue orValued (valueNamedAt name s) s at₀ end at
+Inv-loop s name end at₀ at = Seeking NoValue (firstOf tellsValued) (valueNamedAt name s) s at₀ end at
 
 abbrev μ-loop : tie.MeasureT-loop
 μ-loop s name end at₀ at = end - at

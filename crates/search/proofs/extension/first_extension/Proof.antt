@@ -1,7 +1,7 @@
 -- `extension::first_extension` meets its contract.
 -- Assumes nothing.
 use lib.ListN.{length}
-use Rattle.search.specs.Cursor.{ahead}
+use Rattle.search.specs.inner.Cursor.{ahead}
 use Rattle.search.proofs.Left.{Left}
 use Rattle.search.proofs.ExtensionLaws.{foundAmong, first-extension-laws}
 use borrow.Author.Needs.{needs}

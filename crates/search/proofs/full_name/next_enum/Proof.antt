@@ -3,7 +3,7 @@
 use lib.ListN.{length}
 use Rattle.basis.specs.First.{collect}
 use Rattle.scope.specs.Scope.{enumNamed}
-use Rattle.search.specs.Cursor.{ahead}
+use Rattle.search.specs.inner.Cursor.{ahead}
 use Rattle.search.specs.Ahead.{enumsAhead}
 use Rattle.search.proofs.Left.{Left}
 use Rattle.search.proofs.FullNameLaws.{next-enum-laws}

@@ -2,7 +2,7 @@
 -- Assumes nothing.
 use lib.ListN.{length}
 use Rattle.basis.specs.First.{collect}
-use Rattle.search.specs.Cursor.{ahead}
+use Rattle.search.specs.inner.Cursor.{ahead}
 use Rattle.search.specs.Lookup.{messageOf}
 use Rattle.search.specs.Ahead.{messagesAhead}
 use Rattle.search.proofs.Left.{Left}

@@ -4,7 +4,7 @@ use Prim.Native.Nat.{_-_}
 use Rattle.field.proofs.Seek.{Seeking}
 use Rattle.sheet.specs.declared.declaration.Declared.the-variants.{NoDeclaration}
 use Rattle.search.specs.Number.{isExtensionOf}
-use Rattle.scope.proofs.Answers.{orDeclared}
+use Rattle.scope.specs.inner.Steps.{tellsDeclared, firstOf}
 use Rattle.search.proofs.NumberLaws.{fileWhere, extension-numbered-laws}
 use borrow.Author.Needs.{needs}
 use Rattle.search.proofs.number.extension_numbered.Statement.{statement}
@@ -12,7 +12,7 @@ use Rattle.search.proofs.number.extension_numbered.Tie as tie
 
 abbrev Inv-loop : tie.InvT-loop
 Inv-loop s message number end at₀ at =
-    Seeking NoDeclaration orDeclared (fileWhere (isExtensionOf s message number) s) s at₀ end at
+    Seeking NoDeclaration (firstOf tellsDeclared) (fileWhere (isExtensionOf s message number) s) s at₀ end at
 
 abbrev μ-loop : tie.MeasureT-loop
 μ-loop s message number end at₀ at = end - at

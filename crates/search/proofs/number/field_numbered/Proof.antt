@@ -1,11 +1,11 @@
 -- `number::field_numbered` meets its contract.
 -- Assumes nothing.
-use mathlib.Core.Bool.{false}
+use Rattle.sheet.specs.Table.{fieldTag}
 use Prim.Native.Nat.{_-_}
 use Rattle.field.proofs.Seek.{Seeking}
 use Rattle.sheet.specs.declared.declaration.Declared.the-variants.{NoDeclaration}
 use Rattle.search.specs.Number.{hasNumber}
-use Rattle.scope.proofs.Answers.{orDeclared}
+use Rattle.scope.specs.inner.Steps.{tellsDeclared, firstOf}
 use Rattle.scope.proofs.NamedLaws.{declarationWhere}
 use Rattle.search.proofs.NumberLaws.{field-numbered-laws}
 use borrow.Author.Needs.{needs}
@@ -14,7 +14,7 @@ use Rattle.search.proofs.number.field_numbered.Tie as tie
 
 abbrev Inv-loop : tie.InvT-loop
 Inv-loop s number end at₀ at =
-    Seeking NoDeclaration orDeclared (declarationWhere (hasNumber number) false s) s at₀ end at
+    Seeking NoDeclaration (firstOf tellsDeclared) (declarationWhere (hasNumber number) fieldTag s) s at₀ end at
 
 abbrev μ-loop : tie.MeasureT-loop
 μ-loop s number end at₀ at = end - at

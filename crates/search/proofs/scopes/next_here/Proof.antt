@@ -1,7 +1,7 @@
 -- `scopes::next_here` meets its contract.
 -- Assumes nothing.
 use Prim.Native.Nat.{_-_}
-use Rattle.search.specs.Cursor.{here}
+use Rattle.search.specs.inner.Cursor.{here}
 use Rattle.search.proofs.CursorLaws.{Onward, here-laws}
 use borrow.Author.Needs.{needs}
 use Rattle.search.proofs.scopes.next_here.Statement.{statement}

@@ -2,7 +2,7 @@
 -- Assumes nothing.
 use Prim.Native.Nat.{suc, _-_}
 use lib.ListN.{length}
-use Rattle.search.specs.Cursor.{ahead}
+use Rattle.search.specs.inner.Cursor.{ahead}
 use Rattle.search.proofs.CursorLaws.{Onward, scopes-laws}
 use borrow.Author.Needs.{needs}
 use Rattle.search.proofs.scopes.next_scope.Statement.{statement}

@@ -23,40 +23,40 @@ use lib.ListN.{length, getD, take}
 use Rattle.limits.specs.Figures.{mostMessages}
 use Rattle.field.specs.declared.Leaf.{Leaf}
 use Rattle.field.specs.declared.Leaf.the-variants.{At as LeafAt, Not}
-use Rattle.field.specs.Leaf.{span, anyBytes, leafAt, onLeaf, Lies}
+use Rattle.field.specs.Leaf.{span, anyBytes, leafAt, onLeaf}
 use Rattle.field.specs.Walk.{walk}
 use Rattle.path.specs.Path.{Path, dot, split, namesFrom}
 use Rattle.sheet.specs.Table.{fileTag, packageTag}
 use Rattle.sheet.specs.Tree.{fileWith, itemsIn, filesIn}
 use Rattle.scope.specs.declared.lookup.LookupScope.{LookupScope}
-use Rattle.scope.specs.Scope.{Scope, holding}
+use Rattle.scope.specs.Scope.{Scope, InSheet, holding}
 use Rattle.search.specs.declared.scopes.Cursor.{Cursor}
 use Rattle.search.specs.declared.scopes.Next.{Next}
 use Rattle.search.specs.declared.scopes.Next.the-variants.{At, NoMore}
 use Rattle.search.specs.Scopes.{scopeIn, scopesIn, scopesFrom}
 
-unfoldable pub frontAt : List ℕ → ℕ → Path
+unfoldable pub frontAt : (t : List ℕ) (at : ℕ) → Path
 frontAt t at = elim (eqb at 0) [ true ↦ [] | false ↦ split (take (at - 1) t) ]
 
-abbrev pub wider : List ℕ → Path → Path → List Scope
+abbrev pub wider : (s : List ℕ) (front names : Path) → List Scope
 wider s front [] = []
 wider s front (n ∷ ns) = scopesFrom s (front ++ n ∷ []) ns
 
 -- those of the packages that are tried now
-abbrev pub here : List ℕ → List ℕ → Cursor → List Scope
+abbrev pub here : (s t : List ℕ) → Cursor → List Scope
 here s t c = scopesIn s (take (c .next - 1) t) (namesFrom t (c .next)) (c .file) (filesIn s (walk s (c .at) (length s)))
 
-unfoldable pub ahead : List ℕ → List ℕ → Cursor → List Scope
+unfoldable pub ahead : (s t : List ℕ) → Cursor → List Scope
 ahead s t c = here s t c ++ wider s (frontAt t (c .next)) (namesFrom t (c .next))
 
-abbrev pub startOf : Bool → Cursor
+abbrev pub startOf : (bare : Bool) → Cursor
 startOf true = record { next = 1; at = 0; file = 0 }
 startOf false = record { next = 0; at = 0; file = 0 }
 
-unfoldable pub packageAt : List ℕ → ℕ → ℕ → ℕ → Leaf
+unfoldable pub packageAt : (s : List ℕ) (tag from to : ℕ) → Leaf
 packageAt s tag a e = elim (eqb tag fileTag) [ true ↦ leafAt packageTag anyBytes s a e | false ↦ Not ]
 
-abbrev pub scopeAt : List ℕ → List ℕ → ℕ → ℕ → Leaf → ℕ → Option Scope
+abbrev pub scopeAt : (s t : List ℕ) (next index : ℕ) → Leaf → (end : ℕ) → Option Scope
 scopeAt s t next i l e = onLeaf none l λ n m.
     scopeIn s (take (next - 1) t) (namesFrom t next) i (fileWith (span n m) (span m e) (itemsIn mostMessages s (walk s m e)))
 
@@ -71,7 +71,7 @@ pub record Stands (s t : List ℕ) (c : Cursor) : Type 0 where
   pub starts : 0 < c .next → c .next ≤ length t → getD t (c .next - 1) 0 ≡ dot
 
 pub record Steps (L : Cursor → List Scope) (s t : List ℕ) (c : Cursor) (p : LookupScope) (c′ : Cursor) : Type 0 where
-  pub lies : Lies (p .body) s
+  pub lies : InSheet s p
   pub stands : Stands s t c′
   pub is : L c ≡ holding s p ∷ L c′
 

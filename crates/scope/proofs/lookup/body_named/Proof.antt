@@ -1,0 +1,31 @@
+-- `lookup::body_named` meets its contract.
+-- Assumes nothing.
+use Prim.Native.Nat.{_-_}
+use Rattle.field.specs.declared.Leaf.the-variants.{Not}
+use Rattle.scope.specs.inner.Steps.{tellsLeaf, firstOf, bodyAt}
+use Rattle.field.proofs.Seek.{Seeking}
+use Rattle.scope.proofs.LookupLaws.{body-named-laws}
+use borrow.Author.Needs.{needs}
+use Rattle.scope.proofs.lookup.body_named.Statement.{statement}
+use Rattle.scope.proofs.lookup.body_named.Tie as tie
+
+abbrev Inv-loop : tie.InvT-loop
+Inv-loop s want name end at₀ at = Seeking Not (firstOf tellsLeaf) (bodyAt want name s) s at₀ end at
+
+abbrev μ-loop : tie.MeasureT-loop
+μ-loop s want name end at₀ at = end - at
+
+pub body-named-spec : {M : Type 1} → statement M
+body-named-spec = tie.close (tie.spec Inv-loop μ-loop
+    (λ c. search (needs, body-named-laws))
+    (λ c κs. search (needs, body-named-laws))
+    (λ c. search (needs, body-named-laws))
+    (λ c. search (needs, body-named-laws))
+    (λ c. search (needs, body-named-laws))
+    (λ c κs. search (needs, body-named-laws))
+    (λ c. search (needs, body-named-laws))
+    (λ c. search (needs, body-named-laws))
+    (λ c. search (needs, body-named-laws))
+    (λ c. search (needs, body-named-laws))
+    (λ c. search (needs, body-named-laws))
+    (λ c. search (needs, body-named-laws)))
