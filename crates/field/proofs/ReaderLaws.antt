@@ -3,7 +3,7 @@
 --   Ahead at end from to <-> the payload from..to starts further on than `at`, is in order, and lies inside: at < from ≤ to ≤ end
 --             Reads next <-> so does each whole field that `next` gives at a place, up to an end
 --
--- The laws, of a whole field that was read at `at` and has the payload a..e, which is where the next place is:
+-- The laws, of a whole field that was read at the place `at` and whose payload is a..e, so that e is the next place:
 --    reads-ahead  the three facts
 --  reads-ordered  the payload ends no earlier than it starts
 --   reads-inside  it ends no later than `end`

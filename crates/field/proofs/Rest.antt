@@ -10,6 +10,7 @@
 --                    rest-cut  where no whole field stands, v is what F gives of a cut
 --                   rest-step  where one stands, v is what F gives of it and of the fields from its end on
 --                   rest-next  so v is what G gives of the fields from its end on, if F is G there
+-- A search does not put `Rest` together from its parts: each loop states its own start, by `rest-start`.
 --
 -- Assumes nothing.
 use mathlib.Core.Path.{_≡_, refl, ap, _∙_}

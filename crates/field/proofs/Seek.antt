@@ -2,7 +2,7 @@
 -- `none` where that is nothing. `or` takes the first of two answers that is something.
 --
 --                       seek none or f w ==  the first answer of the fields w
---   SeekingBy next none or f s from to i <-> at the place i, the first answer of the fields that `next` gives from..to is that of those left
+--   SeekingBy next none or f s from to i <-> at the place i, the fields that are left have the first answer of all that `next` gives
 --          Seeking none or f s from to i <-> so it is for the reader `fieldAt`
 --
 -- The laws:
