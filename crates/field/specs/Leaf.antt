@@ -2,7 +2,7 @@
 --
 --                 span a e ==  the span from the place a up to the place e
 --                 text s p ==  the bytes of a span
---               isText s t p <=> the bytes of the span p of s are the text t
+--             isText s t p <=> the bytes of the span p of s are the text t
 --                 Lies p s <-> the span is one of s: it ends no earlier than it starts, and no later than s does
 --              anyBytes bs <=> nothing is asked of the bytes
 --              ofSize n bs <=> there are n bytes

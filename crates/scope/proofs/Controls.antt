@@ -6,7 +6,7 @@ use mathlib.Core.List.{List, [], _∷_, map}
 use mathlib.Core.Option.{Option, none, some}
 use Prim.Native.Nat.{ℕ}
 use Rattle.basis.specs.First.{given}
-use Rattle.sheet.specs.Table.{extensionTag, fieldTag}
+use Rattle.sheet.specs.Table.{messageTag, extensionTag, fieldTag}
 use Rattle.sheet.specs.Members.{Enumeration}
 use Rattle.scope.specs.Scope.{Scope, down, declarationNamed, enumNamed, valueNamed}
 use Rattle.scope.proofs.Sample.{sheet, file, inM, inN, declares}
@@ -31,11 +31,11 @@ extensions : map (λ n. declares (declarationNamed extensionTag sheet (n ∷ [])
 unfolding file
 extensions = refl
 
--- of M: x as an extension, the first f, and x, which is no field
+-- of M: x as an extension, the first f, and x, which is no field; and its message N, whose tag is of no declaration
 members : map declares
     (inM (declarationNamed extensionTag sheet (120 ∷ [])) ∷ inM (declarationNamed fieldTag sheet (102 ∷ []))
-    ∷ inM (declarationNamed fieldTag sheet (120 ∷ [])) ∷ [])
-    ≡ (20 ∷ 7 ∷ []) ∷ (48 ∷ 5 ∷ []) ∷ [] ∷ []
+    ∷ inM (declarationNamed fieldTag sheet (120 ∷ [])) ∷ inM (declarationNamed messageTag sheet (78 ∷ [])) ∷ [])
+    ≡ (20 ∷ 7 ∷ []) ∷ (48 ∷ 5 ∷ []) ∷ [] ∷ [] ∷ []
 unfolding file
 members = refl
 

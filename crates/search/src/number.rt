@@ -97,16 +97,11 @@ fn extension_in_item(
     let Leaf::At { from: _, to: body } = field::leaf_at(s, item.from, end, table::NAME) else {
         return Declared::NoDeclaration;
     };
-    extension_in_items(
-        s,
-        Span {
-            from: body,
-            to: end,
-        },
-        left - 1,
-        message,
-        number,
-    )
+    let inside = Span {
+        from: body,
+        to: end,
+    };
+    extension_in_items(s, inside, left - 1, message, number)
 }
 
 // The first one in what a scope holds.
@@ -143,16 +138,11 @@ fn extension_in_file(s: &[u8], tag: u8, item: Span, message: &[u8], number: u32)
     let Leaf::At { from: _, to: body } = field::leaf_at(s, item.from, end, table::PACKAGE) else {
         return Declared::NoDeclaration;
     };
-    extension_in_items(
-        s,
-        Span {
-            from: body,
-            to: end,
-        },
-        MOST_MESSAGES,
-        message,
-        number,
-    )
+    let inside = Span {
+        from: body,
+        to: end,
+    };
+    extension_in_items(s, inside, MOST_MESSAGES, message, number)
 }
 
 // The first extension of that message and number, wherever the sheet declares it.
