@@ -1,5 +1,5 @@
--- A loop that writes elements as it goes, and a public call that runs it twice: once over nothing, to measure, and once over the lent memory.
--- One set of laws for elements of any type.
+-- A loop that writes elements as it goes, and a public call that runs it twice: once over nothing, to measure, and once over the lent
+-- memory. One set of laws for elements of any type.
 -- Assumes nothing.
 use mathlib.Core.Path.{_≡_, refl, sym, ap, _∙_}
 use mathlib.Core.List.{List, [], _∷_, _++_, append-nil}

@@ -131,7 +131,8 @@ module _ (k : ℕ) (ws : List ℤ) (o : length ws % 2 ≡ 1 → ⊥) where
   unfolding lowerRanges
   ranges-left g h = simp (lowerRanges, le-ltb _ _ g, le-ltb _ _ h, ne-eqb _ _ o)
 
-pub ranges-fit : (k : ℕ) (ws z z′ : List ℤ) (p : Put) (n : ℕ) → Puts (pairs k ws) 0 z z′ p → p ≡ Wrote n → length ws ≤ mostWords → Fits w32 n
+pub ranges-fit : (k : ℕ) (ws z z′ : List ℤ) (p : Put) (n : ℕ)
+    → Puts (pairs k ws) 0 z z′ p → p ≡ Wrote n → length ws ≤ mostWords → Fits w32 n
 ranges-fit k ws z z′ p n u e h =
     let g = put-wrote n u e in
     record { fits = omega (arith, pairs-length k ws (g .elements) (g .is), g .laid .next) }

@@ -1,4 +1,4 @@
--- `reply::give_words` meets its contract, by its loop's invariant and laws.
+-- `emit::give_words` meets its contract, by its loop's invariant and laws.
 -- Assumes nothing.
 use Prim.Native.Nat.{_-_}
 use lib.ListN.{length}
