@@ -16,11 +16,10 @@
 --         parent p ==  p without its last component
 --           last p ==  its last component, the empty name where there is none
 --   namesFrom t at ==  the pieces of t from the place `at` on; none where that is past the end
---      ancestors p ==  p and its parents, the longest first, the empty one last
 --
 -- Assumes nothing.
 use mathlib.Core.Bool.{Bool, true, false, _&&_}
-use mathlib.Core.List.{List, [], _∷_, _++_, map}
+use mathlib.Core.List.{List, [], _∷_, _++_}
 use Prim.Native.Nat.{ℕ}
 use lib.Dec.{leb, eqb}
 use lib.ListN.{length, drop}
@@ -94,7 +93,3 @@ last (n ∷ m ∷ ns) = last (m ∷ ns)
 
 unfoldable pub namesFrom : List ℕ → ℕ → Path
 namesFrom t at = elim (leb at (length t)) [ true ↦ split (drop at t) | false ↦ [] ]
-
-unfoldable pub ancestors : Path → List Path
-ancestors [] = [] ∷ []
-ancestors (n ∷ ns) = map (λ (p : Path). n ∷ p) (ancestors ns) ++ ([] ∷ [])
