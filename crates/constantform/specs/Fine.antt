@@ -25,13 +25,13 @@ use Rattle.request.specs.Table.{pairFieldTag, pairExtensionTag, pairUrlTag, lis
 use Rattle.request.specs.Tree.{PairName, unnamed, byField, byExtension, byUrl, Constants, none, scalar, message, list}
 use Rattle.constantform.specs.Leaves.{isUrl}
 
-abbrev pub goodName : List ℕ → PairName → Bool
+abbrev pub goodName : (s : List ℕ) → PairName → Bool
 goodName s unnamed = true
 goodName s (byField p) = isIdent (text s p)
 goodName s (byExtension p) = isRelPath (text s p)
 goodName s (byUrl p) = isUrl (text s p)
 
-abbrev pub goodValue : List ℕ → Constant → Bool
+abbrev pub goodValue : (s : List ℕ) → Constant → Bool
 goodValue s (BoolOf b) = true
 goodValue s (Integer m n) = true
 goodValue s (Float x) = true
@@ -41,7 +41,7 @@ goodValue s (Ident p) = isIdent (text s p)
 goodValue s (Message p) = false
 goodValue s (ListOf p) = false
 
-abbrev pub goodConstants : List ℕ → Constants → Bool
+abbrev pub goodConstants : (s : List ℕ) → Constants → Bool
 goodConstants s none = true
 goodConstants s (scalar l c r) = goodName s l && goodValue s c && goodConstants s r
 goodConstants s (message l i r) = goodName s l && goodConstants s i && goodConstants s r
@@ -54,7 +54,7 @@ countOf (message l i r) = 1 + countOf r
 countOf (list l i r) = 1 + countOf r
 
 -- the tree has an integer's sign, not which of the two tags it had
-abbrev pub kindOf : ℕ → ℕ
+abbrev pub kindOf : (tag : ℕ) → ℕ
 kindOf t = elim (eqb t signedTag) [ true ↦ unsignedTag | false ↦ t ]
 
 abbrev pub constantTag : Constant → ℕ
@@ -67,7 +67,7 @@ constantTag (Ident p) = identTag
 constantTag (Message p) = messageConstantTag
 constantTag (ListOf p) = listTag
 
-abbrev pub withName : PairName → List ℕ → List ℕ
+abbrev pub withName : PairName → (tags : List ℕ) → List ℕ
 withName unnamed r = r
 withName (byField p) r = pairFieldTag ∷ r
 withName (byExtension p) r = pairExtensionTag ∷ r

@@ -27,7 +27,7 @@ abbrev pub badRequest : Verdict
 badRequest = Refused BadRequest
 
 -- "26 message, pairs of a name .. and a constant"
-abbrev pub pairsOf : (ℕ → ℕ → ℕ → Verdict) → List ℕ → Walk → Verdict
+abbrev pub pairsOf : (inner : (tag from to : ℕ) → Verdict) (s : List ℕ) → Walk → Verdict
 pairsOf inner s done = Fine
 pairsOf inner s cut = badRequest
 pairsOf inner s (step t a e done) = badRequest
@@ -35,19 +35,19 @@ pairsOf inner s (step t a e cut) = badRequest
 pairsOf inner s (step t a e (step k b f w)) =
     firstFault (judged BadRequest (goodPairName t (part s a e))) (firstFault (inner k b f) (pairsOf inner s w))
 
-abbrev pub constantWith : (ℕ → ℕ → ℕ → Verdict) → List ℕ → ℕ → ℕ → ℕ → Verdict
+abbrev pub constantWith : (inner : (tag from to : ℕ) → Verdict) (s : List ℕ) (tag from to : ℕ) → Verdict
 constantWith inner s t a e = elim (eqb t messageConstantTag) [
   | true ↦ pairsOf inner s (walk s a e)
   | false ↦ elim (eqb t listTag) [ true ↦ each BadRequest inner (walk s a e) | false ↦ judged BadRequest (goodScalar t (part s a e)) ]
 ]
 
 -- "constants of any kind nested 16 deep"; "The outermost .. constant is depth 1"; scalars count too, and a wrong tag is form at any depth
-abbrev pub judgeConstant : ℕ → List ℕ → ℕ → ℕ → ℕ → Verdict
+abbrev pub judgeConstant : (left : ℕ) (s : List ℕ) (tag from to : ℕ) → Verdict
 judgeConstant zero s t a e = elim (isConstant t) [ true ↦ beyond | false ↦ badRequest ]
 judgeConstant (suc d) s t a e = elim (isConstant t) [ true ↦ constantWith (judgeConstant d s) s t a e | false ↦ badRequest ]
 
-unfoldable pub judgeElements : ℕ → List ℕ → ℕ → ℕ → Verdict
+unfoldable pub judgeElements : (left : ℕ) (s : List ℕ) (from to : ℕ) → Verdict
 judgeElements d s a e = each BadRequest (judgeConstant d s) (walk s a e)
 
-unfoldable pub judgePairs : ℕ → List ℕ → ℕ → ℕ → Verdict
+unfoldable pub judgePairs : (left : ℕ) (s : List ℕ) (from to : ℕ) → Verdict
 judgePairs d s a e = pairsOf (judgeConstant d s) s (walk s a e)

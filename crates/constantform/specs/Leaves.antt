@@ -21,7 +21,7 @@ use Rattle.request.specs.Table.{boolTag, unsignedTag, signedTag, floatTag, stri
 use Rattle.request.specs.Table.{pairFieldTag, pairExtensionTag, pairUrlTag, listTag}
 
 -- 20 to 26, and 2A
-unfoldable pub isConstant : ℕ → Bool
+unfoldable pub isConstant : (tag : ℕ) → Bool
 isConstant t = leb boolTag t && leb t messageConstantTag || eqb t listTag
 
 -- "20 bool (one byte, 0 or 1)"
@@ -33,7 +33,7 @@ unfoldable pub isUrl : List ℕ → Bool
 isUrl bs = leb 1 (length bs) && leb (length bs) mostUrl
 
 -- "21 unsigned, 22 signed (8 bytes each); 23 a float constant, eight bytes, its f64 bits; 24 string, already unescaped; 25 identifier"
-unfoldable pub goodScalar : ℕ → List ℕ → Bool
+unfoldable pub goodScalar : (tag : ℕ) (bytes : List ℕ) → Bool
 goodScalar t bs = elim (eqb t boolTag) [
   | true ↦ isBool bs
   | false ↦ elim (eqb t stringTag) [
@@ -46,7 +46,7 @@ goodScalar t bs = elim (eqb t boolTag) [
 ]
 
 -- "a name (27 field, 28 extension path, 29 type URL ..)"; "only 1B may lead with a dot"
-unfoldable pub goodPairName : ℕ → List ℕ → Bool
+unfoldable pub goodPairName : (tag : ℕ) (bytes : List ℕ) → Bool
 goodPairName t bs = elim (eqb t pairFieldTag) [
   | true ↦ isIdent bs
   | false ↦ elim (eqb t pairExtensionTag) [
@@ -56,5 +56,5 @@ goodPairName t bs = elim (eqb t pairFieldTag) [
 ]
 
 -- "1A direct part, 1B extension part"
-unfoldable pub goodPart : Bool → List ℕ → Bool
+unfoldable pub goodPart : (extension : Bool) (bytes : List ℕ) → Bool
 goodPart extension bs = elim extension [ true ↦ isPath bs | false ↦ isIdent bs ]

@@ -1,12 +1,12 @@
 -- The verdict of an enum, of a message, and of what a file or a message holds: 01, Replies, "the first fault from the front (a container
 -- holds its children's faults; a limit is a fault where it is passed)".
 --
---                       badSheet == a fault of form
---             judgeValue s t a e == one field of an enum, after its name
---                judgeEnum s a e == an enum
+--                         badSheet == a fault of form
+--               judgeValue s t a e == one field of an enum, after its name
+--                  judgeEnum s a e == an enum
 --   judgeItem inner fields s t a e == one field of a file or, where `fields` holds, of a message; `inner` judges a message
---           judgeMessage d s a e == a message, with d levels of messages left
---      judgeItems d fields s a e == what a file holds after its package, or a message after its name, with d levels left
+--             judgeMessage d s a e == a message, with d levels of messages left
+--        judgeItems d fields s a e == what a file holds after its package, or a message after its name, with d levels left
 --
 -- Assumes nothing.
 use mathlib.Core.Bool.{Bool, true, false}

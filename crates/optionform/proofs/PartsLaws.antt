@@ -3,7 +3,7 @@
 -- Assumes nothing.
 use mathlib.Core.Path.{_≡_, sym, ap, subst, _∙_}
 use mathlib.Core.Bool.{true, false, and-eq-true-iff}
-use mathlib.Core.List.{List, _∷_}
+use mathlib.Core.List.{List}
 use Prim.Native.Nat.{ℕ, _≤_}
 use native.Mathlib.Omega.{arith}
 use lib.ListN.{length}
@@ -22,12 +22,14 @@ use Rattle.optionform.specs.inner.Parts.{FineParts}
 
 module _ (after : ℕ → ℕ → Type 0) (s : List ℕ) (at end : ℕ) (k : FineParts after s at end) (r : Parted) (q : r ≡ partAt s at end) where
   module _ (p : Part) (g : r ≡ Is p) where
-    opened : goodParts s (p ∷ partsIn (walk s (p .name .to) end)) ≡ true
-    opened = ap (goodParts s) (sym (parts-cons s at end r q p g)) ∙ k .good
+    opened : (goodPart (p .extension) (text s (p .name)) ≡ true) × (goodParts s (partsIn (walk s (p .name .to) end)) ≡ true)
+    opened =
+        and-eq-true-iff (goodPart (p .extension) (text s (p .name))) (goodParts s (partsIn (walk s (p .name .to) end)))
+        .0 (ap (goodParts s) (sym (parts-cons s at end r q p g)) ∙ k .good)
 
     -- A part of a fine name is what 01 allows,
     pub fine-part : goodPart (p .extension) (text s (p .name)) ≡ true
-    fine-part = and-eq-true-iff _ _ .0 opened .0
+    fine-part = opened .0
 
     -- a direct part an identifier,
     pub fine-part-ident : p .extension ≡ false → isIdent (text s (p .name)) ≡ true
@@ -43,7 +45,7 @@ module _ (after : ℕ → ℕ → Type 0) (s : List ℕ) (at end : ℕ) (k : Fin
     pub fine-part-next : FineParts after s (p .name .to) end
     fine-part-next =
         record {
-          good = and-eq-true-iff _ _ .0 opened .1;
+          good = opened .1;
           follows = subst (λ (x : ℕ). after x end) (after-parts-next s at end r q p g) (k .follows);
         }
 

@@ -16,12 +16,12 @@ use Rattle.request.specs.Request.{Option}
 use Rattle.constantform.specs.Leaves.{goodPart}
 use Rattle.constantform.specs.Fine.{countOf, goodConstants}
 
-abbrev pub goodParts : List ℕ → List Part → Bool
+abbrev pub goodParts : (s : List ℕ) → List Part → Bool
 goodParts s [] = true
 goodParts s (p ∷ ps) = goodPart (p .extension) (text s (p .name)) && goodParts s ps
 
 -- "one or more of 1A direct part, 1B extension part; one constant"; "16 parts a name"
-abbrev pub goodOption : List ℕ → Option → Bool
+abbrev pub goodOption : (s : List ℕ) → Option → Bool
 goodOption s o =
     leb 1 (length (o .parts)) && leb (length (o .parts)) mostParts && goodParts s (o .parts) && eqb (countOf (o .constant)) 1
     && goodConstants s (o .constant)

@@ -33,32 +33,32 @@ use Rattle.optionform.specs.declared.Parts.{Parts}
 use Rattle.optionform.specs.declared.Parts.the-variants.{After, Refuses}
 
 -- "16 parts a name"
-abbrev pub nextPart : List ℕ → ℕ → ℕ → Parted → Parts → Parts
+abbrev pub nextPart : (s : List ℕ) (before at : ℕ) → Parted → (rest : Parts) → Parts
 nextPart s n at NoPart rest = After at
 nextPart s n at (Is p) rest = elim (ltb n mostParts) [
   | true ↦ elim (goodPart (p .extension) (text s (p .name))) [ true ↦ rest | false ↦ Refuses BadRequest ]
   | false ↦ Refuses BeyondLimit
 ]
 
-abbrev pub partsFrom : List ℕ → ℕ → ℕ → Walk → Parts
+abbrev pub partsFrom : (s : List ℕ) (before at : ℕ) → Walk → Parts
 partsFrom s n at done = After at
 partsFrom s n at cut = After at
 partsFrom s n at (step t a e w) = nextPart s n at (partOf t a e) (partsFrom s (n + 1) e w)
 
-abbrev pub lastField : List ℕ → ℕ → Field → Verdict
+abbrev pub lastField : (s : List ℕ) (end : ℕ) → Field → Verdict
 lastField s end Cut = badRequest
 lastField s end (Whole t a e) = firstFault (judgeConstant mostConstants s t a e) (judged BadRequest (eqb e end))
 
-unfoldable pub judgeLast : List ℕ → ℕ → ℕ → Verdict
+unfoldable pub judgeLast : (s : List ℕ) (at end : ℕ) → Verdict
 judgeLast s at end = lastField s end (fieldAt s at end)
 
 -- tag 08: "one or more of 1A direct part, 1B extension part; one constant"
-abbrev pub afterName : List ℕ → ℕ → ℕ → Parts → Verdict
+abbrev pub afterName : (s : List ℕ) (from to : ℕ) → Parts → Verdict
 afterName s a e (Refuses w) = Refused w
 afterName s a e (After at) = elim (eqb at a) [ true ↦ badRequest | false ↦ judgeLast s at e ]
 
 -- "at most 128 options in a request"
-unfoldable pub judgeOption : List ℕ → ℕ → ℕ → ℕ → ℕ → Verdict
+unfoldable pub judgeOption : (s : List ℕ) (index tag from to : ℕ) → Verdict
 judgeOption s i t a e = elim (eqb t optionTag) [
   | true ↦ elim (ltb i mostOptions) [ true ↦ afterName s a e (partsFrom s 0 a (walk s a e)) | false ↦ beyond ]
   | false ↦ badRequest

@@ -7,7 +7,8 @@ use Prim.Native.Nat.{ℕ}
 use lib.ListN.{length, replicate}
 use Rattle.path.specs.Ident.{isLetter, isDigit, allWord, isIdent}
 use Rattle.path.specs.Path.{Name, dot, onFirst, split, components, spell, allIdent, isRelPath, isRelOrEmpty}
-use Rattle.path.specs.Path.{rootless, isPath, parent, last, namesFrom}
+use Rattle.path.specs.Path.{rootless, isPath, parent, last}
+use Rattle.path.specs.inner.Places.{namesFrom}
 
 abbrev a : Name
 a = 97 ∷ []

@@ -10,7 +10,8 @@ use lib.Dec.{leb}
 use lib.ListN.{length, getD, take, drop, length-append}
 use Rattle.limits.specs.Figures.{mostPath}
 use Rattle.path.specs.Ident.{isIdent}
-use Rattle.path.specs.Path.{Name, Path, dot, untilDot, split, components, spell, allIdent, isRelOrEmpty}
+use Rattle.path.specs.Path.{Name, Path, dot, split, components, spell, allIdent, isRelOrEmpty}
+use Rattle.path.specs.inner.Places.{untilDot}
 use Rattle.path.specs.Path.{rootless, isPath, parent, last}
 pub use Rattle.path.proofs.IdentLaws.{ident-dotless, ident-some}
 use Rattle.path.proofs.Pieces.{text, piece-length-le, piece-take, piece-dotless, piece-dot, piece-last, piece-more}

@@ -10,7 +10,8 @@ use borrow.Author.Tests.{not-true, not-false}
 use lib.ListN.{length, getD, take, drop, drop-of-length-le, take-append-drop}
 use lib.Seq.{drop-cons, drop-length, take-take, take-length, length-take-le}
 use Rattle.path.specs.Ident.{isIdent}
-use Rattle.path.specs.Path.{dot, untilDot, split, components, spell, allIdent, parent}
+use Rattle.path.specs.Path.{dot, split, components, spell, allIdent, parent}
+use Rattle.path.specs.inner.Places.{untilDot}
 use Rattle.path.specs.inner.Last.{LastAt}
 use Rattle.path.proofs.Pieces.{text, until-other, headed}
 use Rattle.path.proofs.PathLaws.{spell-split, components-nil, components-split, components-snoc}

@@ -177,7 +177,7 @@ module _ (s : List ℕ) where
   name-opened : (v : Parts) → v ≡ partsFrom s 0 0 (walk s 0 (length s)) → wholeName (length s) v ≡ Fine → FineName s
   name-opened (Refuses w) q p = absurd (refused-fine w p)
   name-opened (After x) q p =
-      let b = and-eq-true-iff _ _ .0 (judged-fine BadRequest (not (eqb x 0) && eqb x (length s)) p) in
+      let b = and-eq-true-iff (not (eqb x 0)) (eqb x (length s)) .0 (judged-fine BadRequest (not (eqb x 0) && eqb x (length s)) p) in
       record {
         place = x;
         parts = parts-fine s x (walk s 0 (length s)) 0 0 (omega arith) (sym q);

@@ -12,9 +12,9 @@ use Rattle.field.specs.Leaf.{text}
 use Rattle.request.specs.Request.{Option, Request}
 use Rattle.optionform.specs.Fine.{goodOption}
 
-abbrev pub goodOptions : List ℕ → List Option → Bool
+abbrev pub goodOptions : (s : List ℕ) → List Option → Bool
 goodOptions s [] = true
 goodOptions s (o ∷ os) = goodOption s o && goodOptions s os
 
-abbrev pub goodRequest : List ℕ → Request → Bool
+abbrev pub goodRequest : (s : List ℕ) → Request → Bool
 goodRequest s q = isRelOrEmpty (text s (q .scope)) && isRelPath (text s (q .optionsType)) && goodOptions s (q .options)

@@ -30,11 +30,11 @@ use Rattle.optionform.specs.declared.Parts.{Parts}
 use Rattle.optionform.specs.declared.Parts.the-variants.{After, Refuses}
 use Rattle.optionform.specs.Form.{partsFrom, judgeOption}
 
-unfoldable pub judgeOptions : List ℕ → ℕ → ℕ → Verdict
+unfoldable pub judgeOptions : (s : List ℕ) (from to : ℕ) → Verdict
 judgeOptions s a e = eachFrom BadRequest (judgeOption s) 0 (walk s a e)
 
 -- a request: "18 scope, 19 options type path, then 08 options"; "request 8,192 bytes"
-unfoldable pub judgeRequest : List ℕ → Verdict
+unfoldable pub judgeRequest : (s : List ℕ) → Verdict
 judgeRequest s = elim (ltb mostRequest (length s)) [
   | true ↦ beyond
   | false ↦
@@ -44,18 +44,18 @@ judgeRequest s = elim (ltb mostRequest (length s)) [
 ]
 
 -- "Value query: .. a name as in 08"
-abbrev pub wholeName : ℕ → Parts → Verdict
+abbrev pub wholeName : (size : ℕ) → Parts → Verdict
 wholeName n (Refuses w) = Refused w
 wholeName n (After at) = judged BadRequest (not (eqb at 0) && eqb at n)
 
-unfoldable pub judgeName : List ℕ → Verdict
+unfoldable pub judgeName : (s : List ℕ) → Verdict
 judgeName s = wholeName (length s) (partsFrom s 0 0 (walk s 0 (length s)))
 
-unfoldable pub judgeScope : List ℕ → Verdict
+unfoldable pub judgeScope : (text : List ℕ) → Verdict
 judgeScope t = judged BadRequest (isRelOrEmpty t)
 
-unfoldable pub judgeOptionsType : List ℕ → Verdict
+unfoldable pub judgeOptionsType : (text : List ℕ) → Verdict
 judgeOptionsType t = judged BadRequest (isRelPath t)
 
-unfoldable pub judgePath : List ℕ → Verdict
+unfoldable pub judgePath : (text : List ℕ) → Verdict
 judgePath t = judged BadRequest (isPath t)

@@ -33,9 +33,9 @@ judgeFile s i t a e = elim (eqb t fileTag) [
 ]
 
 -- "A sheet is files or none"
-unfoldable pub judgeFiles : List ℕ → Verdict
+unfoldable pub judgeFiles : (s : List ℕ) → Verdict
 judgeFiles s = eachFrom BadSheet (judgeFile s) 0 (walk s 0 (length s))
 
 -- "sheet 32,768 bytes"
-unfoldable pub judgeSheet : List ℕ → Verdict
+unfoldable pub judgeSheet : (s : List ℕ) → Verdict
 judgeSheet s = elim (ltb mostSheet (length s)) [ true ↦ beyond | false ↦ judgeFiles s ]

@@ -2,9 +2,9 @@
 ghost use Prim.Native.Nat.{_≤_};
 use crate::begins;
 use crate::told;
-use limits::MOST_CANDIDATE;
 use candidates::protobuf_path::candidate;
 use candidates::protobuf_path::candidates;
+use limits::MOST_CANDIDATE;
 
 // Whether the i-th candidate of a name in a scope is this one; a candidate is put together in a lent buffer.
 fn spelled(scope: &[u8], name: &[u8], i: usize, out: &mut [u8], want: &[u8]) -> bool {

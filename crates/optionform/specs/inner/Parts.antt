@@ -1,9 +1,9 @@
 -- What a walk over the parts of a name carries: from this place on stand good parts, and then what follows them.
 --
---   LastConstant s at end <-> the field at a place is a fine constant, and it ends at `end`
---   FineParts after s at end <-> from the place `at` on every part is what 01 allows, and `after` holds of the place where they end and `end`
---    OptionParts s at end <-> so it is, and the parts are followed by an option's constant
---      NameParts s at end <-> so it is, and the parts are followed by nothing
+--      LastConstant s at end <-> the field at a place is a fine constant, and it ends at `end`
+--   FineParts after s at end <-> the parts from the place `at` on are what 01 allows, and `after` holds of the place where they end
+--       OptionParts s at end <-> so it is, and the parts are followed by an option's constant
+--         NameParts s at end <-> so it is, and the parts are followed by nothing
 --
 -- Assumes nothing.
 use mathlib.Core.Path.{_≡_}

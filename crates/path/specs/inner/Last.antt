@@ -7,7 +7,8 @@ use mathlib.Core.Path.{_≡_}
 use mathlib.Core.List.{List}
 use Prim.Native.Nat.{ℕ, _-_, _≤_}
 use lib.ListN.{length, take, drop}
-use Rattle.path.specs.Path.{components, parent, last, namesFrom}
+use Rattle.path.specs.Path.{components, parent, last}
+use Rattle.path.specs.inner.Places.{namesFrom}
 
 -- where r is 0 there is no dot before it, and `1 - r` is past the end of the empty text
 pub record LastAt (t : List ℕ) (r : ℕ) : Type 0 where
