@@ -33,7 +33,8 @@ use Rattle.request.specs.declared.constant.Held.the-variants.{Holds}
 use Rattle.request.specs.Table.{boolTag, unsignedTag, signedTag, floatTag, stringTag, identTag, messageConstantTag, listTag}
 use Rattle.request.specs.Table.{pairFieldTag, pairExtensionTag, pairUrlTag}
 use Rattle.request.specs.Constant.{integerOf, floatOf, isPairName, constantOf}
-use Rattle.request.specs.Tree.{PairName, unnamed, Constants, none, scalar, Reader, pairNameOf, elementsIn, pairsIn, grown, ifHeld, constantIn}
+use Rattle.request.specs.Tree.{PairName, unnamed, Constants, none, scalar, Reader, pairNameOf, elementsIn, pairsIn}
+use Rattle.request.specs.Tree.{grown, ifHeld, constantIn}
 use Rattle.request.proofs.ConstantLaws.{bool-is, number-unsigned, number-signed, number-float}
 use Rattle.constantform.specs.Leaves.{isConstant, isBool, goodScalar, goodPairName}
 use Rattle.reply.specs.Verdicts.{beyond}

@@ -1,5 +1,5 @@
--- The verdict of a constant: 01, Replies, "the first fault from the front (a container holds its children's faults; a limit is a fault where
--- it is passed)".
+-- The verdict of a constant: 01, Replies, "the first fault from the front (a container holds its children's faults; a limit is a fault
+-- where it is passed)".
 --
 --                   badRequest == a fault of form
 --            pairsOf inner s w == the pairs among the fields w, `inner` judging a constant

@@ -15,7 +15,8 @@ use Rattle.request.specs.declared.name.Part.{Part}
 use Rattle.request.specs.declared.name.Parted.{Parted}
 use Rattle.request.specs.declared.name.Parted.the-variants.{Is, NoPart}
 use Rattle.request.specs.Name.{partAt, partsIn}
-use Rattle.request.proofs.PartLaws.{parts-nil, parts-cons, after-parts-here, after-parts-next, part-ordered, part-within}
+use Rattle.request.proofs.PartLaws.{parts-nil, parts-cons, after-parts-here, after-parts-next, part-ordered, part-inside}
+use Rattle.request.proofs.PartLaws.{part-within, part-falls}
 use Rattle.constantform.specs.Leaves.{goodPart}
 use Rattle.optionform.specs.Fine.{goodParts}
 use Rattle.optionform.specs.inner.Parts.{FineParts}
@@ -57,4 +58,6 @@ module _ (after : ℕ → ℕ → Type 0) (s : List ℕ) (at end : ℕ) (k : Fin
 pub part-some : (s : List ℕ) (at end : ℕ) → 1 ≤ length (partsIn (walk s at end)) → (r : Parted) → r ≡ partAt s at end → r ≡ NoPart → ⊥
 part-some s at end h r q g = omega (arith, ap length (parts-nil s at end r q g))
 
-pub ruleset fine-part-laws = (fine-part, fine-part-ident, fine-part-path, fine-part-next, fine-part-last, part-ordered, part-within)
+-- what a walk has need of at each part: the laws above, where the part lies, and that what is left gets shorter
+pub ruleset fine-part-laws =
+    (fine-part, fine-part-ident, fine-part-path, fine-part-next, fine-part-last, part-ordered, part-inside, part-within, part-falls)

@@ -1,5 +1,5 @@
--- The laws of verdicts: the first fault is the answer, what `judge` returns, what a public call says, and what a verdict that is fine says of
--- its parts.
+-- The laws of verdicts: the first fault is the answer, what `judge` returns, what a public call says, and what a verdict that is fine says
+-- of its parts.
 -- Assumes nothing.
 use mathlib.Core.Path.{_≡_, refl, ap}
 use mathlib.Core.Bool.{Bool, true, false}

@@ -102,6 +102,10 @@ module _ (s : List ℕ) (at end : ℕ) (r : Parted) (q : r ≡ partAt s at end) 
   pub part-less : at < end → end - p .name .to < end - at
   part-less h = omega (arith, part-further)
 
+  -- a recursion's measure
+  pub part-falls : (n : ℕ) → end - at ≡ n → end - p .name .to < n
+  part-falls n h = omega (arith, part-further, part-inside)
+
   pub part-step : walk s at end ≡ step (part-field .tag) (p .name .from) (p .name .to) (walk s (p .name .to) end)
   part-step =
       let o : PartField s at end p = part-field in

@@ -1,7 +1,7 @@
 -- What a fine request's tree is like: every leaf is what 01 allows, and nothing is left out. The final statements stand at the end; what
--- they say of an option goes on in optionform/proofs/FineLaws.antt and PartsLaws.antt, of its constant in constantform/proofs/FineLaws.antt.
+-- they say of an option goes on in optionform/proofs (FineLaws, PartsLaws), of its constant in constantform/proofs (FineLaws).
 -- Assumes nothing.
-use mathlib.Core.Path.{_≡_, refl, sym, ap, _∙_}
+use mathlib.Core.Path.{_≡_, refl, sym, ap, subst, _∙_}
 use mathlib.Core.Bool.{Bool, true, false, false≢true, not, _&&_, and-eq-true-iff}
 use mathlib.Core.List.{List, [], _∷_}
 use Prim.Native.Nat.{ℕ, suc, _+_, _≤_, _<_}
@@ -113,7 +113,8 @@ module _ (s : List ℕ) where
   request-fine = go (ltb mostRequest (length s))
     where
       typed : ℕ → ℕ → Verdict
-      typed a types = onLeaf badRequest (leafAt optionsTypeTag isRelPath s types (length s)) (λ m options. judgeOptions s options (length s))
+      typed a types =
+          onLeaf badRequest (leafAt optionsTypeTag isRelPath s types (length s)) (λ m options. judgeOptions s options (length s))
 
       go : (b : Bool) → elim b [ true ↦ beyond | false ↦ onLeaf badRequest (leafAt scopeTag isRelOrEmpty s 0 (length s)) typed ] ≡ Fine
           → FineRequest s
@@ -146,6 +147,26 @@ unfolding requestOf
 fine-options s p r q =
     let f = request-fine s p in
     record { heading = f .heading; heads = q ∙ f .heads; fine = f .fine; whole = rw (f .heads) (f .options .whole) }
+
+module _ (s : List ℕ) (p : judgeRequest s ≡ Fine) (r : Headed) (q : r ≡ headingOf s) (h : Heading) (g : r ≡ Heads h) where
+  heading-same : request-fine s p .heading ≡ h
+  heading-same =
+      let e : Heads (request-fine s p .heading) ≡ Heads h = sym (request-fine s p .heads) ∙ sym q ∙ g in
+      cc
+
+  -- The scope of a fine request is a path or empty,
+  pub fine-scope : isRelOrEmpty (text s (h .scope)) ≡ true
+  fine-scope = subst (λ (x : Heading). isRelOrEmpty (text s (x .scope)) ≡ true) heading-same (request-fine s p .scope)
+
+  -- its options type a path,
+  pub fine-options-type : isRelPath (text s (h .«options_type»)) ≡ true
+  fine-options-type = subst (λ (x : Heading). isRelPath (text s (x .«options_type»)) ≡ true) heading-same (request-fine s p .optionsType)
+
+  -- and every field behind them is fine.
+  pub fine-options-start : eachFrom BadRequest (judgeOption s) 0 (walk s (h .options) (length s)) ≡ Fine
+  fine-options-start =
+      subst (λ (x : Heading). eachFrom BadRequest (judgeOption s) 0 (walk s (x .options) (length s)) ≡ Fine) heading-same
+      (request-fine s p .fine)
 
 module _ (s : List ℕ) (n i to : ℕ) (p : eachFrom BadRequest (judgeOption s) n (walk s i to) ≡ Fine) (h : i < to)
     (r : Field) (q : r ≡ fieldAt s i to) (t a e : ℕ) (g : r ≡ Whole t a e) where

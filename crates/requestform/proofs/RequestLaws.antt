@@ -5,36 +5,36 @@ use mathlib.Core.Path.{_≡_}
 use mathlib.Core.Bool.{Bool, _&&_, not}
 use mathlib.Core.List.{List}
 use Prim.Native.Nat.{ℕ, _≤_, _<_, _+_, _-_}
+use native.Mathlib.Omega.{arith}
 use borrow.Author.Tests.{lt-ltb, le-ltb}
 use lib.ListN.{length}
+use lib.Dec.{eqb}
 use Rattle.limits.specs.Figures.{mostRequest}
 use Rattle.path.specs.Path.{isRelPath, isRelOrEmpty, isPath}
 use Rattle.reply.specs.declared.Refusal.the-variants.{BadRequest}
 use Rattle.reply.specs.declared.Verdict.{Verdict}
 use Rattle.reply.specs.Verdicts.{judged, beyond}
 use Rattle.reply.proofs.VerdictLaws.{says}
+use Rattle.reply.specs.declared.Refusal.{Refusal}
+use Rattle.reply.specs.declared.Verdict.the-variants.{Refused}
 use Rattle.field.specs.declared.Leaf.{Leaf}
 use Rattle.field.specs.declared.Leaf.the-variants.{At, Not}
 use Rattle.field.specs.Leaf.{leafAt}
 use Rattle.field.proofs.LeafLaws.{leaf-inside}
-use Rattle.request.specs.Table.{scopeTag, optionsTypeTag}
-use Rattle.constantform.specs.Form.{badRequest}
-use Rattle.requestform.specs.Form.{judgeOptions, judgeRequest, judgeScope, judgeOptionsType, judgePath, judgeName}
-use native.Mathlib.Omega.{arith}
-use lib.Dec.{eqb}
-use Rattle.reply.specs.declared.Refusal.{Refusal}
-use Rattle.reply.specs.declared.Verdict.the-variants.{Refused}
 use Rattle.field.specs.declared.Field.{Field}
 use Rattle.field.specs.declared.Field.the-variants.{Whole}
 use Rattle.field.specs.Field.{fieldAt}
 use Rattle.field.specs.Walk.{walk}
-use Rattle.form.specs.Each.{eachFrom}
 use Rattle.field.proofs.FieldLaws.{field-bounds, field-ordered}
 use Rattle.field.proofs.Rest.{Rest, rest-start}
+use Rattle.form.specs.Each.{eachFrom}
 use Rattle.form.proofs.EachLaws.{each-from-laws}
+use Rattle.request.specs.Table.{scopeTag, optionsTypeTag}
+use Rattle.constantform.specs.Form.{badRequest}
 use Rattle.optionform.specs.declared.Parts.{Parts}
 use Rattle.optionform.specs.declared.Parts.the-variants.{After, Refuses}
 use Rattle.optionform.specs.Form.{partsFrom, judgeOption}
+use Rattle.requestform.specs.Form.{judgeOptions, judgeRequest, judgeScope, judgeOptionsType, judgePath, judgeName}
 
 -- ---- check_options
 pub options-start : (s : List ℕ) (from to : ℕ) → from ≤ to → to ≤ length s

@@ -23,9 +23,9 @@ use Rattle.sheetform.specs.Form.{judgeFile, judgeFiles, judgeSheet}
 
 -- a sheet's verdict, with all that it is computed by
 verdict : List ℕ → Verdict
-unfolding judgeSheet judgeFiles judgeFile judgeItems judgeItem judgeEnum judgeValue isExtension isField isValue goodField goodShape goodTypePath extensionAt
-    messageFieldAt valueAt shapeAt typePathAt hasTypePath leafAt walk fieldAt bigAt isRelOrEmpty isRelPath allIdent components split
-    onFirst isIdent isLetter isDigit allWord
+unfolding judgeSheet judgeFiles judgeFile judgeItems judgeItem judgeEnum judgeValue isExtension isField isValue goodField goodShape
+    goodTypePath extensionAt messageFieldAt valueAt shapeAt typePathAt hasTypePath leafAt walk fieldAt bigAt isRelOrEmpty isRelPath
+    allIdent components split onFirst isIdent isLetter isDigit allWord
 verdict = judgeSheet
 
 -- a field of less than 256 bytes
