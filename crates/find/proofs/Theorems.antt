@@ -7,7 +7,7 @@ use mathlib.Core.Option.{Option, none, some}
 use Prim.Native.Nat.{ℕ}
 use Rattle.basis.proofs.Never.{never}
 use Rattle.path.specs.Path.{Path, isPath}
-use Rattle.path.specs.Candidates.{candidates}
+use Rattle.candidates.specs.Candidates.{candidates}
 use Rattle.reply.specs.declared.Refusal.{Refusal}
 use Rattle.reply.specs.declared.Refusal.the-variants.{BadRequest, ExtensionNotFound}
 use Rattle.reply.specs.declared.Verdict.the-variants.{Fine, Refused as Bad}

@@ -12,12 +12,12 @@ use Rattle.reply.specs.declared.Verdict.the-variants.{Fine, Refused}
 use Rattle.reply.specs.Verdicts.{firstFault}
 use Rattle.field.specs.Walk.{Walk, done, cut, step}
 
-abbrev pub each : (bad : Refusal) (f : (tag from to : ℕ) → Verdict) (w : Walk) → Verdict
+abbrev pub each : (bad : Refusal) (judge : (tag from to : ℕ) → Verdict) → Walk → Verdict
 each bad f done = Fine
 each bad f cut = Refused bad
 each bad f (step t a e w) = firstFault (f t a e) (each bad f w)
 
-abbrev pub eachFrom : (bad : Refusal) (f : (index tag from to : ℕ) → Verdict) (n : ℕ) (w : Walk) → Verdict
+abbrev pub eachFrom : (bad : Refusal) (judge : (index tag from to : ℕ) → Verdict) (index : ℕ) → Walk → Verdict
 eachFrom bad f n done = Fine
 eachFrom bad f n cut = Refused bad
 eachFrom bad f n (step t a e w) = firstFault (f n t a e) (eachFrom bad f (n + 1) w)

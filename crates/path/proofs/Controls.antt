@@ -7,8 +7,8 @@ use Prim.Native.Nat.{ℕ}
 use lib.ListN.{length, replicate}
 use Rattle.path.specs.Ident.{isLetter, isDigit, allWord, isIdent}
 use Rattle.path.specs.Path.{Name, dot, onFirst, split, components, spell, allIdent, isRelPath, isRelOrEmpty}
-use Rattle.path.specs.Path.{isAbs, rootless, isPath, parent, last, namesFrom, ancestors}
-use Rattle.path.specs.Candidates.{candidates}
+use Rattle.path.specs.Path.{rootless, isPath, parent, last}
+use Rattle.path.specs.inner.Places.{namesFrom}
 
 abbrev a : Name
 a = 97 ∷ []
@@ -134,41 +134,3 @@ names-none = refl
 names-dot : map (namesFrom (dot ∷ b)) (0 ∷ 1 ∷ 2 ∷ 3 ∷ []) ≡ ([] ∷ b ∷ []) ∷ (b ∷ []) ∷ ([] ∷ []) ∷ [] ∷ []
 unfolding namesFrom split onFirst
 names-dot = refl
-
-ancestors-none : ancestors [] ≡ [] ∷ []
-unfolding ancestors
-ancestors-none = refl
-
-ancestors-two : ancestors (a ∷ b ∷ []) ≡ (a ∷ b ∷ []) ∷ (a ∷ []) ∷ [] ∷ []
-unfolding ancestors
-ancestors-two = refl
-
--- ---- candidates
-abbrev plant : Name
-plant = 112 ∷ 108 ∷ 97 ∷ 110 ∷ 116 ∷ []
-
-abbrev Dispatch : Name
-Dispatch = 68 ∷ 105 ∷ 115 ∷ 112 ∷ 97 ∷ 116 ∷ 99 ∷ 104 ∷ []
-
-abbrev rank : Name
-rank = 114 ∷ 97 ∷ 110 ∷ 107 ∷ []
-
-abbrev inner : List ℕ
-inner = plant ++ dot ∷ Dispatch
-
-relative : candidates inner rank ≡ (plant ∷ Dispatch ∷ rank ∷ []) ∷ (plant ∷ rank ∷ []) ∷ (rank ∷ []) ∷ []
-unfolding candidates ancestors components split onFirst isAbs
-relative = refl
-
-absolute : candidates inner (dot ∷ plant ++ dot ∷ rank) ≡ (plant ∷ rank ∷ []) ∷ []
-unfolding candidates components split onFirst isAbs rootless
-absolute = refl
-
-empty-scope : candidates [] rank ≡ (rank ∷ []) ∷ []
-unfolding candidates ancestors components split onFirst isAbs
-empty-scope = refl
-
--- a scope that is no path: two empty names, one, none
-odd-scope : map spell (candidates (dot ∷ []) a) ≡ (dot ∷ dot ∷ a) ∷ (dot ∷ a) ∷ a ∷ []
-unfolding candidates ancestors components split onFirst isAbs spell
-odd-scope = refl

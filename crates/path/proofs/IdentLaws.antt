@@ -12,7 +12,8 @@ use lib.ListN.{length, getD, drop, drop-of-length-le}
 use lib.Seq.{drop-cons}
 use Rattle.limits.specs.Figures.{mostIdent}
 use Rattle.path.specs.Ident.{isLetter, isDigit, allWord, isIdent}
-use Rattle.path.specs.Path.{dot, untilDot}
+use Rattle.path.specs.Path.{dot}
+use Rattle.path.specs.inner.Places.{untilDot}
 
 -- a dot is no letter and no digit
 word-dotless : (c : ℕ) (cs : List ℕ) → (isLetter c || isDigit c) ≡ true → untilDot cs ≡ cs → untilDot (c ∷ cs) ≡ c ∷ cs

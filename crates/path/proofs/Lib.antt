@@ -6,5 +6,4 @@ pub mod AbsLaws
 pub mod Scans
 pub mod FormLaws
 pub mod JoinLaws
-pub mod CandidateLaws
 pub mod Controls

@@ -9,7 +9,8 @@ use borrow.Author.Tests.{le-leb, lt-leb}
 use lib.ListN.{length, getD, take, drop, length-drop}
 use lib.Seq.{drop-cons, drop-drop, take-add, getD-drop}
 use Rattle.octets.specs.Octets.{part}
-use Rattle.path.specs.Path.{dot, untilDot, split, components, namesFrom}
+use Rattle.path.specs.Path.{dot, split, components}
+use Rattle.path.specs.inner.Places.{untilDot, namesFrom}
 use Rattle.path.proofs.PathLaws.{until-length-le, until-take, until-dotless, until-dot}
 use Rattle.path.proofs.PathLaws.{split-last, split-more, split-dotless, split-append, components-nil, components-split}
 

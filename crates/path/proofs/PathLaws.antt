@@ -1,20 +1,18 @@
--- Paths and their texts, identifiers, parents, ancestors and candidates: the laws that the crates above cite.
+-- Paths and their texts, identifiers and parents: the laws that the crates above cite.
 -- Assumes nothing.
 use mathlib.Core.Path.{_≡_, refl, ap, _∙_}
-use mathlib.Core.Bool.{true, false, and-eq-true-iff}
-use mathlib.Core.List.{List, [], _∷_, _++_, map}
+use mathlib.Core.Bool.{true, and-eq-true-iff}
+use mathlib.Core.List.{List, [], _∷_, _++_}
 use Prim.Native.Nat.{ℕ, zero, suc, _+_, _-_, _≤_, _<_}
-use native.Mathlib.Decide.{decLt}
 use native.Mathlib.Omega.{arith}
 use borrow.Author.Tests.{leb-true}
 use lib.Dec.{leb}
-use lib.ListN.{length, getD, take, drop, length-append, length-map, List·getD-append}
-use lib.Seq.{getD-at}
+use lib.ListN.{length, getD, take, drop, length-append}
 use Rattle.limits.specs.Figures.{mostPath}
 use Rattle.path.specs.Ident.{isIdent}
-use Rattle.path.specs.Path.{Name, Path, dot, untilDot, split, components, spell, allIdent, isRelOrEmpty}
-use Rattle.path.specs.Path.{isAbs, rootless, isPath, parent, last, ancestors}
-use Rattle.path.specs.Candidates.{candidates, candidate}
+use Rattle.path.specs.Path.{Name, Path, dot, split, components, spell, allIdent, isRelOrEmpty}
+use Rattle.path.specs.inner.Places.{untilDot}
+use Rattle.path.specs.Path.{rootless, isPath, parent, last}
 pub use Rattle.path.proofs.IdentLaws.{ident-dotless, ident-some}
 use Rattle.path.proofs.Pieces.{text, piece-length-le, piece-take, piece-dotless, piece-dot, piece-last, piece-more}
 use Rattle.path.proofs.Pieces.{pieces-append, pieces-length-le, pieces-spell, pieces-dotless, Dotless, none, more}
@@ -231,73 +229,3 @@ pub parent-last : (n : Name) (p : Path) → parent (n ∷ p) ++ (last (n ∷ p) 
 unfolding parent last
 parent-last n [] = refl
 parent-last n (m ∷ p) = ap (λ (q : Path). n ∷ q) (parent-last m p)
-
--- ---- ancestors
-pub ancestors-length : (p : Path) → length (ancestors p) ≡ suc (length p)
-unfolding ancestors
-ancestors-length [] = refl
-ancestors-length (n ∷ p) = simp (length-append, length-map, ancestors-length p) (omega arith)
-
-getD-map-lt : {A B : Type 0} (f : A → B) (l : List A) (i : ℕ) (d : A) (e : B) → i < length l → getD (map f l) i e ≡ f (getD l i d)
-getD-map-lt f [] i d e h = absurd (omega arith)
-getD-map-lt f (x ∷ l) zero d e h = refl
-getD-map-lt f (x ∷ l) (suc i) d e h = getD-map-lt f l i d e (omega arith)
-
-module _ (n : Name) (p : Path) (i : ℕ) where
-  under : Path → Path
-  under q = n ∷ q
-
-  under-length : length (map under (ancestors p)) ≡ suc (length p)
-  under-length = length-map (ancestors p) under ∙ ancestors-length p
-
-  ancestor-under : i ≤ length p → getD (ancestors p) i [] ≡ take (length p - i) p
-      → getD (ancestors (n ∷ p)) i [] ≡ take (suc (length p) - i) (n ∷ p)
-  unfolding ancestors under
-  ancestor-under h e =
-      let one-more : suc (length p) - i ≡ suc (length p - i) = omega arith in
-      List·getD-append (map under (ancestors p)) ([] ∷ []) [] i (omega (arith, under-length))
-      ∙ getD-map-lt under (ancestors p) i [] [] (omega (arith, ancestors-length p))
-      ∙ rw (one-more, e)
-
-  ancestor-last : i ≡ suc (length p) → getD (ancestors (n ∷ p)) i [] ≡ take (suc (length p) - i) (n ∷ p)
-  unfolding ancestors under
-  ancestor-last e =
-      let no-more : suc (length p) - i ≡ 0 = omega arith in
-      getD-at (map under (ancestors p)) [] [] [] i (omega (arith, under-length)) ∙ rw no-more
-
--- the i-th ancestor is the path without its last i components
-pub ancestors-at : (p : Path) (i : ℕ) → i ≤ length p → getD (ancestors p) i [] ≡ take (length p - i) p
-unfolding ancestors
-ancestors-at [] zero h = refl
-ancestors-at [] (suc i) h = absurd (omega arith)
-ancestors-at (n ∷ p) i h = elim (decLt i (suc (length p))) [
-  | yes k ↦ ancestor-under n p i (omega arith) (ancestors-at p i (omega arith))
-  | no k ↦ ancestor-last n p i (omega arith)
-]
-
--- ---- candidates
-module _ (scope name : List ℕ) where
-  -- an absolute name has one candidate, itself
-  pub candidates-abs : isAbs name ≡ true → candidates scope name ≡ components (rootless name) ∷ []
-  unfolding candidates
-  candidates-abs h = simp (candidates, h)
-
-  candidates-rel : isAbs name ≡ false → candidates scope name ≡ map (λ (p : Path). p ++ components name) (ancestors (components scope))
-  unfolding candidates
-  candidates-rel h = simp (candidates, h)
-
-  pub candidates-length-abs : isAbs name ≡ true → length (candidates scope name) ≡ 1
-  candidates-length-abs h = rw (candidates-abs h)
-
-  pub candidates-length-rel : isAbs name ≡ false → length (candidates scope name) ≡ suc (length (components scope))
-  candidates-length-rel h = rw (candidates-rel h, length-map, ancestors-length)
-
-  -- the i-th candidate of a relative name is the scope without its last i components, plus the name
-  pub candidate-rel : isAbs name ≡ false → (i : ℕ) → i ≤ length (components scope)
-      → candidate scope name i ≡ take (length (components scope) - i) (components scope) ++ components name
-  unfolding candidate
-  candidate-rel h i w =
-      let join : Path → Path = λ p. p ++ components name in
-      rw (candidates-rel h)
-      (getD-map-lt join (ancestors (components scope)) i [] [] (omega (arith, ancestors-length (components scope)))
-      ∙ ap join (ancestors-at (components scope) i w))

@@ -7,7 +7,8 @@ use native.Mathlib.Decide.{ℕ-discrete, decLt}
 use native.Mathlib.Omega.{arith}
 use borrow.Author.Tests.{ne-eqb}
 use lib.ListN.{length, getD, take, drop}
-use Rattle.path.specs.Path.{Name, Path, dot, untilDot, onFirst, split, spell}
+use Rattle.path.specs.Path.{Name, Path, dot, onFirst, split, spell}
+use Rattle.path.specs.inner.Places.{untilDot}
 
 pub data Text : List ℕ → Type 0 where
   ends : Text []

@@ -10,12 +10,13 @@ use borrow.Author.Tests.{not-true, not-false}
 use lib.ListN.{length, getD, take, drop, drop-of-length-le, take-append-drop}
 use lib.Seq.{drop-cons, drop-length, take-take, take-length, length-take-le}
 use Rattle.path.specs.Ident.{isIdent}
-use Rattle.path.specs.Path.{dot, untilDot, split, components, spell, allIdent, parent, ancestors}
-use Rattle.path.specs.Last.{LastAt}
+use Rattle.path.specs.Path.{dot, split, components, spell, allIdent, parent}
+use Rattle.path.specs.inner.Places.{untilDot}
+use Rattle.path.specs.inner.Last.{LastAt}
 use Rattle.path.proofs.Pieces.{text, until-other, headed}
-use Rattle.path.proofs.PathLaws.{spell-split, spell-components, components-nil, components-split, components-snoc}
-use Rattle.path.proofs.PathLaws.{components-dotless, dotless-take, parent-dotless, parent-snoc, parent-spell, parent-take}
-use Rattle.path.proofs.PathLaws.{last-dotless, last-append, ancestors-at}
+use Rattle.path.proofs.PathLaws.{spell-split, components-nil, components-split, components-snoc}
+use Rattle.path.proofs.PathLaws.{parent-dotless, parent-snoc}
+use Rattle.path.proofs.PathLaws.{last-dotless, last-append}
 use Rattle.path.proofs.Names.{names-at, names-past, end-after, end-within, next-less, piece-is, pieces-last, pieces-more}
 
 -- ---- component_end: no dot from `at` up to i
@@ -172,30 +173,3 @@ module _ (s : List ℕ) (at : ℕ) where
   before-length h = front-length s (at - 1) (omega arith)
 
 pub ruleset before-laws = (before-start, before-length)
-
--- ---- ancestor: the first `end` bytes are the k-th ancestor
-pub record Climbed (s : List ℕ) (i end k : ℕ) : Type 0 where
-  pub few : k ≤ i
-  pub inside : end ≤ length s
-  pub spelt : take end s ≡ spell (take (length (components s) - k) (components s))
-
-pub climbed-start : (s : List ℕ) (i : ℕ) → Climbed s i (length s) 0
-climbed-start s i =
-    let all : length (components s) - 0 ≡ length (components s) = omega arith in
-    let whole : take (length (components s) - 0) (components s) ≡ components s = rw (all, take-length (components s)) in
-    record { few = omega arith; inside = omega arith; spelt = take-length s ∙ rw whole (sym (spell-components s)) }
-
-module _ (s : List ℕ) (i end k : ℕ) (c : Climbed s i end k) (w : i ≤ length (components s)) where
-  pub climbed-end : i ≤ k → take end s ≡ spell (getD (ancestors (components s)) i [])
-  climbed-end h = let e : k ≡ i = omega arith in c .spelt ∙ rw (e, ancestors-at (components s) i w)
-
-  pub climbed-next : k < i → (r : ℕ) → r ≤ end → take r s ≡ spell (parent (components (take end s))) → Climbed s i r (k + 1)
-  climbed-next h r l p =
-      let n = length (components s) in
-      let one : n - k ≡ suc (n - (k + 1)) = omega arith in
-      let up : parent (components (take end s)) ≡ take (n - (k + 1)) (components s) =
-      rw (c .spelt, parent-spell (take (n - k) (components s)) (dotless-take (n - k) (components s) (components-dotless s)), one)
-      (parent-take (n - (k + 1)) (components s) (omega arith)) in
-      record { few = omega arith; inside = omega (arith, c .inside); spelt = p ∙ ap spell up }
-
-pub ruleset climbed-laws = (front-length, climbed-start, climbed-end, climbed-next)

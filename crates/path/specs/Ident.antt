@@ -14,11 +14,11 @@ use lib.ListN.{length}
 use Rattle.limits.specs.Figures.{mostIdent}
 
 -- `A` to `Z`, `a` to `z`, `_`
-unfoldable pub isLetter : ℕ → Bool
+unfoldable pub isLetter : (byte : ℕ) → Bool
 isLetter c = leb 65 c && leb c 90 || leb 97 c && leb c 122 || eqb c 95
 
 -- `0` to `9`
-unfoldable pub isDigit : ℕ → Bool
+unfoldable pub isDigit : (byte : ℕ) → Bool
 isDigit c = leb 48 c && leb c 57
 
 unfoldable pub allWord : List ℕ → Bool

@@ -1,4 +1,3 @@
 pub mod Ident
 pub mod Path
-pub mod Last
-pub mod Candidates
+pub mod inner

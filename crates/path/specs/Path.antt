@@ -2,7 +2,6 @@
 --
 --       Name, Path ==  bytes, and the list of a path's components
 --              dot ==  the byte `.`
---       untilDot t ==  the bytes of t before its first dot
 --      onFirst c p ==  p with the byte c in front of its first name
 --          split t ==  the pieces of t between its dots, one at least
 --     components t ==  the components of a text, none of the empty text
@@ -15,15 +14,13 @@
 --         isPath t <=> t is a path that may lead with a dot
 --         parent p ==  p without its last component
 --           last p ==  its last component, the empty name where there is none
---   namesFrom t at ==  the pieces of t from the place `at` on; none where that is past the end
---      ancestors p ==  p and its parents, the longest first, the empty one last
 --
 -- Assumes nothing.
 use mathlib.Core.Bool.{Bool, true, false, _&&_}
-use mathlib.Core.List.{List, [], _∷_, _++_, map}
+use mathlib.Core.List.{List, [], _∷_, _++_}
 use Prim.Native.Nat.{ℕ}
 use lib.Dec.{leb, eqb}
-use lib.ListN.{length, drop}
+use lib.ListN.{length}
 use Rattle.limits.specs.Figures.{mostPath}
 use Rattle.path.specs.Ident.{isIdent}
 
@@ -36,19 +33,15 @@ Path = List Name
 abbrev pub dot : ℕ
 dot = 46
 
-unfoldable pub untilDot : List ℕ → Name
-untilDot [] = []
-untilDot (c ∷ cs) = elim (eqb c dot) [ true ↦ [] | false ↦ c ∷ untilDot cs ]
-
-unfoldable pub onFirst : ℕ → Path → Path
+unfoldable pub onFirst : (byte : ℕ) → Path → Path
 onFirst c [] = (c ∷ []) ∷ []
 onFirst c (n ∷ ns) = (c ∷ n) ∷ ns
 
-unfoldable pub split : List ℕ → Path
+unfoldable pub split : (text : List ℕ) → Path
 split [] = [] ∷ []
 split (c ∷ cs) = elim (eqb c dot) [ true ↦ [] ∷ split cs | false ↦ onFirst c (split cs) ]
 
-unfoldable pub components : List ℕ → Path
+unfoldable pub components : (text : List ℕ) → Path
 components [] = []
 components (c ∷ cs) = split (c ∷ cs)
 
@@ -63,23 +56,23 @@ allIdent [] = true
 allIdent (n ∷ ns) = isIdent n && allIdent ns
 
 -- 01, Sheet and request: "Paths, at most 255 bytes, are identifiers joined by dots"; the one piece of the empty text is no identifier
-unfoldable pub isRelPath : List ℕ → Bool
+unfoldable pub isRelPath : (text : List ℕ) → Bool
 isRelPath t = leb (length t) mostPath && allIdent (split t)
 
 -- "only package and scope be empty"
-unfoldable pub isRelOrEmpty : List ℕ → Bool
+unfoldable pub isRelOrEmpty : (text : List ℕ) → Bool
 isRelOrEmpty t = leb (length t) mostPath && allIdent (components t)
 
-unfoldable pub isAbs : List ℕ → Bool
+unfoldable pub isAbs : (text : List ℕ) → Bool
 isAbs [] = false
 isAbs (c ∷ cs) = eqb c dot
 
-unfoldable pub rootless : List ℕ → List ℕ
+unfoldable pub rootless : (text : List ℕ) → List ℕ
 rootless [] = []
 rootless (c ∷ cs) = elim (eqb c dot) [ true ↦ cs | false ↦ c ∷ cs ]
 
 -- "only 1B may lead with a dot"; the dot counts to the 255 bytes
-unfoldable pub isPath : List ℕ → Bool
+unfoldable pub isPath : (text : List ℕ) → Bool
 isPath t = leb (length t) mostPath && allIdent (split (rootless t))
 
 unfoldable pub parent : Path → Path
@@ -91,10 +84,3 @@ unfoldable pub last : Path → Name
 last [] = []
 last (n ∷ []) = n
 last (n ∷ m ∷ ns) = last (m ∷ ns)
-
-unfoldable pub namesFrom : List ℕ → ℕ → Path
-namesFrom t at = elim (leb at (length t)) [ true ↦ split (drop at t) | false ↦ [] ]
-
-unfoldable pub ancestors : Path → List Path
-ancestors [] = [] ∷ []
-ancestors (n ∷ ns) = map (λ (p : Path). n ∷ p) (ancestors ns) ++ ([] ∷ [])

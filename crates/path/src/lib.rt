@@ -1,4 +1,4 @@
-// Names of protobuf: identifiers, paths, parents, joining, and the candidates of a name in a scope.
+// Names of protobuf: identifiers, paths, parents and joining.
 // The modules are those of protobuf-parse; a path is a slice of its text, and an owned path bytes in a lent buffer.
 pub mod protobuf_abs_path;
 pub mod protobuf_ident;

@@ -1,11 +1,12 @@
 // Relative paths: identifiers joined by dots, with no leading dot.
 ghost use mathlib.Core.Path.{_≡_};
-ghost use mathlib.Core.List.{[], _++_};
+ghost use mathlib.Core.List.{_++_};
 ghost use Prim.Native.Nat.{suc, _+_, _-_, _≤_};
-ghost use lib.ListN.{length, drop, take, getD};
+ghost use lib.ListN.{length, drop, take};
 ghost use Rattle.octets.specs.Octets.{Laid};
-ghost use Rattle.path.specs.Path.{untilDot, split, components, spell, allIdent, isRelPath, isRelOrEmpty, parent, ancestors};
-ghost use Rattle.path.specs.Last.{LastAt};
+ghost use Rattle.path.specs.inner.Places.{untilDot};
+ghost use Rattle.path.specs.Path.{split, components, spell, allIdent, isRelPath, isRelOrEmpty, parent};
+ghost use Rattle.path.specs.inner.Last.{LastAt};
 use crate::protobuf_ident::is_ident;
 use limits::MOST_PATH;
 
@@ -96,7 +97,7 @@ pub fn last_at(s: &[u8]) -> usize
 }
 
 // Where the parent of the first `end` bytes ends: their last dot, or the start.
-fn parent_end(s: &[u8], end: usize) -> usize
+pub fn parent_end(s: &[u8], end: usize) -> usize
     requires { ⌜ end ≤ length (now s) ⌝ }
     ensures { λ r. ⌜ (r ≤ end) × (take r (now (s .entry)) ≡ spell (parent (components (take end (now (s .entry)))))) ⌝ }
 {
@@ -124,20 +125,6 @@ pub fn before(s: &[u8], at: usize) -> &[u8]
         return &s[..0];
     }
     &s[..at - 1]
-}
-
-// The path itself for 0, its parent for 1, and so on up to the empty one.
-pub fn ancestor(s: &[u8], i: usize) -> &[u8]
-    requires { ⌜ i ≤ length (components (now s)) ⌝ }
-    ensures { λ r. ⌜ now r ≡ spell (getD (ancestors (components (now (s .entry)))) i []) ⌝ }
-{
-    let mut end = s.len();
-    let mut k = 0;
-    while k < i {
-        end = parent_end(s, end);
-        k += 1;
-    }
-    &s[..end]
 }
 
 // The text of a path that is not empty, followed by another, in a lent buffer as far as that reaches, and its length.

@@ -1,13 +1,14 @@
--- The laws of verdicts: the first fault is the answer, what `judge` returns, and what a verdict that is fine says of its parts.
+-- The laws of verdicts: the first fault is the answer, what `judge` returns, what a public call says, and what a verdict that is fine says
+-- of its parts.
 -- Assumes nothing.
-use mathlib.Core.Path.{_≡_, refl}
+use mathlib.Core.Path.{_≡_, refl, ap}
 use mathlib.Core.Bool.{Bool, true, false}
 use Prim.Native.Nat.{ℕ}
 use Rattle.basis.proofs.Never.{never}
 use Rattle.reply.specs.declared.Refusal.{Refusal}
 use Rattle.reply.specs.declared.Verdict.{Verdict}
 use Rattle.reply.specs.declared.Verdict.the-variants.{Fine, Refused}
-use Rattle.reply.specs.Verdicts.{firstFault, judged}
+use Rattle.reply.specs.Verdicts.{firstFault, judged, replyOf, secondOf, Says}
 
 module _ (u v : Verdict) where
   pub first-refused : (w : Refusal) → u ≡ Refused w → Refused w ≡ firstFault u v
@@ -22,6 +23,10 @@ module _ (w : Refusal) (b : Bool) where
 
   pub judged-false : b ≡ false → Refused w ≡ judged w b
   judged-false g = rw g
+
+-- ---- an answer that is a verdict has its number and its second word
+pub says : (v r : Verdict) → r ≡ v → Says v r
+says v r p = record { is = p; reply = ap replyOf p; second = ap secondOf p }
 
 -- ---- what is fine
 pub refused-fine : (w : Refusal) → Refused w ≡ Fine → ⊥

@@ -2,7 +2,7 @@
 -- Assumes nothing.
 use mathlib.Core.Path.{_≡_, refl, sym, ap, subst, _∙_}
 use mathlib.Core.Bool.{Bool, true, false}
-use mathlib.Core.List.{List}
+use mathlib.Core.List.{List, [], _∷_}
 use Prim.Native.Nat.{ℕ, _-_, _≤_, _<_}
 use native.Mathlib.Decide.{decLt}
 use native.Mathlib.Omega.{arith}
@@ -17,13 +17,13 @@ use Rattle.field.specs.declared.Span.{Span}
 use Rattle.field.specs.Leaf.{span}
 use Rattle.field.specs.Walk.{Walk, done, cut, step, walk}
 use Rattle.field.proofs.FieldLaws.{Bounds, field-bounds}
-use Rattle.field.proofs.WalkLaws.{walk-step}
-use Rattle.field.proofs.Rest.{Rest, rest-end, rest-cut, rest-step}
+use Rattle.field.proofs.WalkLaws.{walk-done, walk-cut, walk-step}
+use Rattle.field.proofs.Rest.{Rest}
 use Rattle.request.specs.declared.name.Part.{Part}
 use Rattle.request.specs.declared.name.Parted.{Parted}
 use Rattle.request.specs.declared.name.Parted.the-variants.{Is, NoPart}
 use Rattle.request.specs.Table.{directPartTag, extensionPartTag}
-use Rattle.request.specs.Name.{partWith, partOf, partOfField, partAt}
+use Rattle.request.specs.Name.{partWith, partOf, partOfField, partAt, partsIn, afterParts}
 
 -- ---- part_at
 module _ (s : List ℕ) (at end : ℕ) (r : Field) (q : r ≡ fieldAt s at end) where
@@ -102,6 +102,10 @@ module _ (s : List ℕ) (at end : ℕ) (r : Parted) (q : r ≡ partAt s at end) 
   pub part-less : at < end → end - p .name .to < end - at
   part-less h = omega (arith, part-further)
 
+  -- a recursion's measure
+  pub part-falls : (n : ℕ) → end - at ≡ n → end - p .name .to < n
+  part-falls n h = omega (arith, part-further, part-inside)
+
   pub part-step : walk s at end ≡ step (part-field .tag) (p .name .from) (p .name .to) (walk s (p .name .to) end)
   part-step =
       let o : PartField s at end p = part-field in
@@ -110,19 +114,40 @@ module _ (s : List ℕ) (at end : ℕ) (r : Parted) (q : r ≡ partAt s at end) 
 
 pub ruleset part-places = (part-ordered, part-inside, part-within, part-further, part-less)
 
+-- ---- where no part stands, whatever F makes of the fields from there on
+module _ {A : Type 0} (F : Walk → A) (s : List ℕ) (at end : ℕ) (x : A) (d : F done ≡ x) (c : F cut ≡ x)
+    (n : (t a e : ℕ) (w : Walk) → partOf t a e ≡ NoPart → F (step t a e w) ≡ x) where
+  no-part : at < end → (f : Field) → f ≡ fieldAt s at end → partOfField f ≡ NoPart → F (walk s at end) ≡ x
+  no-part h Cut p g = ap F (walk-cut s at end h Cut p refl) ∙ c
+  no-part h (Whole t a e) p g = ap F (walk-step s at end h (Whole t a e) p t a e refl) ∙ n t a e (walk s e end) g
+
+  walk-no-part : (r : Parted) → r ≡ partAt s at end → r ≡ NoPart → F (walk s at end) ≡ x
+  unfolding partAt
+  walk-no-part r q g = elim (decLt at end) [
+    | yes h ↦ no-part h (fieldAt s at end) refl (sym q ∙ g)
+    | no h ↦ ap F (walk-done s at end (omega arith)) ∙ d
+  ]
+
+-- ---- the parts from a place on, and where they end
+module _ (s : List ℕ) (at end : ℕ) (r : Parted) (q : r ≡ partAt s at end) where
+  pub parts-nil : r ≡ NoPart → partsIn (walk s at end) ≡ []
+  parts-nil = walk-no-part partsIn s at end [] refl refl (λ t a e w n. rw n) r q
+
+  pub after-parts-here : r ≡ NoPart → afterParts at (walk s at end) ≡ at
+  after-parts-here = walk-no-part (afterParts at) s at end at refl refl (λ t a e w n. rw n) r q
+
+  module _ (p : Part) (g : r ≡ Is p) where
+    pub parts-cons : partsIn (walk s at end) ≡ p ∷ partsIn (walk s (p .name .to) end)
+    parts-cons = ap partsIn (part-step s at end r q p g) ∙ rw (part-field s at end r q p g .is)
+
+    pub after-parts-next : afterParts at (walk s at end) ≡ afterParts (p .name .to) (walk s (p .name .to) end)
+    after-parts-next = ap (afterParts at) (part-step s at end r q p g) ∙ rw (part-field s at end r q p g .is)
+
 -- ---- a loop over parts: the answer v is what F gives of the fields that are left
 module _ {A : Type 0} (v : A) (F : Walk → A) (s : List ℕ) (to i : ℕ) (k : Rest v F s to i) (r : Parted) (q : r ≡ partAt s i to) where
-  module _ (x : A) (d : F done ≡ x) (c : F cut ≡ x) (n : (t a e : ℕ) (w : Walk) → partOf t a e ≡ NoPart → F (step t a e w) ≡ x) where
-    no-part : i < to → (f : Field) → f ≡ fieldAt s i to → partOfField f ≡ NoPart → v ≡ x
-    no-part h Cut p g = rest-cut v F s to i k h Cut p refl ∙ c
-    no-part h (Whole t a e) p g = rest-step v F s to i k h (Whole t a e) p t a e refl ∙ n t a e (walk s e to) g
-
-    pub rest-no-part : r ≡ NoPart → v ≡ x
-    unfolding partAt
-    rest-no-part g = elim (decLt i to) [
-      | yes h ↦ no-part h (fieldAt s i to) refl (sym q ∙ g)
-      | no h ↦ rest-end v F s to i k (omega arith) ∙ d
-    ]
+  pub rest-no-part : (x : A) → F done ≡ x → F cut ≡ x → ((t a e : ℕ) (w : Walk) → partOf t a e ≡ NoPart → F (step t a e w) ≡ x)
+      → r ≡ NoPart → v ≡ x
+  rest-no-part x d c n g = k .rest ∙ walk-no-part F s i to x d c n r q g
 
   module _ (p : Part) (g : r ≡ Is p) where
     pub rest-part : (x : A)

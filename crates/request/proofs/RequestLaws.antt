@@ -1,16 +1,13 @@
 -- The laws of a request: the ways through `heading_of`, where a heading lies, and where parts end.
 -- Assumes nothing.
-use mathlib.Core.Path.{_≡_, refl, sym, ap, _∙_}
+use mathlib.Core.Path.{_≡_, refl, sym, _∙_}
 use mathlib.Core.Bool.{Bool, true, false}
-use mathlib.Core.List.{List, [], _∷_}
-use Prim.Native.Nat.{ℕ, zero, suc, _+_, _-_, _≤_, _<_}
+use mathlib.Core.List.{List, []}
+use Prim.Native.Nat.{ℕ, zero, suc, _-_, _≤_, _<_}
 use native.Mathlib.Omega.{arith}
-use native.Mathlib.Nat.{zero-add, add-zero}
-use borrow.Author.Tests.{eq-eqb, ne-eqb, ltb-true, ltb-false}
+use borrow.Author.Tests.{ltb-true, ltb-false}
 use lib.Dec.{ltb}
 use lib.ListN.{length}
-use mir.Syntax.{w64}
-use mir.Val.{Fits}
 use Rattle.basis.proofs.Never.{never}
 use Rattle.field.specs.declared.Field.{Field}
 use Rattle.field.specs.declared.Field.the-variants.{Whole, Cut}
@@ -18,9 +15,8 @@ use Rattle.field.specs.declared.Leaf.{Leaf}
 use Rattle.field.specs.declared.Leaf.the-variants.{At, Not}
 use Rattle.field.specs.Field.{fieldAt}
 use Rattle.field.specs.Leaf.{span, anyBytes, onLeaf, leafAt}
-use Rattle.field.specs.Walk.{Walk, step, walk}
-use Rattle.field.proofs.FieldLaws.{Bounds, field-bounds, field-ordered}
-use Rattle.field.proofs.FieldLaws.{field-within, field-less}
+use Rattle.field.specs.Walk.{walk}
+use Rattle.field.proofs.FieldLaws.{Bounds, field-bounds}
 use Rattle.field.proofs.LeafLaws.{leaf-bounds, leaf-inside}
 use Rattle.field.proofs.WalkLaws.{walk-done, walk-cut, walk-step}
 use Rattle.field.proofs.Rest.{Rest, rest-start, rest-end}
@@ -30,11 +26,10 @@ use Rattle.request.specs.declared.name.Parted.the-variants.{Is, NoPart}
 use Rattle.request.specs.declared.heading.Heading.{Heading}
 use Rattle.request.specs.declared.heading.Headed.{Headed}
 use Rattle.request.specs.declared.heading.Headed.the-variants.{Heads, NoHeading}
-use Rattle.request.specs.Table.{scopeTag, optionsTypeTag, optionTag}
-use Rattle.request.specs.Name.{partAt, partOf, partsIn, further, afterParts}
+use Rattle.request.specs.Table.{scopeTag, optionsTypeTag}
+use Rattle.request.specs.Name.{partAt, partOf, further, afterParts}
 use Rattle.request.specs.Request.{headingOf}
-use Rattle.field.proofs.Tally.{Tally, counted, tally-start, tally-few, tally-end, tally-cut, tally-fits, tally-more}
-use Rattle.request.proofs.PartLaws.{part-bounds, part-less, rest-no-part, rest-part-next}
+use Rattle.request.proofs.PartLaws.{part-less, rest-no-part, rest-part-next}
 
 -- ---- the heading
 abbrev heading : ℕ → ℕ → ℕ → ℕ → Heading

@@ -1,10 +1,10 @@
 -- Constants and pairs as they are written, from 01's "Sheet and request".
 --
---           integerOf b ==  the integer that 64 bits are in two's complement
+--          integerOf b ==  the integer that 64 bits are in two's complement
 --            floatOf b ==  the double that 64 bits are, a NaN by its bits
 --         boolOf s a e ==  the bool whose payload is from a to e
 --       numberWith t b ==  the number of the tag t that 64 bits are
---     numericOf s t a e ==  the number of the tag t whose payload is from a to e
+--    numericOf s t a e ==  the number of the tag t whose payload is from a to e
 --   constantOf s t a e ==  the constant of the tag t whose payload is from a to e
 --         isPairName t <=> t is the tag of a pair's name
 --     pairWith t a e f ==  the pair of a name of the tag t from a to e and the constant's field f
@@ -34,22 +34,22 @@ use Rattle.request.specs.Table.{boolTag, unsignedTag, signedTag, floatTa
 use Rattle.request.specs.Table.{messageConstantTag, pairFieldTag, pairUrlTag, listTag}
 
 -- an integer is its sign and its size
-unfoldable pub integerOf : ℕ → Constant
+unfoldable pub integerOf : (bits : ℕ) → Constant
 integerOf b = elim (ltb b (2 ^ 63)) [ true ↦ Integer false b | false ↦ Integer true (2 ^ 64 - b) ]
 
 -- "23 a float constant, eight bytes, its f64 bits"; the one NaN of f64 has no payload, so a NaN is kept by its bits
-unfoldable pub floatOf : ℕ → Constant
+unfoldable pub floatOf : (bits : ℕ) → Constant
 floatOf b = elim (nanBits binary64 b) [ true ↦ NotANumber b | false ↦ Float (ofBits binary64 b) ]
 
 -- "20 bool (one byte, 0 or 1)"
-unfoldable pub boolOf : List ℕ → ℕ → ℕ → Held
+unfoldable pub boolOf : (s : List ℕ) (from to : ℕ) → Held
 boolOf s a e = elim (eqb (e - a) 1) [
   | true ↦ elim (ltb 1 (getD s a 0)) [ true ↦ NoConstant | false ↦ Holds (BoolOf (eqb (getD s a 0) 1)) ]
   | false ↦ NoConstant
 ]
 
 -- "21 unsigned, 22 signed (8 bytes each)"
-abbrev pub numberWith : ℕ → ℕ → Held
+abbrev pub numberWith : (tag bits : ℕ) → Held
 numberWith t b = elim (eqb t unsignedTag) [
   | true ↦ Holds (Integer false b)
   | false ↦ elim (eqb t signedTag) [
@@ -58,11 +58,11 @@ numberWith t b = elim (eqb t unsignedTag) [
   ]
 ]
 
-unfoldable pub numericOf : List ℕ → ℕ → ℕ → ℕ → Held
+unfoldable pub numericOf : (s : List ℕ) (tag from to : ℕ) → Held
 numericOf s t a e = elim (eqb (e - a) 8) [ true ↦ numberWith t (bigAt 8 s a) | false ↦ NoConstant ]
 
 -- "24 string, already unescaped; 25 identifier; 26 message ..; 2A list of constants"
-unfoldable pub constantOf : List ℕ → ℕ → ℕ → ℕ → Held
+unfoldable pub constantOf : (s : List ℕ) (tag from to : ℕ) → Held
 constantOf s t a e = elim (eqb t boolTag) [
   | true ↦ boolOf s a e
   | false ↦ elim (eqb t stringTag) [
@@ -78,16 +78,16 @@ constantOf s t a e = elim (eqb t boolTag) [
 ]
 
 -- "pairs of a name (27 field, 28 extension path, 29 type URL ..) and a constant"
-unfoldable pub isPairName : ℕ → Bool
+unfoldable pub isPairName : (tag : ℕ) → Bool
 isPairName t = leb pairFieldTag t && leb t pairUrlTag
 
-abbrev pub pairWith : ℕ → ℕ → ℕ → Field → Paired
+abbrev pub pairWith : (tag from to : ℕ) (constant : Field) → Paired
 pairWith t a e Cut = NoPair
 pairWith t a e (Whole k b f) = Pairs (record { by = t; name = span a e; tag = k; constant = span b f })
 
-abbrev pub pairFrom : List ℕ → ℕ → Field → Paired
+abbrev pub pairFrom : (s : List ℕ) (end : ℕ) (name : Field) → Paired
 pairFrom s end Cut = NoPair
 pairFrom s end (Whole t a e) = elim (isPairName t) [ true ↦ pairWith t a e (fieldAt s e end) | false ↦ NoPair ]
 
-unfoldable pub pairAt : List ℕ → ℕ → ℕ → Paired
+unfoldable pub pairAt : (s : List ℕ) (at end : ℕ) → Paired
 pairAt s at end = pairFrom s end (fieldAt s at end)

@@ -23,10 +23,10 @@ use Rattle.request.specs.declared.name.Parted.{Parted}
 use Rattle.request.specs.declared.name.Parted.the-variants.{Is, NoPart}
 use Rattle.request.specs.Table.{directPartTag, extensionPartTag}
 
-abbrev pub partWith : Bool → ℕ → ℕ → Part
+abbrev pub partWith : (extension : Bool) (from to : ℕ) → Part
 partWith extension a e = record { extension = extension; name = record { from = a; to = e } }
 
-unfoldable pub partOf : ℕ → ℕ → ℕ → Parted
+unfoldable pub partOf : (tag from to : ℕ) → Parted
 partOf t a e = elim (eqb t directPartTag) [
   | true ↦ Is (partWith false a e)
   | false ↦ elim (eqb t extensionPartTag) [ true ↦ Is (partWith true a e) | false ↦ NoPart ]
@@ -36,10 +36,10 @@ abbrev pub partOfField : Field → Parted
 partOfField Cut = NoPart
 partOfField (Whole t a e) = partOf t a e
 
-unfoldable pub partAt : List ℕ → ℕ → ℕ → Parted
+unfoldable pub partAt : (s : List ℕ) (at end : ℕ) → Parted
 partAt s at end = partOfField (fieldAt s at end)
 
-abbrev pub leading : Parted → List Part → List Part
+abbrev pub leading : Parted → (rest : List Part) → List Part
 leading NoPart rest = []
 leading (Is p) rest = p ∷ rest
 
@@ -48,11 +48,11 @@ partsIn done = []
 partsIn cut = []
 partsIn (step t a e w) = leading (partOf t a e) (partsIn w)
 
-abbrev pub further : Parted → ℕ → ℕ → ℕ
+abbrev pub further : Parted → (at rest : ℕ) → ℕ
 further NoPart at rest = at
 further (Is p) at rest = rest
 
-abbrev pub afterParts : ℕ → Walk → ℕ
+abbrev pub afterParts : (at : ℕ) → Walk → ℕ
 afterParts at done = at
 afterParts at cut = at
 afterParts at (step t a e w) = further (partOf t a e) at (afterParts e w)

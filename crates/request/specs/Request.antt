@@ -47,23 +47,23 @@ headingOf s =
     Heads (record { scope = span a types; «options_type» = span m options; options = options })
 
 -- "one or more of 1A direct part, 1B extension part; one constant"
-abbrev pub constantOfField : List ℕ → Field → Constants
+abbrev pub constantOfField : (s : List ℕ) → Field → Constants
 constantOfField s Cut = none
 constantOfField s (Whole t a e) = constantIn mostConstants s unnamed t a e none
 
-unfoldable pub optionOf : List ℕ → ℕ → ℕ → Option
+unfoldable pub optionOf : (s : List ℕ) (from to : ℕ) → Option
 optionOf s a e =
     record { parts = partsIn (walk s a e); constant = constantOfField s (fieldAt s (afterParts a (walk s a e)) e) }
 
-unfoldable pub optionIn : List ℕ → ℕ → ℕ → ℕ → List Option → List Option
+unfoldable pub optionIn : (s : List ℕ) (tag from to : ℕ) (rest : List Option) → List Option
 optionIn s t a e rest = elim (eqb t optionTag) [ true ↦ optionOf s a e ∷ rest | false ↦ rest ]
 
-abbrev pub optionsIn : List ℕ → Walk → List Option
+abbrev pub optionsIn : (s : List ℕ) → Walk → List Option
 optionsIn s done = []
 optionsIn s cut = []
 optionsIn s (step t a e w) = optionIn s t a e (optionsIn s w)
 
-abbrev pub requestWith : List ℕ → Headed → Request
+abbrev pub requestWith : (s : List ℕ) → Headed → Request
 requestWith s NoHeading = record { scope = span 0 0; optionsType = span 0 0; options = [] }
 requestWith s (Heads h) =
     record { scope = h .scope; optionsType = h .«options_type»; options = optionsIn s (walk s (h .options) (length s)) }

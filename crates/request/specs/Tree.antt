@@ -42,20 +42,20 @@ pub data Constants : Type 0 where
 
 -- what reads a constant: its name, its tag and the places of its payload, and what follows it
 abbrev pub Reader : Type 0
-Reader = PairName → ℕ → ℕ → ℕ → Constants → Constants
+Reader = (name : PairName) (tag from to : ℕ) (rest : Constants) → Constants
 
-abbrev pub pairNameOf : ℕ → Span → PairName
+abbrev pub pairNameOf : (tag : ℕ) (place : Span) → PairName
 pairNameOf t p = elim (eqb t pairFieldTag) [
   | true ↦ byField p
   | false ↦ elim (eqb t pairExtensionTag) [ true ↦ byExtension p | false ↦ byUrl p ]
 ]
 
-abbrev pub elementsIn : Reader → Walk → Constants
+abbrev pub elementsIn : (inner : Reader) → Walk → Constants
 elementsIn inner done = none
 elementsIn inner cut = none
 elementsIn inner (step t a e w) = inner unnamed t a e (elementsIn inner w)
 
-abbrev pub pairsIn : Reader → Walk → Constants
+abbrev pub pairsIn : (inner : Reader) → Walk → Constants
 pairsIn inner done = none
 pairsIn inner cut = none
 pairsIn inner (step t a e done) = none
@@ -63,7 +63,7 @@ pairsIn inner (step t a e cut) = none
 pairsIn inner (step t a e (step k b f w)) =
     elim (isPairName t) [ true ↦ inner (pairNameOf t (span a e)) k b f (pairsIn inner w) | false ↦ none ]
 
-abbrev pub grown : Reader → List ℕ → PairName → Constants → Constant → Constants
+abbrev pub grown : (inner : Reader) (s : List ℕ) (name : PairName) (rest : Constants) → Constant → Constants
 grown inner s l rest (BoolOf b) = scalar l (BoolOf b) rest
 grown inner s l rest (Integer m n) = scalar l (Integer m n) rest
 grown inner s l rest (Float x) = scalar l (Float x) rest
@@ -73,11 +73,11 @@ grown inner s l rest (Ident p) = scalar l (Ident p) rest
 grown inner s l rest (Message p) = message l (pairsIn inner (walk s (p .from) (p .to))) rest
 grown inner s l rest (ListOf p) = list l (elementsIn inner (walk s (p .from) (p .to))) rest
 
-abbrev pub ifHeld : Reader → List ℕ → PairName → Constants → Held → Constants
+abbrev pub ifHeld : (inner : Reader) (s : List ℕ) (name : PairName) (rest : Constants) → Held → Constants
 ifHeld inner s l rest NoConstant = rest
 ifHeld inner s l rest (Holds c) = grown inner s l rest c
 
 -- "constants of any kind nested 16 deep"; "The outermost .. constant is depth 1"
-abbrev pub constantIn : ℕ → List ℕ → Reader
+abbrev pub constantIn : (left : ℕ) (s : List ℕ) → Reader
 constantIn zero s l t a e rest = rest
 constantIn (suc d) s l t a e rest = ifHeld (constantIn d s) s l rest (constantOf s t a e)

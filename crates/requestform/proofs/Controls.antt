@@ -15,9 +15,11 @@ use Rattle.field.specs.Leaf.{leafAt}
 use Rattle.request.specs.Table.{optionTag, scopeTag, optionsTypeTag, directPartTag, extensionPartTag, boolTag}
 use Rattle.request.specs.Table.{messageConstantTag, pairFieldTag, pairExtensionTag, pairUrlTag, listTag}
 use Rattle.request.specs.Name.{partOf}
-use Rattle.requestform.specs.Leaves.{isConstant, isBool, isUrl, goodScalar, goodPairName, goodPart}
+use Rattle.constantform.specs.Leaves.{isConstant, isBool, isUrl, goodScalar, goodPairName, goodPart}
 use Rattle.reply.specs.Verdicts.{beyond}
-use Rattle.requestform.specs.Form.{badRequest, judgeLast, judgeOption, judgeOptions, judgeRequest, judgeName}
+use Rattle.constantform.specs.Form.{badRequest}
+use Rattle.optionform.specs.Form.{judgeLast, judgeOption}
+use Rattle.requestform.specs.Form.{judgeOptions, judgeRequest, judgeName}
 use Rattle.requestform.specs.Form.{judgeScope, judgeOptionsType, judgePath}
 
 -- ---- bytes

@@ -1,23 +1,52 @@
--- Requests, and what a call is given alone: the ways through `check_request`, `check_scope`, `check_options_type` and `check_path`.
+-- Requests, and what a call is given alone: the ways through `check_options`, `check_request`, `check_scope`, `check_options_type`,
+-- `check_path` and `check_name`.
 -- Assumes nothing.
 use mathlib.Core.Path.{_≡_}
-use mathlib.Core.Bool.{Bool}
+use mathlib.Core.Bool.{Bool, _&&_, not}
 use mathlib.Core.List.{List}
-use Prim.Native.Nat.{ℕ, _≤_, _<_}
+use Prim.Native.Nat.{ℕ, _≤_, _<_, _+_, _-_}
+use native.Mathlib.Omega.{arith}
 use borrow.Author.Tests.{lt-ltb, le-ltb}
 use lib.ListN.{length}
+use lib.Dec.{eqb}
 use Rattle.limits.specs.Figures.{mostRequest}
 use Rattle.path.specs.Path.{isRelPath, isRelOrEmpty, isPath}
 use Rattle.reply.specs.declared.Refusal.the-variants.{BadRequest}
 use Rattle.reply.specs.declared.Verdict.{Verdict}
-use Rattle.reply.specs.Verdicts.{judged}
+use Rattle.reply.specs.Verdicts.{judged, beyond}
+use Rattle.reply.proofs.VerdictLaws.{says}
+use Rattle.reply.specs.declared.Refusal.{Refusal}
+use Rattle.reply.specs.declared.Verdict.the-variants.{Refused}
 use Rattle.field.specs.declared.Leaf.{Leaf}
 use Rattle.field.specs.declared.Leaf.the-variants.{At, Not}
 use Rattle.field.specs.Leaf.{leafAt}
 use Rattle.field.proofs.LeafLaws.{leaf-inside}
+use Rattle.field.specs.declared.Field.{Field}
+use Rattle.field.specs.declared.Field.the-variants.{Whole}
+use Rattle.field.specs.Field.{fieldAt}
+use Rattle.field.specs.Walk.{walk}
+use Rattle.field.proofs.FieldLaws.{field-bounds, field-ordered}
+use Rattle.field.proofs.Rest.{Rest, rest-start}
+use Rattle.form.specs.Each.{eachFrom}
+use Rattle.form.proofs.EachLaws.{each-from-laws}
 use Rattle.request.specs.Table.{scopeTag, optionsTypeTag}
-use Rattle.reply.specs.Verdicts.{beyond}
-use Rattle.requestform.specs.Form.{badRequest, judgeOptions, judgeRequest, judgeScope, judgeOptionsType, judgePath}
+use Rattle.constantform.specs.Form.{badRequest}
+use Rattle.optionform.specs.declared.Parts.{Parts}
+use Rattle.optionform.specs.declared.Parts.the-variants.{After, Refuses}
+use Rattle.optionform.specs.Form.{partsFrom, judgeOption}
+use Rattle.requestform.specs.Form.{judgeOptions, judgeRequest, judgeScope, judgeOptionsType, judgePath, judgeName}
+
+-- ---- check_options
+pub options-start : (s : List ℕ) (from to : ℕ) → from ≤ to → to ≤ length s
+    → Rest (judgeOptions s from to) (eachFrom BadRequest (judgeOption s) 0) s to from
+unfolding judgeOptions
+options-start s from to h k = rest-start (eachFrom BadRequest (judgeOption s) 0) s from to h k
+
+-- there are no more fields than bytes
+pub index-next : (s : List ℕ) (at end n : ℕ) (r : Field) → r ≡ fieldAt s at end → (t a e : ℕ) → r ≡ Whole t a e → n ≤ at → n + 1 ≤ e
+index-next s at end n r q t a e g h = let b = field-bounds s at end r q t a e g in omega (arith, b .starts, b .ordered)
+
+pub ruleset options-laws = (options-start, index-next, each-from-laws, field-ordered)
 
 -- ---- check_request
 module _ (s : List ℕ) where
@@ -39,7 +68,7 @@ module _ (s : List ℕ) where
       unfolding judgeRequest
       request-options b options k v y = simp (judgeRequest, le-ltb mostRequest (length s) h, ← q, g, ← p, k) y
 
-pub ruleset request-laws = (request-long, request-scope, request-type, request-options, leaf-inside)
+pub ruleset request-laws = (says, request-long, request-scope, request-type, request-options, leaf-inside)
 
 -- ---- check_scope, check_options_type, check_path
 module _ (t : List ℕ) (b : Bool) (v : Verdict) (p : v ≡ judged BadRequest b) where
@@ -54,3 +83,17 @@ module _ (t : List ℕ) (b : Bool) (v : Verdict) (p : v ≡ judged BadRequest b)
   pub path-is : b ≡ isPath t → v ≡ judgePath t
   unfolding judgePath
   path-is q = rw (← q) p
+
+pub ruleset alone-laws = (says, scope-is, type-is, path-is)
+
+-- ---- check_name
+module _ (s : List ℕ) (r : Parts) (q : r ≡ partsFrom s 0 0 (walk s 0 (length s))) where
+  pub name-refused : (w : Refusal) → r ≡ Refuses w → Refused w ≡ judgeName s
+  unfolding judgeName
+  name-refused w g = rw (← q, g)
+
+  pub name-after : (at : ℕ) → r ≡ After at → (v : Verdict) → v ≡ judged BadRequest (not (eqb at 0) && eqb at (length s)) → v ≡ judgeName s
+  unfolding judgeName
+  name-after at g v p = rw (← q, g) p
+
+pub ruleset name-laws = (says, name-refused, name-after)

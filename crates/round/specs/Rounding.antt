@@ -12,7 +12,7 @@ use mathlib.Core.Bool.{Bool, true, false}
 use lib.IntN.{ℤ, pos, negℤ}
 use lib.Ieee.{Float, nan, inf, fin, Format, binary32, binary64, up, down, round, ofInt, ofBits, toBits}
 
-abbrev pub signedOf : Bool → ℕ → ℤ
+abbrev pub signedOf : (minus : Bool) (size : ℕ) → ℤ
 signedOf true n = negℤ (pos n)
 signedOf false n = pos n
 
@@ -26,5 +26,5 @@ narrow nan = nan
 narrow (inf s) = inf s
 narrow (fin s m e) = round binary32 s (m * up e) (down e)
 
-unfoldable pub narrowBits : ℕ → ℕ
+unfoldable pub narrowBits : (bits : ℕ) → ℕ
 narrowBits b = toBits binary32 (narrow (ofBits binary64 b))

@@ -9,8 +9,9 @@ use lib.Dec.{leb}
 use lib.ListN.{length, length-append}
 use Rattle.limits.specs.Figures.{mostPath}
 use Rattle.path.specs.Path.{Name, Path, split, components, spell, allIdent, isRelOrEmpty, isAbs, rootless, isPath}
-use Rattle.path.specs.Path.{parent, ancestors}
-use Rattle.path.specs.Candidates.{candidates}
+use Rattle.path.specs.Path.{parent}
+use Rattle.candidates.specs.Candidates.{ancestors}
+use Rattle.candidates.specs.Candidates.{candidates}
 use Rattle.path.proofs.AbsLaws.{rootless-rel}
 use Rattle.path.proofs.PathLaws.{spell-components, ident-some, ident-first, ident-rest, ident-cons}
 use Rattle.path.proofs.PathLaws.{idents-append, rel-idents, path-idents}

@@ -22,7 +22,8 @@ use Rattle.field.specs.Leaf.{onLeaf}
 use Rattle.field.specs.Walk.{walk}
 use Rattle.field.proofs.FieldLaws.{field-bounds, field-ordered, field-inside}
 use Rattle.field.proofs.FieldLaws.{field-within, field-less}
-use Rattle.path.specs.Path.{Path, dot, untilDot, spell, split, namesFrom}
+use Rattle.path.specs.Path.{Path, dot, spell, split}
+use Rattle.path.specs.inner.Places.{untilDot, namesFrom}
 use Rattle.path.proofs.PathLaws.{spell-split}
 use Rattle.path.proofs.Names.{end-within, end-dot, names-past, names-next, front-first, front-more}
 use Rattle.sheet.specs.Tree.{filesIn, treeOf}

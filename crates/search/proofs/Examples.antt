@@ -9,8 +9,9 @@ use Rattle.reply.specs.Reply.{number, ascii}
 use Rattle.field.specs.Field.{fieldAt}
 use Rattle.field.specs.Leaf.{leafAt}
 use Rattle.field.specs.Walk.{walkBy}
-use Rattle.path.specs.Path.{onFirst, split, components, spell, isAbs, rootless, parent, last, ancestors}
-use Rattle.path.specs.Candidates.{candidates}
+use Rattle.path.specs.Path.{onFirst, split, components, spell, isAbs, rootless, parent, last}
+use Rattle.candidates.specs.Candidates.{ancestors}
+use Rattle.candidates.specs.Candidates.{candidates}
 use Rattle.sheet.specs.Declaration.{hasTypePath, typePathAt, shapeAt, extensionAt, messageFieldAt, valueAt}
 use Rattle.sheet.specs.Tree.{valueIn, itemIn, itemsIn, fileIn, treeOf}
 use Rattle.search.specs.declared.extension.Resolved.{Resolved}

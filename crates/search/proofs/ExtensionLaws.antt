@@ -22,10 +22,10 @@ use Rattle.octets.proofs.Overlay.{laid-length}
 use Rattle.field.specs.Leaf.{isText}
 use Rattle.reply.specs.declared.Refusal.the-variants.{ExtensionNotFound, WrongExtensionType}
 use Rattle.path.specs.Path.{Name, Path, spell, components, parent, last, isRelOrEmpty, isPath}
-use Rattle.path.specs.Last.{LastAt}
-use Rattle.path.specs.Candidates.{candidates, candidate}
+use Rattle.path.specs.inner.Last.{LastAt}
+use Rattle.candidates.specs.Candidates.{candidates, candidate}
 use Rattle.path.proofs.PathLaws.{components-nil}
-use Rattle.path.proofs.CandidateLaws.{candidate-components, candidate-text-le}
+use Rattle.candidates.proofs.CandidateLaws.{candidate-components, candidate-text-le}
 use Rattle.sheet.specs.Table.{extensionTag}
 use Rattle.sheet.specs.declared.declaration.Declaration.{Declaration}
 use Rattle.sheet.specs.declared.declaration.Declared.{Declared}

@@ -10,7 +10,7 @@ use lib.ListN.{length}
 use Rattle.basis.proofs.Never.{never}
 use Rattle.reply.specs.declared.Refusal.the-variants.{ExtensionNotFound}
 use Rattle.path.specs.Path.{Path, isPath, parent, last}
-use Rattle.path.specs.Candidates.{candidates}
+use Rattle.candidates.specs.Candidates.{candidates}
 use Rattle.field.specs.Leaf.{isText}
 use Rattle.sheet.specs.declared.declaration.Declaration.{Declaration}
 use Rattle.sheet.specs.Members.{extensionsOf}

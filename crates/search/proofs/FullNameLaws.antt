@@ -16,7 +16,7 @@ use Rattle.field.specs.declared.Span.{Span}
 use Rattle.field.specs.Leaf.{span}
 use Rattle.reply.specs.declared.Refusal.the-variants.{MessageNotFound, MessageFoundMoreThanOnce}
 use Rattle.path.specs.Path.{Name, Path, components, parent, last}
-use Rattle.path.specs.Last.{LastAt}
+use Rattle.path.specs.inner.Last.{LastAt}
 use Rattle.path.proofs.PathLaws.{components-nil}
 use Rattle.sheet.specs.Members.{Enumeration}
 use Rattle.scope.specs.declared.lookup.LookupScope.{LookupScope}

@@ -19,7 +19,7 @@ use Rattle.basis.proofs.Never.{never}
 use Rattle.field.specs.declared.Span.{Span}
 use Rattle.field.specs.Walk.{walk}
 use Rattle.path.specs.Path.{Name, Path, spell, parent, last}
-use Rattle.path.specs.Candidates.{candidates}
+use Rattle.candidates.specs.Candidates.{candidates}
 use Rattle.sheet.specs.declared.declaration.Declaration.{Declaration}
 use Rattle.sheet.specs.declared.declaration.Declared.{Declared}
 use Rattle.sheet.specs.declared.declaration.Declared.the-variants.{Declares}

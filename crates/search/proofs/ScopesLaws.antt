@@ -26,7 +26,8 @@ use Rattle.field.specs.declared.Leaf.the-variants.{At, Not}
 use Rattle.field.specs.Leaf.{span, anyBytes, leafAt, onLeaf}
 use Rattle.field.specs.Walk.{walk}
 use Rattle.field.proofs.LeafLaws.{leaf-ordered, leaf-inside}
-use Rattle.path.specs.Path.{Path, untilDot, namesFrom}
+use Rattle.path.specs.Path.{Path}
+use Rattle.path.specs.inner.Places.{untilDot, namesFrom}
 use Rattle.path.proofs.Names.{end-after, end-within, names-past, names-next}
 use Rattle.sheet.specs.Table.{fileTag, packageTag}
 use Rattle.sheet.specs.Tree.{File, fileWith, itemsIn, fileIn}

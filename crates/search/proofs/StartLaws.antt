@@ -9,8 +9,9 @@ use lib.Dec.{eqb}
 use lib.ListN.{length, take, drop, length-take, length-drop}
 use lib.Seq.{take-all}
 use Rattle.octets.specs.Octets.{part}
-use Rattle.path.specs.Path.{components, spell, parent, last, namesFrom}
-use Rattle.path.specs.Last.{LastAt}
+use Rattle.path.specs.Path.{components, spell, parent, last}
+use Rattle.path.specs.inner.Places.{namesFrom}
+use Rattle.path.specs.inner.Last.{LastAt}
 use Rattle.path.proofs.PathLaws.{spell-components}
 use Rattle.path.proofs.Names.{names-start, names-empty}
 use Rattle.search.specs.declared.scopes.Cursor.{Cursor}

@@ -9,9 +9,10 @@ use Prim.Native.Nat.{ℕ, suc, _-_, _≤_, _<_}
 use lib.ListN.{length, take}
 use Rattle.reply.specs.declared.Refusal.the-variants.{ExtensionNotFound, WrongExtensionType}
 use Rattle.octets.specs.Octets.{sameBytes}
-use Rattle.path.specs.Path.{Path, dot, components, spell, allIdent, isRelOrEmpty, isAbs, rootless, isPath, parent, ancestors}
-use Rattle.path.specs.Candidates.{candidates, candidate}
-use Rattle.path.proofs.PathLaws.{candidates-abs, candidates-length-rel, candidate-rel}
+use Rattle.path.specs.Path.{Path, dot, components, spell, allIdent, isRelOrEmpty, isAbs, rootless, isPath, parent}
+use Rattle.candidates.specs.Candidates.{ancestors}
+use Rattle.candidates.specs.Candidates.{candidates, candidate}
+use Rattle.candidates.proofs.CandidateLaws.{candidates-abs, candidates-length-rel, candidate-rel}
 use Rattle.search.specs.declared.extension.Found.{Found}
 use Rattle.search.specs.declared.extension.Resolved.the-variants.{Field, Refused}
 use Rattle.scope.specs.Scope.{Scope}

@@ -17,7 +17,7 @@ use Prim.Native.Nat.{ℕ, _<_}
 use lib.ListN.{length, getD, getElem?}
 use Rattle.field.specs.Leaf.{text, isText}
 use Rattle.path.specs.Path.{Path, components, parent, last}
-use Rattle.path.specs.Candidates.{candidates}
+use Rattle.candidates.specs.Candidates.{candidates}
 use Rattle.sheet.specs.declared.declaration.Declaration.{Declaration}
 use Rattle.sheet.specs.Tree.{File, treeOf}
 use Rattle.sheet.specs.Members.{extensionsOf}

@@ -20,7 +20,7 @@ use Prim.Native.Nat.{ℕ}
 use Rattle.reply.specs.declared.Refusal.the-variants.{ExtensionNotFound, WrongExtensionType}
 use Rattle.reply.specs.declared.Refusal.the-variants.{MessageNotFound, MessageFoundMoreThanOnce}
 use Rattle.path.specs.Path.{Name, Path, parent, last}
-use Rattle.path.specs.Candidates.{candidates}
+use Rattle.candidates.specs.Candidates.{candidates}
 use Rattle.sheet.specs.Table.{extensionTag}
 use Rattle.sheet.specs.Members.{Enumeration}
 use Rattle.basis.specs.First.{onlyIf, given, firstSome, collect}

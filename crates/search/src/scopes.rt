@@ -4,7 +4,7 @@ ghost use mathlib.Core.Path.{_≡_};
 ghost use Prim.Native.Nat.{suc, _≤_};
 ghost use lib.ListN.{length};
 ghost use Rattle.field.specs.Leaf.{onLeaf};
-ghost use Rattle.path.specs.Path.{namesFrom};
+ghost use Rattle.path.specs.inner.Places.{namesFrom};
 ghost use Rattle.scope.specs.Scope.{InSheet, holding, placed};
 ghost use Rattle.search.specs.Scopes.{follow as followOf};
 ghost use Rattle.search.specs.declared.scopes.Next.the-variants.{At};

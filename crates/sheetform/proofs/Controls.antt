@@ -16,15 +16,16 @@ use Rattle.types.specs.Types.{TYPE_MESSAGE, TYPE_UINT32}
 use Rattle.sheet.specs.Table.{fileTag, messageTag, extensionTag, enumTag, fieldTag, valueTag, packageTag, nameTag}
 use Rattle.sheet.specs.Table.{extendeeTag, numberTag, typeTag, labelTag, typePathTag, signedNumberTag}
 use Rattle.sheet.specs.Declaration.{hasTypePath, typePathAt, shapeAt, extensionAt, messageFieldAt, valueAt}
-use Rattle.sheetform.specs.Declarations.{goodShape, goodField, isField, isExtension, isValue}
+use Rattle.declform.specs.Declarations.{goodTypePath, goodShape, goodField, isField, isExtension, isValue}
 use Rattle.reply.specs.Verdicts.{beyond}
-use Rattle.sheetform.specs.Form.{badSheet, judgeValue, judgeEnum, judgeItem, judgeItems, judgeFile, judgeSheet}
+use Rattle.messageform.specs.Form.{badSheet, judgeValue, judgeEnum, judgeItem, judgeItems}
+use Rattle.sheetform.specs.Form.{judgeFile, judgeFiles, judgeSheet}
 
 -- a sheet's verdict, with all that it is computed by
 verdict : List ℕ → Verdict
-unfolding judgeSheet judgeFile judgeItems judgeItem judgeEnum judgeValue isExtension isField isValue goodField goodShape extensionAt
-    messageFieldAt valueAt shapeAt typePathAt hasTypePath leafAt walkBy fieldAt bigAt isRelOrEmpty isRelPath allIdent components split
-    onFirst isIdent isLetter isDigit allWord
+unfolding judgeSheet judgeFiles judgeFile judgeItems judgeItem judgeEnum judgeValue isExtension isField isValue goodField goodShape
+    goodTypePath extensionAt messageFieldAt valueAt shapeAt typePathAt hasTypePath leafAt walkBy fieldAt bigAt isRelOrEmpty isRelPath
+    allIdent components split onFirst isIdent isLetter isDigit allWord
 verdict = judgeSheet
 
 -- a field of less than 256 bytes

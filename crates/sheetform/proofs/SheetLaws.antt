@@ -1,4 +1,4 @@
--- The laws of files and sheets: the ways through `check_file` and `check_sheet`.
+-- The laws of files and sheets: the ways through `check_file`, `check_files` and `check_sheet`.
 -- Assumes nothing.
 use mathlib.Core.Path.{_≡_, refl, sym, _∙_}
 use mathlib.Core.Bool.{Bool, true, false}
@@ -14,6 +14,7 @@ use Rattle.path.specs.Path.{isRelOrEmpty}
 use Rattle.reply.specs.declared.Refusal.the-variants.{BadSheet}
 use Rattle.reply.specs.declared.Verdict.{Verdict}
 use Rattle.reply.specs.declared.Verdict.the-variants.{Fine}
+use Rattle.reply.proofs.VerdictLaws.{says}
 use Rattle.field.specs.declared.Leaf.{Leaf}
 use Rattle.field.specs.declared.Leaf.the-variants.{At, Not}
 use Rattle.field.specs.Walk.{Walk}
@@ -25,7 +26,8 @@ use Rattle.field.proofs.Rest.{Rest, rest-start}
 use Rattle.form.proofs.EachLaws.{each-from-laws}
 use Rattle.sheet.specs.Table.{fileTag, packageTag}
 use Rattle.reply.specs.Verdicts.{beyond}
-use Rattle.sheetform.specs.Form.{badSheet, judgeItems, judgeFile, judgeSheet}
+use Rattle.messageform.specs.Form.{badSheet, judgeItems}
+use Rattle.sheetform.specs.Form.{judgeFile, judgeFiles, judgeSheet}
 
 -- ---- check_file
 module _ (s : List ℕ) (i t a e : ℕ) where
@@ -49,21 +51,16 @@ module _ (s : List ℕ) (i t a e : ℕ) where
 
 pub ruleset file-laws = (file-other, file-beyond, file-unnamed, file-items, leaf-inside)
 
--- ---- check_sheet
+-- ---- check_files
 abbrev pub files : List ℕ → ℕ → Walk → Verdict
 files s = eachFrom BadSheet (judgeFile s)
 
-module _ (s : List ℕ) where
-  pub sheet-long : mostSheet < length s → beyond ≡ judgeSheet s
-  unfolding judgeSheet
-  sheet-long h = simp (judgeSheet, lt-ltb mostSheet (length s) h)
-
-  pub sheet-start : length s ≤ mostSheet → Rest (judgeSheet s) (files s 0) s (length s) 0
-  unfolding judgeSheet
-  sheet-start h = simp (judgeSheet, le-ltb mostSheet (length s) h) (rest-start (files s 0) s 0 (length s) (omega arith) (omega arith))
+pub files-start : (s : List ℕ) → Rest (judgeFiles s) (files s 0) s (length s) 0
+unfolding judgeFiles
+files-start s = rest-start (files s 0) s 0 (length s) (omega arith) (omega arith)
 
 -- a file that is fine is one of the first
-file-early : (s : List ℕ) (i t a e : ℕ) → Fine ≡ judgeFile s i t a e → i < mostFiles
+pub file-early : (s : List ℕ) (i t a e : ℕ) → Fine ≡ judgeFile s i t a e → i < mostFiles
 unfolding judgeFile
 file-early s i t a e = go (eqb t fileTag) (ltb i mostFiles) refl _
   where
@@ -76,4 +73,16 @@ file-early s i t a e = go (eqb t fileTag) (ltb i mostFiles) refl _
 pub file-counted : (s : List ℕ) (i t a e : ℕ) (u : Verdict) → u ≡ judgeFile s i t a e → u ≡ Fine → i + 1 < 2 ^ 64
 file-counted s i t a e u q g = omega (arith, file-early s i t a e (sym g ∙ q))
 
-pub ruleset sheet-laws = (sheet-long, sheet-start, file-counted, field-ordered, each-from-laws)
+pub ruleset files-laws = (files-start, file-counted, field-ordered, each-from-laws)
+
+-- ---- check_sheet
+module _ (s : List ℕ) where
+  pub sheet-long : mostSheet < length s → beyond ≡ judgeSheet s
+  unfolding judgeSheet
+  sheet-long h = simp (judgeSheet, lt-ltb mostSheet (length s) h)
+
+  pub sheet-files : length s ≤ mostSheet → (v : Verdict) → v ≡ judgeFiles s → v ≡ judgeSheet s
+  unfolding judgeSheet
+  sheet-files h v q = simp (judgeSheet, le-ltb mostSheet (length s) h) q
+
+pub ruleset sheet-laws = (says, sheet-long, sheet-files)

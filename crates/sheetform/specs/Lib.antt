@@ -1,3 +1,2 @@
-pub mod Declarations
 pub mod Form
 pub mod Fine

@@ -1,17 +1,15 @@
 // The form of a sheet: every byte string is fine, or has a first fault from the front.
-pub mod declarations;
-pub mod messages;
-
 ghost use mathlib.Core.Path.{_≡_};
 ghost use Prim.Native.Nat.{_≤_};
 ghost use lib.ListN.{length};
-ghost use Rattle.sheetform.specs.Form.{judgeFile, judgeSheet};
-use crate::messages::check_items;
+ghost use Rattle.reply.specs.Verdicts.{Says};
+ghost use Rattle.sheetform.specs.Form.{judgeFile, judgeFiles, judgeSheet};
 use field::Field;
 use field::Leaf;
 use limits::MOST_FILES;
 use limits::MOST_MESSAGES;
 use limits::MOST_SHEET;
+use messageform::check_items;
 use reply::Refusal;
 use reply::Verdict;
 use sheet::table;
@@ -33,13 +31,10 @@ fn check_file(s: &[u8], index: usize, tag: u8, from: usize, to: usize) -> Verdic
     check_items(s, body, to, MOST_MESSAGES, false)
 }
 
-// Whether a sheet is fine, or its first fault.
-pub fn check_sheet(s: &[u8]) -> Verdict
-    ensures { λ r. ⌜ r ≡ judgeSheet (now (s .entry)) ⌝ }
+// The files of a sheet.
+fn check_files(s: &[u8]) -> Verdict
+    ensures { λ r. ⌜ r ≡ judgeFiles (now (s .entry)) ⌝ }
 {
-    if MOST_SHEET < s.len() {
-        return Verdict::Refused(Refusal::BeyondLimit);
-    }
     let end = s.len();
     let mut at = 0;
     let mut index = 0;
@@ -54,4 +49,14 @@ pub fn check_sheet(s: &[u8]) -> Verdict
         at = to;
     }
     Verdict::Fine
+}
+
+// Whether a sheet is fine, or its first fault.
+pub fn check_sheet(s: &[u8]) -> Verdict
+    ensures { λ r. ⌜ Says (judgeSheet (now (s .entry))) r ⌝ }
+{
+    if MOST_SHEET < s.len() {
+        return Verdict::Refused(Refusal::BeyondLimit);
+    }
+    check_files(s)
 }

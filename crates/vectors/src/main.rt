@@ -18,7 +18,7 @@ use console::output::hex;
 use console::output::number;
 use console::output::text;
 use field::Leaf;
-use path::protobuf_path::candidates;
+use candidates::protobuf_path::candidates;
 
 const CASE: u8 = 0x60;
 

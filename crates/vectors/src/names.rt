@@ -1,9 +1,9 @@
 // The candidates of a name in a scope.
 use crate::case::begins;
 use crate::case::word_of;
+use candidates::protobuf_path::candidate;
+use candidates::protobuf_path::candidates;
 use limits::MOST_CANDIDATE;
-use path::protobuf_path::candidate;
-use path::protobuf_path::candidates;
 
 // Whether the i-th candidate is this one; it is put together in a lent buffer.
 fn spelled(name: &[u8], scope: &[u8], i: usize, out: &mut [u8], want: &[u8]) -> bool {

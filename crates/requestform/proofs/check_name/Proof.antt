@@ -1,6 +1,6 @@
--- `modelform::check_name` meets its contract.
+-- `check_name` meets its contract.
 -- Assumes nothing.
-use Rattle.requestform.proofs.OptionLaws.{name-laws}
+use Rattle.requestform.proofs.RequestLaws.{name-laws}
 use borrow.Author.Needs.{needs}
 use Rattle.requestform.proofs.check_name.Statement.{statement}
 use Rattle.requestform.proofs.check_name.Tie as tie

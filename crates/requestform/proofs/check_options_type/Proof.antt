@@ -1,6 +1,6 @@
--- `modelform::check_options_type` meets its contract.
+-- `check_options_type` meets its contract.
 -- Assumes nothing.
-use Rattle.requestform.proofs.RequestLaws.{type-is}
+use Rattle.requestform.proofs.RequestLaws.{alone-laws}
 use borrow.Author.Needs.{needs}
 use Rattle.requestform.proofs.check_options_type.Statement.{statement}
 use Rattle.requestform.proofs.check_options_type.Tie as tie
@@ -9,4 +9,4 @@ pub check-options-type-spec : {M : Type 1} → statement M
 check-options-type-spec = tie.close (tie.spec
     (λ c κs. search needs)
     (λ c κs. search needs)
-    (λ c. search (needs, type-is)))
+    (λ c. search (needs, alone-laws)))

@@ -1,6 +1,6 @@
--- `modelform::check_path` meets its contract.
+-- `check_path` meets its contract.
 -- Assumes nothing.
-use Rattle.requestform.proofs.RequestLaws.{path-is}
+use Rattle.requestform.proofs.RequestLaws.{alone-laws}
 use borrow.Author.Needs.{needs}
 use Rattle.requestform.proofs.check_path.Statement.{statement}
 use Rattle.requestform.proofs.check_path.Tie as tie
@@ -9,4 +9,4 @@ pub check-path-spec : {M : Type 1} → statement M
 check-path-spec = tie.close (tie.spec
     (λ c κs. search needs)
     (λ c κs. search needs)
-    (λ c. search (needs, path-is)))
+    (λ c. search (needs, alone-laws)))

@@ -1,4 +1,4 @@
--- `modelform::check_request` meets its contract.
+-- `check_request` meets its contract.
 -- Assumes nothing.
 use Rattle.requestform.proofs.RequestLaws.{request-laws}
 use borrow.Author.Needs.{needs}

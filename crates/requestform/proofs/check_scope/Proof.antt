@@ -1,6 +1,6 @@
--- `modelform::check_scope` meets its contract.
+-- `check_scope` meets its contract.
 -- Assumes nothing.
-use Rattle.requestform.proofs.RequestLaws.{scope-is}
+use Rattle.requestform.proofs.RequestLaws.{alone-laws}
 use borrow.Author.Needs.{needs}
 use Rattle.requestform.proofs.check_scope.Statement.{statement}
 use Rattle.requestform.proofs.check_scope.Tie as tie
@@ -9,4 +9,4 @@ pub check-scope-spec : {M : Type 1} → statement M
 check-scope-spec = tie.close (tie.spec
     (λ c κs. search needs)
     (λ c κs. search needs)
-    (λ c. search (needs, scope-is)))
+    (λ c. search (needs, alone-laws)))

@@ -25,7 +25,8 @@ use Rattle.field.specs.declared.Leaf.{Leaf}
 use Rattle.field.specs.declared.Leaf.the-variants.{At as LeafAt, Not}
 use Rattle.field.specs.Leaf.{span, anyBytes, leafAt, onLeaf}
 use Rattle.field.specs.Walk.{walk}
-use Rattle.path.specs.Path.{Path, dot, split, namesFrom}
+use Rattle.path.specs.Path.{Path, dot, split}
+use Rattle.path.specs.inner.Places.{namesFrom}
 use Rattle.sheet.specs.Table.{fileTag, packageTag}
 use Rattle.sheet.specs.Tree.{fileWith, itemsIn, filesIn}
 use Rattle.scope.specs.declared.lookup.LookupScope.{LookupScope}

@@ -1,7 +1,7 @@
 -- `extension::find_extension_by_path` meets its contract.
 -- Assumes nothing.
 use Prim.Native.Nat.{_-_}
-use Rattle.path.specs.Candidates.{candidates}
+use Rattle.candidates.specs.Candidates.{candidates}
 use Rattle.search.specs.Lookup.{findExtensionByPath, searched}
 use Rattle.search.proofs.ExtensionLaws.{Trying, extension-by-path-laws}
 use borrow.Author.Needs.{needs}

@@ -2,7 +2,7 @@
 -- Assumes nothing.
 use Prim.Native.Nat.{suc, _-_}
 use lib.ListN.{length}
-use Rattle.path.specs.Path.{namesFrom}
+use Rattle.path.specs.inner.Places.{namesFrom}
 use Rattle.scope.specs.Scope.{holding}
 use Rattle.search.specs.Scopes.{follow}
 use Rattle.search.proofs.ScopesLaws.{Following, follow-laws}

@@ -1,0 +1,4 @@
+pub mod LeafLaws
+pub mod ConstantLaws
+pub mod FineConstants
+pub mod FineLaws

@@ -1,0 +1,17 @@
+-- `good_shape` meets its contract.
+-- Assumes nothing.
+use Rattle.declform.proofs.DeclarationLaws.{shape-is}
+use borrow.Author.Needs.{needs}
+use Rattle.declform.proofs.good_shape.Statement.{statement}
+use Rattle.declform.proofs.good_shape.Tie as tie
+
+pub good-shape-spec : {M : Type 1} → statement M
+good-shape-spec = tie.close (tie.spec
+    (λ c. search (needs, shape-is))
+    (λ c κs. search (needs, shape-is))
+    (λ c. search (needs, shape-is))
+    (λ c κs. search (needs, shape-is))
+    (λ c. search (needs, shape-is))
+    (λ c κs. search (needs, shape-is))
+    (λ c κs. search (needs, shape-is))
+    (λ c. search (needs, shape-is)))

@@ -1,0 +1,17 @@
+-- `good_type_path` meets its contract.
+-- Assumes nothing.
+use Rattle.declform.proofs.DeclarationLaws.{type-path-laws}
+use borrow.Author.Needs.{needs}
+use Rattle.declform.proofs.good_type_path.Statement.{statement}
+use Rattle.declform.proofs.good_type_path.Tie as tie
+
+pub good-type-path-spec : {M : Type 1} → statement M
+good-type-path-spec = tie.close (tie.spec
+    (λ c. search (needs, type-path-laws))
+    (λ c κs. search (needs, type-path-laws))
+    (λ c. search (needs, type-path-laws))
+    (λ c. search (needs, type-path-laws))
+    (λ c. search (needs, type-path-laws))
+    (λ c. search (needs, type-path-laws))
+    (λ c κs. search (needs, type-path-laws))
+    (λ c. search (needs, type-path-laws)))

@@ -1,0 +1,15 @@
+-- `is_field` meets its contract.
+-- Assumes nothing.
+use Rattle.declform.proofs.DeclarationLaws.{is-field-laws}
+use borrow.Author.Needs.{needs}
+use Rattle.declform.proofs.is_field.Statement.{statement}
+use Rattle.declform.proofs.is_field.Tie as tie
+
+pub is-field-spec : {M : Type 1} → statement M
+is-field-spec = tie.close (tie.spec
+    (λ c κs. search (needs, is-field-laws))
+    (λ c. search (needs, is-field-laws))
+    (λ c. search (needs, is-field-laws))
+    (λ c. search (needs, is-field-laws))
+    (λ c κs. search (needs, is-field-laws))
+    (λ c. search (needs, is-field-laws)))

@@ -1,0 +1,3 @@
+pub mod MessageLaws
+pub mod FineItems
+pub mod FineLaws

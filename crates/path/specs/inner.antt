@@ -1,0 +1,3 @@
+-- Notions that only inner contracts need: a reader of 01 need not read them.
+pub mod Places
+pub mod Last
