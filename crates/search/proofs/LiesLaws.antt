@@ -31,10 +31,8 @@ use Rattle.sheet.proofs.LyingLaws.{Lying, lying-none, lying-message, lying-exte
 use Rattle.sheet.proofs.LyingLaws.{FileLies, Filed, filed-none, filed-one, tree-lies, tree-few}
 use Rattle.scope.specs.declared.lookup.LookupScope.{LookupScope}
 use Rattle.search.specs.declared.extension.Found.{Found}
-use Rattle.search.specs.declared.extension.Search.{Search}
-use Rattle.search.specs.declared.extension.Search.the-variants.{Is, Nowhere}
 use Rattle.search.specs.declared.extension.Resolved.{Resolved}
-use Rattle.search.specs.declared.extension.Resolved.the-variants.{Field}
+use Rattle.search.specs.declared.extension.Resolved.the-variants.{Field, Refused}
 use Rattle.search.specs.declared.full_name.LookedUp.{LookedUp}
 use Rattle.search.specs.declared.full_name.LookedUp.the-variants as looked
 use Rattle.search.specs.declared.full_name.LookedUpEnum.{LookedUpEnum}
@@ -43,10 +41,11 @@ use Rattle.basis.specs.First.{orElse, firstSome, onto, collect}
 use Rattle.scope.specs.Scope.{Scope, holding, fileScope, isNamed, down, declarationNamed, enumNamed, declared}
 use Rattle.search.specs.Number.{hasNumber, extends, isExtensionOf, fieldNumbered, extensionNumbered, declarationOf}
 use Rattle.search.specs.Scopes.{follow, scopeIn, scopesIn, scopesFrom, scopes}
-use Rattle.search.specs.Lookup.{foundIn, findExtensionByAbsPath, findExtensionByPath, searched, extended, compared, extResolveField}
+use Rattle.search.specs.Lookup.{foundIn, foundAt, findExtensionByPath, extended, compared, extResolveField}
 use Rattle.search.specs.Lookup.{messageOf, messagesAt, enumsAt, lookedUp, lookedUpEnum}
 use Rattle.basis.proofs.FirstLaws.{given-holds, Every, none-of, one-of, first-holds}
 use Rattle.scope.proofs.Answers.{declared-some}
+use Rattle.search.proofs.TriedLaws.{by-path-some}
 use Rattle.search.proofs.ScopeFiles.{only-some, down-file}
 use Rattle.scope.proofs.Held.{HeldEnum, down-held, down-lies-ordered, down-lies-within}
 use Rattle.scope.proofs.Held.{enum-held, enum-lies-ordered, enum-lies-within}
@@ -256,14 +255,6 @@ pub ruleset declaration-places-laws = (
 )
 
 -- ---- an extension that was found
-pub searched-none : (o : Option Found) (r : Search) → r ≡ searched o → r ≡ Nowhere → o ≡ none
-searched-none none r q g = refl
-searched-none (some f) r q g = never cc
-
-pub searched-some : (o : Option Found) (r : Search) → r ≡ searched o → (f : Found) → r ≡ Is f → o ≡ some f
-searched-some none r q f g = never cc
-searched-some (some x) r q f g = let u : x ≡ f = cc in rw u
-
 pub record FoundLies (s : List ℕ) (f : Found) : Type 0 where
   pub places : Places (length s) (f .declaration)
   pub counted : f .file ≤ length s
@@ -276,23 +267,23 @@ module _ (s : List ℕ) (f : Found) where
       let p′ : declarationNamed true s n (holding s (c .place)) ≡ some d = ap (declarationNamed true s n) (sym (k .held)) ∙ p in
       rw u record { places = named-places s (c .place) (k .within) d true n p′; counted = k .counted }
 
-  pub found-abs-lies : (p : Path) → findExtensionByAbsPath s p ≡ some f → FoundLies s f
-  unfolding findExtensionByAbsPath
+  pub found-abs-lies : (p : Path) → foundAt s p ≡ some f → FoundLies s f
+  unfolding foundAt
   found-abs-lies [] q = never cc
   found-abs-lies (n ∷ ns) q =
       first-some-holds (Standing s) (foundIn s (last (n ∷ ns))) f (FoundLies s f) (found-in-lies (last (n ∷ ns)))
       (scopes-stand s (parent (n ∷ ns))) q
 
-  pub found-lies : (scope name : List ℕ) → findExtensionByPath s scope name ≡ some f → FoundLies s f
-  unfolding findExtensionByPath
-  found-lies scope name =
-      first-some-holds (λ p. findExtensionByAbsPath s p ≡ some f → FoundLies s f) (findExtensionByAbsPath s) f (FoundLies s f)
-      (λ p k q. k q) (every-all (λ p. findExtensionByAbsPath s p ≡ some f → FoundLies s f) found-abs-lies (candidates scope name))
+  pub found-lies : (scope name : List ℕ) → findExtensionByPath s scope name ≡ Field f → FoundLies s f
+  found-lies scope name q =
+      first-some-holds (λ p. foundAt s p ≡ some f → FoundLies s f) (foundAt s) f (FoundLies s f)
+      (λ p k q. k q) (every-all (λ p. foundAt s p ≡ some f → FoundLies s f) found-abs-lies (candidates scope name))
+      (by-path-some s scope name f q)
 
 -- the same, of what the code answers
-module _ (s scope name : List ℕ) (r : Search) (q : r ≡ searched (findExtensionByPath s scope name)) (f : Found) (g : r ≡ Is f) where
+module _ (s scope name : List ℕ) (r : Resolved) (q : r ≡ findExtensionByPath s scope name) (f : Found) (g : r ≡ Field f) where
   answer-lies : FoundLies s f
-  answer-lies = found-lies s f scope name (searched-some (findExtensionByPath s scope name) r q f g)
+  answer-lies = found-lies s f scope name (sym q ∙ g)
 
   pub found-name-ordered : f .declaration .name .from ≤ f .declaration .name .to
   found-name-ordered = answer-lies .places .name .ordered
@@ -326,18 +317,18 @@ pub ruleset found-places-laws = (
 )
 
 -- and of an extension that was compared
-compared-some : (s m : List ℕ) (o : Option Found) (f : Found) → Field f ≡ compared s m o → o ≡ some f
-compared-some s m none f q = never cc
-compared-some s m (some x) f q = go (extends s m (x .declaration)) q
+compared-some : (s m : List ℕ) (r : Resolved) (f : Found) → Field f ≡ compared s m r → r ≡ Field f
+compared-some s m (Refused w) f q = never cc
+compared-some s m (Field x) f q = go (extends s m (x .declaration)) q
   where
-    go : (b : Bool) → Field f ≡ extended b x → some x ≡ some f
+    go : (b : Bool) → Field f ≡ extended b x → Field x ≡ Field f
     go true q = let u : x ≡ f = cc in rw u
     go false q = never cc
 
 module _ (s scope m name : List ℕ) (r : Resolved) (q : r ≡ extResolveField s scope m name) (f : Found) (g : r ≡ Field f) where
-  resolved-found : searched (findExtensionByPath s scope name) ≡ Is f
+  resolved-found : findExtensionByPath s scope name ≡ Field f
   unfolding extResolveField
-  resolved-found = ap searched (compared-some s m (findExtensionByPath s scope name) f (sym g ∙ q))
+  resolved-found = compared-some s m (findExtensionByPath s scope name) f (sym g ∙ q)
 
   pub resolved-name-ordered : f .declaration .name .from ≤ f .declaration .name .to
   resolved-name-ordered = found-name-ordered s scope name _ refl f resolved-found

@@ -1,6 +1,6 @@
 pub mod Scopes
 pub mod Cursor
 pub mod Lookup
-pub mod Ahead
 pub mod Answers
 pub mod Number
+pub mod inner
