@@ -1,8 +1,8 @@
 -- The laws of the look-ups of an extension: the ways through `first_extension`, `find_extension_by_abs_path`, `try_candidates`,
 -- `find_extension_by_path` and `ext_resolve_field_ext`.
 --
---       namedIn s n cs ==  the first extension of the name n in the scopes cs, as the code answers
---       triedOf s i ps ==  the first of the paths ps that answers, likewise; the first of ps has the position i
+--         namedIn s n cs ==  the first extension of the name n in the scopes cs, as the code answers
+--         triedOf s i ps ==  the first of the paths ps that answers, likewise; the first of ps has the position i
 --   Trying v s ps l₀ l i <-> v is what the paths ps from the i-th on come to, and the room l, lent as l₀, holds every candidate
 --
 -- Assumes nothing.

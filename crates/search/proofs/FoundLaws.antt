@@ -105,16 +105,18 @@ module _ (s scope name : List ℕ) (f : Found) where
   makes-answers a =
       let b = find-some s (a .of) f (a .makes) in
       let c = found-passes s (a .of) (b .of) f (b .makes) in
-      let longer = behind-ordered (candidates-fall scope name) (a .behind) in
-      (record {
-        path = a .of;
-        holder = b .of;
-        declares = record { scope = behind-among (b .behind); extension = behind-among (c .behind); name = c .passes };
-        file = found-file s (a .of) (b .of) f (b .makes);
-        first-candidate = behind-map (λ p m k. find-none s p (omega (arith, k .0)) (k .1)) longer;
-        first-scope = behind-map (λ d m. found-none s (a .of) d) (b .behind);
-        first-declared = behind-map (λ d m k q. k (q .name)) (c .behind);
-      }, refl)
+      let longer = behind-ordered (candidates-fall scope name) (a .behind) in (
+        record {
+          path = a .of;
+          holder = b .of;
+          declares = record { scope = behind-among (b .behind); extension = behind-among (c .behind); name = c .passes };
+          file = found-file s (a .of) (b .of) f (b .makes);
+          first-candidate = behind-map (λ p m k. find-none s p (omega (arith, k .0)) (k .1)) longer;
+          first-scope = behind-map (λ d m. found-none s (a .of) d) (b .behind);
+          first-declared = behind-map (λ d m k q. k (q .name)) (c .behind);
+        },
+        refl,
+      )
 
   pub found-answers : findExtensionByPath s scope name ≡ Field f → Answers s scope name f
   found-answers e = makes-answers (firsts-some (foundAt s) (candidates scope name) (by-path-some s scope name f e)) .0
@@ -211,9 +213,11 @@ module _ (s scope name : List ℕ) where
     unfolding candidate
     position-same d e = go (ltb (d .position) (c .position)) refl (ltb (c .position) (d .position)) refl
       where
-        go : (x : Bool) → ltb (d .position) (c .position) ≡ x → (y : Bool) → ltb (c .position) (d .position) ≡ y → d .position ≡ c .position
+        go : (x : Bool) → ltb (d .position) (c .position) ≡ x → (y : Bool) → ltb (c .position) (d .position) ≡ y
+            → d .position ≡ c .position
         go true u y v =
-            let nothing = none-find s (candidate scope name (d .position)) (a .before (d .position) (ltb-true (d .position) (c .position) u)) in
+            let less = ltb-true (d .position) (c .position) u in
+            let nothing = none-find s (candidate scope name (d .position)) (a .before (d .position) less) in
             let found = reaches d e .makes in
             never cc
         go false u true v = absurd (at-some (reaches d e .before (c .position) (ltb-true (c .position) (d .position) v)))

@@ -1,5 +1,5 @@
--- The theorems about the search, each below the sentence that it says. The words are in specs/Answers.antt; what they are about is defined in
--- specs/Lookup.antt, specs/Scopes.antt and, of the crate path, specs/Candidates.antt. `s` is the sheet, whatever its bytes.
+-- The theorems about the search, each below the sentence that it says. The words are in specs/Answers.antt; what they are about is defined
+-- in specs/Lookup.antt, specs/Scopes.antt and, of the crate path, specs/Candidates.antt. `s` is the sheet, whatever its bytes.
 -- Assumes nothing.
 use mathlib.Core.Path.{_≡_, refl, sym, ap, _∙_}
 use mathlib.Core.Bool.{true, false}

@@ -62,7 +62,8 @@ tried-unplaced : (o : Option Candidate) → resolved (orNotFound attempt.Answers
 tried-unplaced none = refl
 tried-unplaced (some c) = refl
 
-pub by-path : (s scope name : List ℕ) → findExtensionByPath s scope name ≡ orNotFound Field Refused (firstSome (foundAt s) (candidates scope name))
+pub by-path : (s scope name : List ℕ)
+    → findExtensionByPath s scope name ≡ orNotFound Field Refused (firstSome (foundAt s) (candidates scope name))
 unfolding findExtensionByPath tried
 by-path s scope name =
     tried-unplaced (foundAmong s 0 (candidates scope name)) ∙ ap (orNotFound Field Refused) (among-unplaced s 0 (candidates scope name))

@@ -1,14 +1,15 @@
 -- The words of the theorems about the search, proofs/Theorems.antt.
 --
---         Declares s p d c <-> the scope c stands at the path before p's last name, and declares the extension d under that name
---           Undeclared s p <-> no scope declares an extension under the path p
---   Answers s scope name f <-> f is declared under a candidate of the name, by a scope there; before this candidate, before this scope and
---                              before f in the scope nothing is declared so
--- AnswersAt s scope name c <-> and this candidate has the position of c among the candidates, counted from 0; under none at a position
---                              before that is anything declared
---            Gives s p i c <-> the package of the i-th file leads the path p, and the rest, followed as message names, comes to the scope c
---            packageOf s c ==  the package of the file that the scope c is of, as a path
---            Earlier s c d <-> the package of c has fewer components than that of d; or as many, and its file stands before that of d
+--           Declares s p d c <-> the scope c stands at the path before p's last name, and declares the extension d under that name
+--             Undeclared s p <-> no scope declares an extension under the path p
+--     Answers s scope name f <-> f is declared under a candidate of the name, by a scope there; before this candidate, before this scope
+--                                and before f in the scope nothing is declared so
+--   AnswersAt s scope name c <-> and this candidate has the position of c among the candidates, counted from 0; under none at a position
+--                                before that is anything declared
+--              Gives s p i c <-> the package of the i-th file leads the path p, and the rest, followed as message names, comes to the
+--                                scope c
+--              packageOf s c ==  the package of the file that the scope c is of, as a path
+--              Earlier s c d <-> the package of c has fewer components than that of d; or as many, and its file stands before that of d
 --
 -- Assumes nothing.
 use mathlib.Core.Path.{_≡_}

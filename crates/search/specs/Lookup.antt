@@ -2,7 +2,7 @@
 --
 --                      foundIn s n c == the first extension of the name n that the scope c declares, with the index of its file
 --                        foundAt s p == the first scope's first extension at the path p
---                foundAmong s at ps == the first of the paths ps at which there is one, and its position; the first of ps has the position `at`
+--                 foundAmong s at ps == the first of the paths ps at which there is one, and its position, `at` for the first of ps
 --           orNotFound found refused == what a look-up answers of what there is; of nothing that no extension was found
 --         findExtensionByAbsPath s p == the extension at the path p
 --                 tried s scope name == of the candidates of a name in a scope the first at which there is one, and its position

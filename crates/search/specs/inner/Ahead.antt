@@ -1,9 +1,9 @@
 -- Of the scopes that a cursor has still before it, those that pass a test.
 --
---       kept good c ==  the scope c, where it passes the test
+--          kept good c ==  the scope c, where it passes the test
 --   passing good s t c ==  the scopes to come, at the cursor c of the path t, that pass the test
---           isMessage c <=> the scope is a message
---    declaresEnum s n c <=> the scope declares an enum of the name n
+--          isMessage c <=> the scope is a message
+--   declaresEnum s n c <=> the scope declares an enum of the name n
 --
 -- Assumes nothing.
 use mathlib.Core.Bool.{Bool, true, false}
