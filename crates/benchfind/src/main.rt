@@ -17,7 +17,7 @@ use field::Span;
 use limits::MOST_CANDIDATE;
 use path::protobuf_path::is_path;
 use path::protobuf_rel_path::is_rel_or_empty;
-use search::extension::Search;
+use search::extension::Resolved;
 
 const SHEET: u8 = 0x40;
 
@@ -52,7 +52,7 @@ fn have_form(scope: &[u8], path: &[u8]) -> bool
 }
 
 // The search, with room for the candidates.
-fn found_in(sheet: &[u8], scope: &[u8], path: &[u8]) -> Search
+fn found_in(sheet: &[u8], scope: &[u8], path: &[u8]) -> Resolved
     requires { ⌜ (isRelOrEmpty (now scope) ≡ true) × (isPath (now path) ≡ true) ⌝ }
 {
     let mut room = [0u8; MOST_CANDIDATE];
@@ -64,7 +64,7 @@ fn look_up(sheet: &[u8], scope: &[u8], path: &[u8], tally: Tally) -> Tally {
     if !have_form(scope, path) {
         return tally;
     }
-    let Search::Is(found) = found_in(sheet, scope, path) else {
+    let Resolved::Field(found) = found_in(sheet, scope, path) else {
         return tally;
     };
     Tally {

@@ -1,3 +1,4 @@
 pub mod Field
 pub mod Walk
 pub mod Leaf
+pub mod Part

@@ -1,71 +1,63 @@
--- The laws of `put_found`, `find` and `found_name`: what was found lies in the sheet, so its words fit; and the ways to the answers.
+-- The laws of `put_found`, `find_tested`, `find` and `found_name`: what was found lies in the sheet, so its words fit; and the ways to the
+-- answers.
 -- Assumes nothing.
 use mathlib.Core.Path.{_≡_, refl, sym, ap, _∙_}
 use mathlib.Core.Bool.{Bool, true, false, _&&_}
 use mathlib.Core.List.{List, [], _∷_}
-use mathlib.Core.Option.{Option, none, some}
-use Prim.Native.Nat.{ℕ, _-_, _≤_, _<_}
+use Prim.Native.Nat.{ℕ, _+_, _-_, _≤_, _<_}
 use native.Mathlib.Omega.{arith}
-use borrow.Author.Tests.{ltb-false, leb-true}
+use borrow.Author.Tests.{leb-true}
 use mir.Syntax.{w32}
 use mir.Val.{Fits}
-use lib.Dec.{ltb, leb}
+use lib.Dec.{leb}
 use lib.ListN.{length}
 use Rattle.basis.specs.First.{onlyIf}
 use Rattle.basis.proofs.Never.{never}
 use Rattle.limits.specs.Figures.{mostSheet}
 use Rattle.octets.specs.Octets.{part}
 use Rattle.reply.specs.declared.Refusal.{Refusal}
-use Rattle.reply.specs.declared.Refusal.the-variants.{BeyondLimit}
 use Rattle.reply.specs.declared.Verdict.{Verdict}
 use Rattle.reply.specs.declared.Verdict.the-variants.{Fine, Refused as Bad}
 use Rattle.reply.specs.declared.Answer.{Answer}
 use Rattle.reply.specs.Reply.{nowhere, refusedBy}
 use Rattle.reply.specs.Outcome.{give, Answered}
 use Rattle.reply.proofs.Outcomes.{answered-refused}
-use Rattle.reply.proofs.VerdictLaws.{refused-fine, first-fine-front}
+use Rattle.reply.proofs.VerdictLaws.{first-fine-front}
 use Rattle.field.specs.declared.Leaf.{Leaf}
 use Rattle.field.specs.declared.Leaf.the-variants.{At, Not}
 use Rattle.field.specs.declared.Span.{Span}
+use Rattle.field.specs.Part.{PartOf}
 use Rattle.sheetform.specs.Form.{judgeSheet}
 use Rattle.search.specs.declared.extension.Found.{Found}
 use Rattle.search.specs.declared.extension.Resolved.{Resolved}
 use Rattle.search.specs.declared.extension.Resolved.the-variants.{Field, Refused}
 use Rattle.search.specs.Lookup.{findExtensionByPath}
 use Rattle.search.proofs.LiesLaws.{FoundLies, found-lies}
-use Rattle.find.specs.Find.{judgeAll, foundOr, unless, finding, wordsOf, worded, findWords, foundName, spanIn, nameFor}
-use Rattle.find.specs.Small.{wordBound, SmallSpan, Small}
+use Rattle.find.specs.Find.{judgeLength, judgeAll, unless, findingBy, finding, findingTested, wordsOf, worded, findWords, findTested}
+use Rattle.find.specs.Find.{noBytes, nameSpan, spanIn, nameSpanFor}
+use Rattle.find.specs.inner.Small.{wordBound, SmallSpan, Small}
+use Rattle.find.proofs.FindingLaws.{fine-length, finding-tested, words-tested}
 
 -- ---- what was found
-sheet-short : (s : List ℕ) → judgeSheet s ≡ Fine → length s ≤ mostSheet
-unfolding judgeSheet
-sheet-short s h = go (ltb mostSheet (length s)) refl
+record Finds (v : Verdict) (s c p : List ℕ) (f : Found) : Type 0 where
+  fine : judgeAll v c p ≡ Fine
+  is : findExtensionByPath s c p ≡ Field f
+
+finds : (v : Verdict) (s c p : List ℕ) (f : Found) → findingBy v s c p ≡ Field f → Finds v s c p f
+unfolding findingBy
+finds v s c p f h = go (judgeAll v c p) refl h
   where
-    go : (b : Bool) → ltb mostSheet (length s) ≡ b → length s ≤ mostSheet
-    go false p = ltb-false mostSheet (length s) p
-    go true p = absurd (refused-fine BeyondLimit (sym (simp (judgeSheet, p)) ∙ h))
+    go : (u : Verdict) → judgeAll v c p ≡ u → unless u (findExtensionByPath s c p) ≡ Field f → Finds v s c p f
+    go (Bad w) x e = never cc
+    go Fine x e = record { fine = x; is = e }
 
-record Finds (s c p : List ℕ) (f : Found) : Type 0 where
-  fine : judgeAll s c p ≡ Fine
-  is : findExtensionByPath s c p ≡ some f
-
-finds : (s c p : List ℕ) (f : Found) → finding s c p ≡ Field f → Finds s c p f
-unfolding finding
-finds s c p f h = go (judgeAll s c p) refl (findExtensionByPath s c p) refl h
-  where
-    go : (v : Verdict) → judgeAll s c p ≡ v → (o : Option Found) → findExtensionByPath s c p ≡ o
-        → unless v (foundOr o) ≡ Field f → Finds s c p f
-    go (Bad w) x o y e = never cc
-    go Fine x none y e = never cc
-    go Fine x (some g) y e = record { fine = x; is = y ∙ ap some (let z : g ≡ f = cc in z) }
-
-module _ (s c p : List ℕ) (r : Resolved) (q : r ≡ finding s c p) (f : Found) (g : r ≡ Field f) where
+module _ (s c p : List ℕ) (r : Resolved) (q : r ≡ findingTested s c p) (f : Found) (g : r ≡ Field f) where
   lies : FoundLies s f
-  lies = found-lies s f c p (finds s c p f (sym q ∙ g) .is)
+  lies = found-lies s f c p (finds (judgeLength s) s c p f (sym q ∙ g) .is)
 
   short : length s ≤ mostSheet
   unfolding judgeAll
-  short = sheet-short s (first-fine-front (judgeSheet s) _ (finds s c p f (sym q ∙ g) .fine))
+  short = fine-length s (first-fine-front (judgeLength s) _ (finds (judgeLength s) s c p f (sym q ∙ g) .fine))
 
   pub finding-small : Small f
   finding-small =
@@ -124,15 +116,24 @@ module _ (f : Found) (name-at name-size extendee-at extendee-size path-at path-s
   unfolding wordsOf
   words-given h = rw (← b, ← d, ← g, ← a, ← c, ← e) h
 
--- ---- find
-module _ (s c p l : List ℕ) (r : Resolved) (q : r ≡ finding s c p) (a : Answer) where
-  pub find-refused : (w : Refusal) → r ≡ Refused w → a ≡ refusedBy w → Answered (findWords s c p) l l a
-  unfolding findWords
-  find-refused w g e = rw e (answered-refused (findWords s c p) l (nowhere w) (ap worded (sym q ∙ g)))
+-- ---- find_tested
+module _ (s c p l : List ℕ) (r : Resolved) (q : r ≡ findingTested s c p) (a : Answer) where
+  pub tested-refused : (w : Refusal) → r ≡ Refused w → a ≡ refusedBy w → Answered (findTested s c p) l l a
+  unfolding findTested
+  tested-refused w g e = rw e (answered-refused (findTested s c p) l (nowhere w) (ap worded (sym q ∙ g)))
 
-  pub find-found : (f : Found) → r ≡ Field f → (l′ : List ℕ) → Answered (give (wordsOf f)) l l′ a → Answered (findWords s c p) l l′ a
-  unfolding findWords
-  find-found f g l′ h = rw (← q, g) h
+  pub tested-found : (f : Found) → r ≡ Field f → (l′ : List ℕ) → Answered (give (wordsOf f)) l l′ a → Answered (findTested s c p) l l′ a
+  unfolding findTested
+  tested-found f g l′ h = rw (← q, g) h
+
+-- ---- find
+module _ (s c p l : List ℕ) (v : Verdict) (q : v ≡ judgeSheet s) (a : Answer) where
+  pub find-refused : (w : Refusal) → v ≡ Bad w → a ≡ refusedBy w → Answered (findWords s c p) l l a
+  unfolding findWords findingBy judgeAll
+  find-refused w g e = rw e (answered-refused (findWords s c p) l (nowhere w) (rw (← q, g)))
+
+  pub find-found : v ≡ Fine → (l′ : List ℕ) → Answered (findTested s c p) l l′ a → Answered (findWords s c p) l l′ a
+  find-found g l′ h = rw (words-tested s c p (sym q ∙ g)) h
 
 -- ---- span_in
 module _ (t : List ℕ) (p : Span) where
@@ -169,37 +170,48 @@ module _ (t : List ℕ) (p : Span) (r : Leaf) (q : r ≡ spanIn t p) (a e : ℕ)
   span-within = span-inside t p a e (sym g ∙ q) .within
 
 -- ---- found_name
-module _ (s t : List ℕ) (c p : Span) (r : Leaf) (q : r ≡ spanIn t c) where
-  pub name-no-scope : r ≡ Not → [] ≡ nameFor s t c p
-  unfolding nameFor
-  name-no-scope g = rw (← q, g)
+module _ (s t : List ℕ) (c p : Span) (b o : ℕ) (x : List ℕ) (b′ o′ : ℕ) (r : Leaf) (q : r ≡ spanIn t c) where
+  pub name-no-scope : r ≡ Not → PartOf noBytes s b o x b′ o′ → PartOf (nameSpanFor s t c p) s b o x b′ o′
+  unfolding nameSpanFor
+  name-no-scope g h = rw (← q, g) h
 
   module _ (a e : ℕ) (g : r ≡ At a e) (r′ : Leaf) (q′ : r′ ≡ spanIn t p) where
-    pub name-no-path : r′ ≡ Not → [] ≡ nameFor s t c p
-    unfolding nameFor
-    name-no-path g′ = rw (← q, g, ← q′, g′)
+    pub name-no-path : r′ ≡ Not → PartOf noBytes s b o x b′ o′ → PartOf (nameSpanFor s t c p) s b o x b′ o′
+    unfolding nameSpanFor
+    name-no-path g′ h = rw (← q, g, ← q′, g′) h
 
-    pub name-for : (n m : ℕ) → r′ ≡ At n m → (x : List ℕ) → x ≡ foundName s (part t a e) (part t n m) → x ≡ nameFor s t c p
-    unfolding nameFor
-    name-for n m g′ x h = rw (← q, g, ← q′, g′) h
+    pub name-for : (n m : ℕ) → r′ ≡ At n m → PartOf (nameSpan (finding s (part t a e) (part t n m))) s b o x b′ o′
+        → PartOf (nameSpanFor s t c p) s b o x b′ o′
+    unfolding nameSpanFor
+    name-for n m g′ h = rw (← q, g, ← q′, g′) h
 
 -- ---- name_in
-module _ (s c p : List ℕ) (r : Resolved) (q : r ≡ finding s c p) where
-  pub name-refused : (w : Refusal) → r ≡ Refused w → [] ≡ foundName s c p
-  unfolding foundName
-  name-refused w g = rw (← q, g)
+module _ (s c p : List ℕ) (b o : ℕ) (v : Verdict) (q : v ≡ judgeSheet s) where
+  pub name-bad-sheet : (w : Refusal) → v ≡ Bad w → (x : List ℕ) (b′ o′ : ℕ) → PartOf noBytes s b o x b′ o′
+      → PartOf (nameSpan (finding s c p)) s b o x b′ o′
+  unfolding findingBy judgeAll
+  name-bad-sheet w g x b′ o′ h = rw (← q, g) h
 
-  pub name-found : (f : Found) → r ≡ Field f → part s (f .declaration .name .from) (f .declaration .name .to) ≡ foundName s c p
-  unfolding foundName
-  name-found f g = rw (← q, g)
+  module _ (g : v ≡ Fine) (r : Resolved) (q′ : r ≡ findingTested s c p) where
+    pub name-refused : (w : Refusal) → r ≡ Refused w → (x : List ℕ) (b′ o′ : ℕ) → PartOf noBytes s b o x b′ o′
+        → PartOf (nameSpan (finding s c p)) s b o x b′ o′
+    name-refused w g′ x b′ o′ h = rw (finding-tested s c p (sym q ∙ g), ← q′, g′) h
+
+    -- a part of a slice starts so many bytes behind it
+    pub name-found : (f : Found) → r ≡ Field f
+        → PartOf (nameSpan (finding s c p)) s b o (part s (f .declaration .name .from) (f .declaration .name .to)) b
+        (f .declaration .name .from + o)
+    name-found f g′ = rw (finding-tested s c p (sym q ∙ g), ← q′, g′) (record { bytes = refl; block = refl; offset = omega arith })
 
 pub ruleset span-laws = (place-fits, size-fits, size-ordered)
 
 pub ruleset put-found-laws = (file-fits, small-name, small-extendee, small-path, words-given)
 
-pub ruleset find-laws = (finding-small, find-refused, find-found)
+pub ruleset find-tested-laws = (finding-small, tested-refused, tested-found)
 
-pub ruleset name-in-laws = (name-ordered, name-within, name-refused, name-found)
+pub ruleset find-laws = (find-refused, find-found)
+
+pub ruleset name-in-laws = (name-ordered, name-within, name-bad-sheet, name-refused, name-found)
 
 pub ruleset span-in-laws = (span-is, span-not)
 

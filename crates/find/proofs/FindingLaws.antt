@@ -1,65 +1,85 @@
--- The laws of `finding`: the first fault of sheet, scope and path, and else what the search finds; and what is known of the scope and
--- the path that it is given.
+-- The laws of `finding_tested`: the first fault of the sheet's length, the scope and the path, and else what the search finds; what is
+-- known of the scope and the path that it is given; and that of a sheet of the right form the whole test says no more than its length's.
 -- Assumes nothing.
-use mathlib.Core.Path.{_≡_, refl, sym, _∙_}
-use mathlib.Core.Bool.{true}
+use mathlib.Core.Path.{_≡_, refl, sym, ap, _∙_}
+use mathlib.Core.Bool.{Bool, true, false}
 use mathlib.Core.List.{List}
-use mathlib.Core.Option.{Option, none, some}
-use Prim.Native.Nat.{ℕ}
+use Prim.Native.Nat.{ℕ, _≤_, _<_}
+use borrow.Author.Tests.{lt-ltb, le-ltb, ltb-false}
+use lib.Dec.{ltb}
+use lib.ListN.{length}
+use Rattle.basis.specs.First.{onlyIf}
 use Rattle.basis.proofs.Never.{never}
+use Rattle.limits.specs.Figures.{mostSheet}
 use Rattle.path.specs.Path.{isRelOrEmpty, isPath}
 use Rattle.reply.specs.declared.Refusal.{Refusal}
-use Rattle.reply.specs.declared.Refusal.the-variants.{BadRequest, ExtensionNotFound}
+use Rattle.reply.specs.declared.Refusal.the-variants.{BadRequest, BeyondLimit}
 use Rattle.reply.specs.declared.Verdict.{Verdict}
 use Rattle.reply.specs.declared.Verdict.the-variants.{Fine, Refused as Bad}
-use Rattle.reply.proofs.VerdictLaws.{judged-fine}
+use Rattle.reply.specs.Verdicts.{beyond}
+use Rattle.reply.proofs.VerdictLaws.{judged-fine, refused-fine}
 use Rattle.sheetform.specs.Form.{judgeSheet}
 use Rattle.requestform.specs.Form.{judgeScope, judgePath}
-use Rattle.search.specs.declared.extension.Found.{Found}
-use Rattle.search.specs.declared.extension.Search.{Search}
-use Rattle.search.specs.declared.extension.Search.the-variants.{Is, Nowhere}
 use Rattle.search.specs.declared.extension.Resolved.{Resolved}
-use Rattle.search.specs.declared.extension.Resolved.the-variants.{Field, Refused}
-use Rattle.search.specs.Lookup.{findExtensionByPath, searched}
-use Rattle.find.specs.Find.{judgeAll, foundOr, finding}
+use Rattle.search.specs.declared.extension.Resolved.the-variants.{Refused}
+use Rattle.search.specs.Lookup.{findExtensionByPath}
+use Rattle.find.specs.Find.{judgeLength, judgeAll, findingBy, finding, findingTested, worded, findWords, findTested}
 
--- ---- found_in
-module _ (o : Option Found) (r : Search) (q : r ≡ searched o) where
-  pub found-none : r ≡ Nowhere → Refused ExtensionNotFound ≡ foundOr o
-  found-none g = go o (sym g ∙ q)
+-- ---- the sheet's length
+module _ (s : List ℕ) where
+  pub length-beyond : mostSheet < length s → judgeLength s ≡ beyond
+  unfolding judgeLength
+  length-beyond h = rw (lt-ltb mostSheet (length s) h)
+
+  pub length-fine : length s ≤ mostSheet → judgeLength s ≡ Fine
+  unfolding judgeLength
+  length-fine h = rw (le-ltb mostSheet (length s) h)
+
+  pub fine-length : judgeLength s ≡ Fine → length s ≤ mostSheet
+  unfolding judgeLength
+  fine-length h = go (ltb mostSheet (length s)) refl h
     where
-      go : (o : Option Found) → Nowhere ≡ searched o → Refused ExtensionNotFound ≡ foundOr o
-      go none p = refl
-      go (some f) p = never cc
+      go : (b : Bool) → ltb mostSheet (length s) ≡ b → onlyIf b beyond Fine ≡ Fine → length s ≤ mostSheet
+      go false p q = ltb-false mostSheet (length s) p
+      go true p q = never cc
 
-  pub found-some : (f : Found) → r ≡ Is f → Field f ≡ foundOr o
-  found-some f g = go o (sym g ∙ q)
+  -- what is fine is short enough
+  pub sheet-length : judgeSheet s ≡ Fine → judgeLength s ≡ Fine
+  unfolding judgeSheet
+  sheet-length h = go (ltb mostSheet (length s)) refl
     where
-      go : (o : Option Found) → Is f ≡ searched o → Field f ≡ foundOr o
-      go none p = never cc
-      go (some f′) p = let e : f ≡ f′ = cc in rw e
+      go : (b : Bool) → ltb mostSheet (length s) ≡ b → judgeLength s ≡ Fine
+      go false p = length-fine (ltb-false mostSheet (length s) p)
+      go true p = absurd (refused-fine BeyondLimit (sym (simp (judgeSheet, p)) ∙ h))
 
-pub ruleset found-laws = (found-none, found-some)
+-- ---- of a sheet of the right form
+module _ (s c p : List ℕ) (h : judgeSheet s ≡ Fine) where
+  pub finding-tested : finding s c p ≡ findingTested s c p
+  finding-tested = ap (λ v. findingBy v s c p) (h ∙ sym (sheet-length s h))
 
--- ---- finding
-module _ (s c p : List ℕ) (v : Verdict) (q : v ≡ judgeSheet s) where
-  pub finding-bad-sheet : (w : Refusal) → v ≡ Bad w → Refused w ≡ finding s c p
-  unfolding finding judgeAll
-  finding-bad-sheet w g = rw (← q, g)
+  pub words-tested : findWords s c p ≡ findTested s c p
+  unfolding findWords findTested
+  words-tested = ap worded finding-tested
 
-  module _ (g : v ≡ Fine) (v′ : Verdict) (q′ : v′ ≡ judgeScope c) where
-    pub finding-bad-scope : (w : Refusal) → v′ ≡ Bad w → Refused w ≡ finding s c p
-    unfolding finding judgeAll
-    finding-bad-scope w g′ = rw (← q, g, ← q′, g′)
+-- ---- finding_tested
+module _ (s c p : List ℕ) where
+  pub finding-long : mostSheet < length s → Refused BeyondLimit ≡ findingTested s c p
+  unfolding findingBy judgeAll
+  finding-long h = rw (length-beyond s h)
 
-    module _ (g′ : v′ ≡ Fine) (v″ : Verdict) (q″ : v″ ≡ judgePath p) where
-      pub finding-bad-path : (w : Refusal) → v″ ≡ Bad w → Refused w ≡ finding s c p
-      unfolding finding judgeAll
-      finding-bad-path w g″ = rw (← q, g, ← q′, g′, ← q″, g″)
+  module _ (h : length s ≤ mostSheet) (v : Verdict) (q : v ≡ judgeScope c) where
+    pub finding-bad-scope : (w : Refusal) → v ≡ Bad w → Refused w ≡ findingTested s c p
+    unfolding findingBy judgeAll
+    finding-bad-scope w g = rw (length-fine s h, ← q, g)
 
-      pub finding-is : v″ ≡ Fine → (r : Resolved) → r ≡ foundOr (findExtensionByPath s c p) → r ≡ finding s c p
-      unfolding finding judgeAll
-      finding-is g″ r h = rw (← q, g, ← q′, g′, ← q″, g″) h
+    module _ (g : v ≡ Fine) (v′ : Verdict) (q′ : v′ ≡ judgePath p) where
+      pub finding-bad-path : (w : Refusal) → v′ ≡ Bad w → Refused w ≡ findingTested s c p
+      unfolding findingBy judgeAll
+      finding-bad-path w g′ = rw (length-fine s h, ← q, g, ← q′, g′)
+
+      pub finding-is : v′ ≡ Fine → (r : Resolved) → r ≡ findExtensionByPath s c p → r ≡ findingTested s c p
+      unfolding findingBy judgeAll
+      finding-is g′ r x = rw (length-fine s h, ← q, g, ← q′, g′) x
 
 -- ---- what was tested
 module _ (t : List ℕ) (v : Verdict) (g : v ≡ Fine) where
@@ -71,4 +91,4 @@ module _ (t : List ℕ) (v : Verdict) (g : v ≡ Fine) where
   unfolding judgePath
   path-form q = judged-fine BadRequest (isPath t) (sym q ∙ g)
 
-pub ruleset finding-laws = (finding-bad-sheet, finding-bad-scope, finding-bad-path, finding-is, scope-form, path-form)
+pub ruleset finding-laws = (finding-long, finding-bad-scope, finding-bad-path, finding-is, scope-form, path-form)

@@ -1,35 +1,38 @@
--- The call `find`: an extension by its path in a scope, of any sheet.
+-- The call `find`: an extension by its path in a scope, of any sheet; and `find_tested`, of a sheet whose form was tested before.
 --
---    judgeAll s c p == the first fault of the sheet s, the scope c and the path p, in this order
---         foundOr o == the extension, or that there is none
---        unless v r == r, or the refusal of the verdict v
---     finding s c p == the extension that the path p finds in the scope c, or why there is none
---         wordsOf f == the ten words of an extension
---          worded r == these words for the lent memory, or the refusal
---   findWords s c p == what `find` comes to
---        nameIn s r == the found extension's name, as the sheet has it; empty where there is none
---   foundName s c p == the name of what the path p finds in the scope c
---        spanIn t p == the two places of the span, where it is one of t
---   nameFor s t c p == the same, of a scope and a path that are spans of the request t; empty where they are not
+--          judgeLength s == what the length of the sheet s is judged
+--         judgeAll v c p == the first fault of the sheet, which is judged v, the scope c and the path p, in this order
+--             unless v r == r, or the refusal of the verdict v
+--      findingBy v s c p == the extension that the path p finds in the scope c of the sheet s, which is judged v, or why there is none
+--          finding s c p == the same, where the whole form of the sheet is judged
+--    findingTested s c p == the same, where its length is judged
+--              wordsOf f == the ten words of an extension
+--               worded r == these words for the lent memory, or the refusal
+--        findWords s c p == what `find` comes to
+--       findTested s c p == what `find_tested` comes to
+--                noBytes == no bytes, at the start
+--             nameSpan r == where the found extension's name stands in the sheet; no bytes at its start where there is none
+--             spanIn t p == the two places of the span, where it is one of t
+--    nameSpanFor s t c p == where the name of what is found stands, of a scope and a path that are spans of the request t; no bytes at the
+--                           sheet's start where they are not
 --
 -- Assumes nothing.
 use mathlib.Core.Bool.{_&&_}
 use mathlib.Core.List.{List, [], _∷_}
-use mathlib.Core.Option.{Option, none, some}
 use Prim.Native.Nat.{ℕ, _-_}
-use lib.Dec.{leb}
+use lib.Dec.{ltb, leb}
 use lib.ListN.{length}
 use Rattle.basis.specs.First.{onlyIf}
+use Rattle.limits.specs.Figures.{mostSheet}
 use Rattle.octets.specs.Octets.{part}
-use Rattle.reply.specs.declared.Refusal.the-variants.{ExtensionNotFound}
 use Rattle.reply.specs.declared.Verdict.{Verdict}
 use Rattle.reply.specs.declared.Verdict.the-variants.{Fine, Refused as Bad}
-use Rattle.reply.specs.Verdicts.{firstFault}
+use Rattle.reply.specs.Verdicts.{firstFault, beyond}
 use Rattle.reply.specs.Outcome.{Outcome, refuse, give}
 use Rattle.field.specs.declared.Span.{Span}
 use Rattle.field.specs.declared.Leaf.{Leaf}
 use Rattle.field.specs.declared.Leaf.the-variants.{At, Not}
-use Rattle.field.specs.Leaf.{text, onLeaf}
+use Rattle.field.specs.Leaf.{span, onLeaf}
 use Rattle.sheetform.specs.Form.{judgeSheet}
 use Rattle.requestform.specs.Form.{judgeScope, judgePath}
 use Rattle.search.specs.declared.extension.Found.{Found}
@@ -37,20 +40,26 @@ use Rattle.search.specs.declared.extension.Resolved.{Resolved}
 use Rattle.search.specs.declared.extension.Resolved.the-variants.{Field, Refused}
 use Rattle.search.specs.Lookup.{findExtensionByPath}
 
--- 01, Replies: "Inputs in the order a call names them, the sheet first"
-unfoldable pub judgeAll : List ℕ → List ℕ → List ℕ → Verdict
-judgeAll s c p = firstFault (judgeSheet s) (firstFault (judgeScope c) (judgePath p))
+-- 01, Most allowed: "sheet 32,768 bytes"; Replies: "each by over-length, then .. the first fault from the front"
+unfoldable pub judgeLength : (s : List ℕ) → Verdict
+judgeLength s = onlyIf (ltb mostSheet (length s)) beyond Fine
 
-abbrev pub foundOr : Option Found → Resolved
-foundOr none = Refused ExtensionNotFound
-foundOr (some f) = Field f
+-- 01, Replies: "Inputs in the order a call names them, the sheet first"
+unfoldable pub judgeAll : (v : Verdict) (c p : List ℕ) → Verdict
+judgeAll v c p = firstFault v (firstFault (judgeScope c) (judgePath p))
 
 abbrev pub unless : Verdict → Resolved → Resolved
 unless Fine r = r
 unless (Bad w) r = Refused w
 
-unfoldable pub finding : List ℕ → List ℕ → List ℕ → Resolved
-finding s c p = unless (judgeAll s c p) (foundOr (findExtensionByPath s c p))
+unfoldable pub findingBy : (v : Verdict) (s c p : List ℕ) → Resolved
+findingBy v s c p = unless (judgeAll v c p) (findExtensionByPath s c p)
+
+abbrev pub finding : (s c p : List ℕ) → Resolved
+finding s c p = findingBy (judgeSheet s) s c p
+
+abbrev pub findingTested : (s c p : List ℕ) → Resolved
+findingTested s c p = findingBy (judgeLength s) s c p
 
 -- file index, place and length of the name, place and length of the extendee, number, type, label, place and length of the type path,
 -- which are 0 where there is none
@@ -66,21 +75,24 @@ abbrev pub worded : Resolved → Outcome ℕ
 worded (Field f) = give (wordsOf f)
 worded (Refused w) = refuse w
 
-unfoldable pub findWords : List ℕ → List ℕ → List ℕ → Outcome ℕ
+unfoldable pub findWords : (s c p : List ℕ) → Outcome ℕ
 findWords s c p = worded (finding s c p)
 
--- 01, The search: "Its name is handed back as the sheet's own bytes, never the request's"
-abbrev pub nameIn : List ℕ → Resolved → List ℕ
-nameIn s (Field f) = text s (f .declaration .name)
-nameIn s (Refused w) = []
+unfoldable pub findTested : (s c p : List ℕ) → Outcome ℕ
+findTested s c p = worded (findingTested s c p)
 
-unfoldable pub foundName : List ℕ → List ℕ → List ℕ → List ℕ
-foundName s c p = nameIn s (finding s c p)
+-- on a refusal a part is empty, and starts where the sheet does
+abbrev pub noBytes : Span
+noBytes = span 0 0
+
+-- 01, The search: "Its name is handed back as the sheet's own bytes, never the request's"
+abbrev pub nameSpan : Resolved → Span
+nameSpan (Field f) = f .declaration .name
+nameSpan (Refused w) = noBytes
 
 -- the span as a leaf of t
-unfoldable pub spanIn : List ℕ → Span → Leaf
+unfoldable pub spanIn : (t : List ℕ) (p : Span) → Leaf
 spanIn t p = onlyIf (leb (p .from) (p .to) && leb (p .to) (length t)) (At (p .from) (p .to)) Not
 
--- on a refusal a part is empty
-unfoldable pub nameFor : List ℕ → List ℕ → Span → Span → List ℕ
-nameFor s t c p = onLeaf [] (spanIn t c) λ a e. onLeaf [] (spanIn t p) λ n m. foundName s (part t a e) (part t n m)
+unfoldable pub nameSpanFor : (s t : List ℕ) (c p : Span) → Span
+nameSpanFor s t c p = onLeaf noBytes (spanIn t c) λ a e. onLeaf noBytes (spanIn t p) λ n m. nameSpan (finding s (part t a e) (part t n m))

@@ -4,38 +4,36 @@ ghost use mathlib.Core.Bool.{true};
 ghost use Prim.Native.Nat.{_-_};
 ghost use Rattle.path.specs.Path.{isRelOrEmpty, isPath};
 ghost use Rattle.reply.specs.Outcome.{Answered, give};
+ghost use Rattle.field.specs.Part.{PartOf};
 ghost use Rattle.search.specs.Lookup.{findExtensionByPath};
-ghost use Rattle.find.specs.Find.{foundOr, finding as findingOf, wordsOf, findWords, foundName, spanIn, nameFor};
-ghost use Rattle.find.specs.Small.{SmallSpan, Small};
+ghost use Rattle.find.specs.Find.{finding, findingTested, wordsOf, findWords, findTested, noBytes, nameSpan, spanIn, nameSpanFor};
+ghost use Rattle.find.specs.inner.Small.{SmallSpan, Small};
 use field::Leaf;
 use field::Span;
 use limits::MOST_CANDIDATE;
+use limits::MOST_SHEET;
 use reply::Answer;
 use reply::Refusal;
 use reply::Verdict;
 use search::extension::Found;
 use search::extension::Resolved;
-use search::extension::Search;
 
 // The search, with room for the candidates.
 fn found_in(sheet: &[u8], scope: &[u8], path: &[u8]) -> Resolved
     requires { ⌜ (isRelOrEmpty (now scope) ≡ true) × (isPath (now path) ≡ true) ⌝ }
-    ensures { λ r. ⌜ r ≡ foundOr (findExtensionByPath (now (sheet .entry)) (now (scope .entry)) (now (path .entry))) ⌝ }
+    ensures { λ r. ⌜ r ≡ findExtensionByPath (now (sheet .entry)) (now (scope .entry)) (now (path .entry)) ⌝ }
 {
     let mut room = [0u8; MOST_CANDIDATE];
-    let Search::Is(found) = search::extension::find_extension_by_path(sheet, scope, path, &mut room)
-    else {
-        return Resolved::Refused(Refusal::ExtensionNotFound);
-    };
-    Resolved::Field(found)
+    search::extension::find_extension_by_path(sheet, scope, path, &mut room)
 }
 
-// The extension, or why there is none: the first fault of the sheet, the scope and the path, or that no scope declares it.
-fn finding(sheet: &[u8], scope: &[u8], path: &[u8]) -> Resolved
-    ensures { λ r. ⌜ r ≡ findingOf (now (sheet .entry)) (now (scope .entry)) (now (path .entry)) ⌝ }
+// The extension, or why there is none: that the sheet is too long, the first fault of the scope and the path, or that no scope declares it.
+// The form of the sheet was tested before.
+fn finding_tested(sheet: &[u8], scope: &[u8], path: &[u8]) -> Resolved
+    ensures { λ r. ⌜ r ≡ findingTested (now (sheet .entry)) (now (scope .entry)) (now (path .entry)) ⌝ }
 {
-    if let Verdict::Refused(why) = sheetform::check_sheet(sheet) {
-        return Resolved::Refused(why);
+    if MOST_SHEET < sheet.len() {
+        return Resolved::Refused(Refusal::BeyondLimit);
     }
     if let Verdict::Refused(why) = requestform::check_scope(scope) {
         return Resolved::Refused(why);
@@ -82,23 +80,46 @@ fn put_found(found: Found, out: &mut [u32]) -> Answer
     emit::give_words(&words, out)
 }
 
-// File index, place and length of the name, place and length of the extendee, number, type, label, place and length of the type path.
-pub fn find(sheet: &[u8], scope: &[u8], path: &[u8], out: &mut [u32]) -> Answer
-    ensures { λ r. ⌜ Answered (findWords (now (sheet .entry)) (now (scope .entry)) (now (path .entry)))
+// As `find`, of a sheet whose form was tested before, for whoever asks many times of one sheet: of that its length alone is tested here.
+pub fn find_tested(sheet: &[u8], scope: &[u8], path: &[u8], out: &mut [u32]) -> Answer
+    ensures { λ r. ⌜ Answered (findTested (now (sheet .entry)) (now (scope .entry)) (now (path .entry)))
         (now (out .entry)) (now (out .exit)) r ⌝ }
 {
-    match finding(sheet, scope, path) {
+    match finding_tested(sheet, scope, path) {
         Resolved::Refused(why) => reply::refused(why),
         Resolved::Field(found) => put_found(found, out),
     }
 }
 
-// The found extension's name, as the sheet's own bytes; empty where there is none.
-fn name_in<'s, 'r>(sheet: &'s [u8], scope: &'r [u8], path: &'r [u8]) -> &'s [u8]
-    ensures { λ r. ⌜ now r ≡ foundName (now (sheet .entry)) (now (scope .entry)) (now (path .entry)) ⌝ }
+// File index, place and length of the name, place and length of the extendee, number, type, label, place and length of the type path.
+pub fn find(sheet: &[u8], scope: &[u8], path: &[u8], out: &mut [u32]) -> Answer
+    ensures { λ r. ⌜ Answered (findWords (now (sheet .entry)) (now (scope .entry)) (now (path .entry)))
+        (now (out .entry)) (now (out .exit)) r ⌝ }
 {
-    let Resolved::Field(found) = finding(sheet, scope, path) else {
-        return &sheet[..0];
+    if let Verdict::Refused(why) = sheetform::check_sheet(sheet) {
+        return reply::refused(why);
+    }
+    find_tested(sheet, scope, path, out)
+}
+
+// No bytes, at the start of the sheet.
+fn none_of(sheet: &[u8]) -> &[u8]
+    ensures { λ r. ⌜ PartOf noBytes (now (sheet .entry)) (sheet .entry .ptr .0) (sheet .entry .ptr .1) (now r) (r .ptr .0) (r .ptr .1) ⌝ }
+{
+    let start = 0;
+    &sheet[start..start]
+}
+
+// The found extension's name, as the sheet's own bytes; no bytes where there is none.
+fn name_in<'s, 'r>(sheet: &'s [u8], scope: &'r [u8], path: &'r [u8]) -> &'s [u8]
+    ensures { λ r. ⌜ PartOf (nameSpan (finding (now (sheet .entry)) (now (scope .entry)) (now (path .entry))))
+        (now (sheet .entry)) (sheet .entry .ptr .0) (sheet .entry .ptr .1) (now r) (r .ptr .0) (r .ptr .1) ⌝ }
+{
+    if let Verdict::Refused(_) = sheetform::check_sheet(sheet) {
+        return none_of(sheet);
+    }
+    let Resolved::Field(found) = finding_tested(sheet, scope, path) else {
+        return none_of(sheet);
     };
     let from = found.declaration.name.from;
     let to = found.declaration.name.to;
@@ -118,16 +139,17 @@ fn span_in(s: &[u8], p: Span) -> Leaf
     Leaf::Not
 }
 
-// The name of the extension that a path of the request finds in a scope of the request, as the sheet's own bytes; empty where `find`
+// The name of the extension that a path of the request finds in a scope of the request, as the sheet's own bytes; no bytes where `find`
 // refuses, or a span is none of the request.
 pub fn found_name<'s, 'r>(sheet: &'s [u8], request: &'r [u8], scope: Span, path: Span) -> &'s [u8]
-    ensures { λ r. ⌜ now r ≡ nameFor (now (sheet .entry)) (now (request .entry)) scope path ⌝ }
+    ensures { λ r. ⌜ PartOf (nameSpanFor (now (sheet .entry)) (now (request .entry)) scope path)
+        (now (sheet .entry)) (sheet .entry .ptr .0) (sheet .entry .ptr .1) (now r) (r .ptr .0) (r .ptr .1) ⌝ }
 {
     let Leaf::At { from: a, to: e } = span_in(request, scope) else {
-        return &sheet[..0];
+        return none_of(sheet);
     };
     let Leaf::At { from: n, to: m } = span_in(request, path) else {
-        return &sheet[..0];
+        return none_of(sheet);
     };
     name_in(sheet, &request[a..e], &request[n..m])
 }

@@ -49,10 +49,10 @@ fn part(s: &[u8], at: u32, n: u32) -> &[u8] {
 }
 
 // What the words of `find` say of the sheet.
-fn tell(sheet: &[u8], name: &[u8], words: &[u32])
+fn tell(sheet: &[u8], words: &[u32])
     requires { ⌜ length (now words) ≡ 10 ⌝ }
 {
-    line(b"name ", name);
+    line(b"name ", part(sheet, words[1], words[2]));
     numbered(b"number ", words[5]);
     line(b"extendee ", part(sheet, words[3], words[4]));
     numbered(b"type ", words[6]);
@@ -78,11 +78,7 @@ fn answer_case(s: &[u8], sheet: Span, scope: Span, path: Span)
     let answer = find::find(&s[from..to], &s[a..e], &s[n..m], &mut words);
     console::output::answer(answer);
     if answer.reply == 0 {
-        tell(
-            &s[from..to],
-            find::found_name(&s[from..to], s, scope, path),
-            &words,
-        );
+        tell(&s[from..to], &words);
     }
 }
 

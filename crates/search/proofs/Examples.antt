@@ -17,7 +17,7 @@ use Rattle.sheet.specs.Tree.{valueIn, itemIn, itemsIn, fileIn, treeOf}
 use Rattle.search.specs.declared.extension.Resolved.{Resolved}
 use Rattle.search.specs.declared.extension.Resolved.the-variants.{Field, Refused}
 use Rattle.search.specs.Scopes.{scopes}
-use Rattle.search.specs.Lookup.{findExtensionByAbsPath, findExtensionByPath, extResolveField}
+use Rattle.search.specs.Lookup.{foundAt, tried, findExtensionByPath, extResolveField}
 use Rattle.search.proofs.Sheets.{file, message, extension}
 
 -- ---- the sheets
@@ -63,7 +63,7 @@ abbrev example : List ℕ → String → String → Reply → Example
 example s scope name says = record { sheet = s; scope = scope; name = name; says = says }
 
 answer : Example → Reply
-unfolding extResolveField findExtensionByPath findExtensionByAbsPath scopes candidates ancestors components split onFirst
+unfolding extResolveField findExtensionByPath tried foundAt scopes candidates ancestors components split onFirst
     spell isAbs rootless parent last sameBytes treeOf fileIn itemsIn itemIn valueIn extensionAt messageFieldAt valueAt
     shapeAt typePathAt hasTypePath walkBy leafAt fieldAt bigAt
 answer x = reply (extResolveField (x .sheet) (ascii (x .scope)) (ascii options) (ascii (x .name)))

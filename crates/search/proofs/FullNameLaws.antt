@@ -1,18 +1,17 @@
--- The laws of the look-ups by full name: the ways through `next_message`, `find_message_by_abs_name`, `next_enum` and
--- `find_enum_by_abs_name`.
+-- The laws of the look-ups by full name: the ways through `next_message`, `next_enum`, `find_message_by_abs_name`, `enum_in`,
+-- `only_enum` and `find_enum_by_abs_name`.
 -- Assumes nothing.
-use mathlib.Core.Path.{_≡_, refl, ap, _∙_}
-use mathlib.Core.Bool.{true, false}
+use mathlib.Core.Path.{_≡_, refl, sym, ap, _∙_}
+use mathlib.Core.Bool.{Bool, true, false}
 use mathlib.Core.List.{List, [], _∷_}
-use mathlib.Core.Option.{none, some}
-use Prim.Native.Nat.{ℕ, _-_}
+use mathlib.Core.Option.{Option, none, some}
+use Prim.Native.Nat.{ℕ, suc, _-_, _<_}
+use native.Mathlib.Omega.{arith}
 use lib.Dec.{eqb}
 use lib.ListN.{length, take}
-use Rattle.basis.proofs.Never.{never}
 use Rattle.octets.specs.Octets.{part}
 use Rattle.field.specs.declared.Leaf.{Leaf}
 use Rattle.field.specs.declared.Leaf.the-variants as leaf
-use Rattle.field.specs.declared.Span.{Span}
 use Rattle.field.specs.Leaf.{span}
 use Rattle.reply.specs.declared.Refusal.the-variants.{MessageNotFound, MessageFoundMoreThanOnce}
 use Rattle.path.specs.Path.{Name, Path, components, parent, last}
@@ -24,51 +23,60 @@ use Rattle.search.specs.declared.scopes.Cursor.{Cursor}
 use Rattle.search.specs.declared.scopes.Next.{Next}
 use Rattle.search.specs.declared.scopes.Next.the-variants.{At, NoMore}
 use Rattle.search.specs.declared.full_name.LookedUp.the-variants.{Message, NoMessage}
+use Rattle.search.specs.declared.full_name.LookedUpEnum.{LookedUpEnum}
 use Rattle.search.specs.declared.full_name.LookedUpEnum.the-variants.{Values, NoEnum}
-use Rattle.search.specs.declared.full_name.NextEnum.{NextEnum}
-use Rattle.search.specs.declared.full_name.NextEnum.the-variants as enum
-use Rattle.basis.specs.First.{collect}
-use Rattle.scope.specs.Scope.{holding, enumNamed, bodied}
+use Rattle.basis.specs.First.{onlyIf, told, onto, collect}
+use Rattle.scope.specs.Scope.{Scope, holding, enumNamed, bodied}
 use Rattle.search.specs.Scopes.{scopes}
 use Rattle.search.specs.inner.Cursor.{ahead, startOf, Stands, Nexts}
 use Rattle.search.specs.Lookup.{messageOf, messagesAt, enumsAt, lookedUp, lookedUpEnum}
-use Rattle.search.specs.Ahead.{messagesAhead, enumsAhead, StepsEnum, NextsEnum}
-use Rattle.scope.proofs.Held.{FoundEnum, enum-at, enum-not}
-use Rattle.search.proofs.CursorLaws.{nexts-no-more, nexts-at, nexts-stands}
+use Rattle.search.specs.inner.Ahead.{kept, passing, isMessage, declaresEnum}
+use Rattle.scope.proofs.Held.{enum-at, enum-not}
+use Rattle.search.proofs.CursorLaws.{nexts-no-more, nexts-at, nexts-stands, nexts-lies}
 use Rattle.search.proofs.Left.{Left, left-end, left-some, left-none, left-laws}
 use Rattle.search.proofs.StartLaws.{components-some, last-text, start-ahead, start-stands, start-before, start-before-stands}
 
--- ---- next_message
-module _ (s t : List ℕ) (c₀ c : Cursor) (k : Left (messagesAhead s t c₀) (collect messageOf) s t c)
+-- ---- next_message and next_enum: the next of the scopes to come that passes a test
+module _ (good : Scope → Bool) (s t : List ℕ) (c₀ c : Cursor) (k : Left (passing good s t c₀) (collect (kept good)) s t c)
     (r : Next) (q : Nexts (ahead s t) s t c r) where
-  pub message-end : r ≡ NoMore → Nexts (messagesAhead s t) s t c₀ NoMore
-  message-end g = nexts-no-more (messagesAhead s t) s t c₀ (left-end (messagesAhead s t c₀) (collect messageOf) s t c k r q g)
+  pub passing-end : r ≡ NoMore → Nexts (passing good s t) s t c₀ NoMore
+  passing-end g = nexts-no-more (passing good s t) s t c₀ (left-end (passing good s t c₀) (collect (kept good)) s t c k r q g)
 
   module _ (p : LookupScope) (c′ : Cursor) (g : r ≡ At p c′) where
-    pub message-found : p .message ≡ true → Nexts (messagesAhead s t) s t c₀ (At p c′)
-    message-found h =
-        nexts-at (messagesAhead s t) s t c₀ p c′
+    pub passing-found : good (holding s p) ≡ true → Nexts (passing good s t) s t c₀ (At p c′)
+    passing-found h =
+        nexts-at (passing good s t) s t c₀ p c′
         (record {
           lies = q .some p c′ g .lies;
           stands = q .some p c′ g .stands;
-          is = left-some messageOf (messagesAhead s t c₀) s t c k r q p c′ g (holding s p) (rw h);
+          is = left-some (kept good) (passing good s t c₀) s t c k r q p c′ g (holding s p) (rw h);
         })
 
-    pub message-next : p .message ≡ false → Left (messagesAhead s t c₀) (collect messageOf) s t c′
-    message-next h = left-none messageOf (messagesAhead s t c₀) s t c k r q p c′ g (rw h)
+    pub passing-next : good (holding s p) ≡ false → Left (passing good s t c₀) (collect (kept good)) s t c′
+    passing-next h = left-none (kept good) (passing good s t c₀) s t c k r q p c′ g (rw h)
 
-pub ruleset next-message-laws = (left-laws, message-end, message-found, message-next)
+-- a scope declares an enum of the name where `enum_named` gives one
+module _ (s : List ℕ) (n : Name) (p : LookupScope) (l : Leaf) (x : l ≡ bodied (enumNamed s n (holding s p))) where
+  pub enum-declared : (a e : ℕ) → l ≡ leaf.At a e → declaresEnum s n (holding s p) ≡ true
+  enum-declared a e h = rw (enum-at s n p l x a e h .is)
+
+  pub enum-undeclared : l ≡ leaf.Not → declaresEnum s n (holding s p) ≡ false
+  enum-undeclared h = rw (enum-not s n p l x h)
+
+pub ruleset next-message-laws = (left-laws, passing-end, passing-found, passing-next)
+
+pub ruleset next-enum-laws = (left-laws, passing-end, passing-found, passing-next, enum-declared, enum-undeclared)
 
 -- ---- find_message_by_abs_name
-module _ (s t : List ℕ) (c : Cursor) (e : c ≡ startOf (eqb (length t) 0)) (r : Next) (q : Nexts (messagesAhead s t) s t c r) where
-  messages-all : messagesAt s (components t) ≡ messagesAhead s t c
+module _ (s t : List ℕ) (c : Cursor) (e : c ≡ startOf (eqb (length t) 0)) (r : Next) (q : Nexts (passing isMessage s t) s t c r) where
+  messages-all : messagesAt s (components t) ≡ passing isMessage s t c
   unfolding messagesAt
   messages-all = rw (start-ahead s t c e)
 
   pub messages-none : r ≡ NoMore → NoMessage MessageNotFound ≡ lookedUp (messagesAt s (components t))
   messages-none g = rw (messages-all, q .none g)
 
-  module _ (p : LookupScope) (c′ : Cursor) (g : r ≡ At p c′) (r′ : Next) (q′ : Nexts (messagesAhead s t) s t c′ r′) where
+  module _ (p : LookupScope) (c′ : Cursor) (g : r ≡ At p c′) (r′ : Next) (q′ : Nexts (passing isMessage s t) s t c′ r′) where
     pub messages-one : r′ ≡ NoMore → Message p ≡ lookedUp (messagesAt s (components t))
     messages-one g′ = rw (messages-all, q .some p c′ g .is, q′ .none g′)
 
@@ -78,41 +86,64 @@ module _ (s t : List ℕ) (c : Cursor) (e : c ≡ startOf (eqb (length t) 0)) (r
 
 pub ruleset message-by-name-laws = (start-stands, nexts-stands, messages-none, messages-one, messages-more)
 
--- ---- next_enum
-module _ (L : Cursor → List Enumeration) (s t : List ℕ) (c : Cursor) where
-  enums-no-more : L c ≡ [] → NextsEnum L s t c enum.NoMore
-  enums-no-more e = record { some = λ p c′ q. never cc; none = λ q. e }
+-- ---- enum_in
+module _ (s : List ℕ) (n : Name) (p : LookupScope) (l : Leaf) (x : l ≡ bodied (enumNamed s n (holding s p))) where
+  pub enum-in-none : l ≡ leaf.Not → NoEnum MessageNotFound ≡ lookedUpEnum (collect (enumNamed s n) (holding s p ∷ []))
+  enum-in-none h = rw (enum-not s n p l x h)
 
-  enums-at : (p : Span) (c′ : Cursor) → StepsEnum L s t c p c′ → NextsEnum L s t c (enum.At p c′)
-  enums-at p c′ k = record {
-    some = λ p₁ c₁ q. let u : p₁ ≡ p = cc in let v : c₁ ≡ c′ = cc in rw (u, v) k;
-    none = λ q. never cc;
-  }
+  pub enum-in-some : (a e : ℕ) → l ≡ leaf.At a e → Values (span a e) ≡ lookedUpEnum (collect (enumNamed s n) (holding s p ∷ []))
+  enum-in-some a e h = let f = enum-at s n p l x a e h in ap Values (f .body) ∙ rw (f .is)
 
-  pub enums-stands : (r : NextEnum) → NextsEnum L s t c r → (p : Span) (c′ : Cursor) → r ≡ enum.At p c′ → Stands s t c′
-  enums-stands r q p c′ g = q .some p c′ g .stands
+pub ruleset enum-in-laws = (enum-in-none, enum-in-some)
 
-module _ (s t : List ℕ) (n : Name) (c₀ c : Cursor) (k : Left (enumsAhead s t n c₀) (collect (enumNamed s n)) s t c)
-    (r : Next) (q : Nexts (ahead s t) s t c r) where
-  pub enum-end : r ≡ NoMore → NextsEnum (enumsAhead s t n) s t c₀ enum.NoMore
-  enum-end g = enums-no-more (enumsAhead s t n) s t c₀ (left-end (enumsAhead s t n c₀) (collect (enumNamed s n)) s t c k r q g)
+-- ---- only_enum
+-- what f makes of a list comes of those elements of which it makes something, one of each
+module _ {B : Type 0} (f : Scope → Option B) where
+  abbrev making : Scope → Bool
+  making c = told false (λ b. true) (f c)
 
-  module _ (p : LookupScope) (c′ : Cursor) (g : r ≡ At p c′) (l : Leaf) (x : l ≡ bodied (enumNamed s n (holding s p))) where
-    pub enum-found : (a e : ℕ) → l ≡ leaf.At a e → NextsEnum (enumsAhead s t n) s t c₀ (enum.At (span a e) c′)
-    enum-found a e h =
-        let f : FoundEnum s n (holding s p) (span a e) = enum-at s n p l x a e h in
-        enums-at (enumsAhead s t n) s t c₀ (span a e) c′
-        (record {
-          stands = q .some p c′ g .stands;
-          next = f .next;
-          body = f .body;
-          is = left-some (enumNamed s n) (enumsAhead s t n c₀) s t c k r q p c′ g (f .next) (f .is);
-        })
+  collect-kept : (cs : List Scope) → collect f (collect (kept making) cs) ≡ collect f cs
+  collect-kept [] = refl
+  collect-kept (c ∷ cs) = go (f c) refl (collect-kept cs)
+    where
+      go : (o : Option B) → f c ≡ o → collect f (collect (kept making) cs) ≡ collect f cs
+          → collect f (onto (onlyIf (told false (λ b. true) o) (some c) none) (collect (kept making) cs)) ≡ onto o (collect f cs)
+      go none e ih = ih
+      go (some b) e ih = rw (e, ih)
 
-    pub enum-next : l ≡ leaf.Not → Left (enumsAhead s t n c₀) (collect (enumNamed s n)) s t c′
-    enum-next h = left-none (enumNamed s n) (enumsAhead s t n c₀) s t c k r q p c′ g (enum-not s n p l x h)
+  collect-length : (cs : List Scope) → length (collect f cs) ≡ length (collect (kept making) cs)
+  collect-length [] = refl
+  collect-length (c ∷ cs) = go (f c) (collect-length cs)
+    where
+      go : (o : Option B) → length (collect f cs) ≡ length (collect (kept making) cs)
+          → length (onto o (collect f cs)) ≡ length (onto (onlyIf (told false (λ b. true) o) (some c) none) (collect (kept making) cs))
+      go none ih = ih
+      go (some b) ih = ap suc ih
 
-pub ruleset next-enum-laws = (left-laws, enum-end, enum-found, enum-next)
+enums-more-than-one : (es : List Enumeration) → 1 < length es → NoEnum MessageFoundMoreThanOnce ≡ lookedUpEnum es
+enums-more-than-one [] h = absurd (omega arith)
+enums-more-than-one (e ∷ []) h = absurd (omega arith)
+enums-more-than-one (e ∷ f ∷ es) h = refl
+
+module _ (s t : List ℕ) (n : Name) (c : Cursor) (r : Next) (q : Nexts (passing (declaresEnum s n) s t) s t c r) where
+  enums-kept : collect (enumNamed s n) (ahead s t c) ≡ collect (enumNamed s n) (passing (declaresEnum s n) s t c)
+  enums-kept = sym (collect-kept (enumNamed s n) (ahead s t c))
+
+  pub enums-none : r ≡ NoMore → NoEnum MessageNotFound ≡ lookedUpEnum (collect (enumNamed s n) (ahead s t c))
+  enums-none g = rw (enums-kept, q .none g)
+
+  module _ (p : LookupScope) (c′ : Cursor) (g : r ≡ At p c′) (r′ : Next) (q′ : Nexts (passing (declaresEnum s n) s t) s t c′ r′) where
+    pub enums-one : r′ ≡ NoMore → (v : LookedUpEnum) → v ≡ lookedUpEnum (collect (enumNamed s n) (holding s p ∷ []))
+        → v ≡ lookedUpEnum (collect (enumNamed s n) (ahead s t c))
+    enums-one g′ v y = y ∙ rw (enums-kept, q .some p c′ g .is, q′ .none g′)
+
+    pub enums-more : (p′ : LookupScope) (c″ : Cursor) → r′ ≡ At p′ c″
+        → NoEnum MessageFoundMoreThanOnce ≡ lookedUpEnum (collect (enumNamed s n) (ahead s t c))
+    enums-more p′ c″ g′ =
+        enums-more-than-one (collect (enumNamed s n) (ahead s t c))
+        (rw (collect-length (enumNamed s n) (ahead s t c), q .some p c′ g .is, q′ .some p′ c″ g′ .is) (omega arith))
+
+pub ruleset only-enum-laws = (nexts-stands, nexts-lies, enums-none, enums-one, enums-more)
 
 -- ---- find_enum_by_abs_name
 enums-some : (s : List ℕ) (p : Path) → (p ≡ [] → ⊥) → enumsAt s p ≡ collect (enumNamed s (last p)) (scopes s (parent p))
@@ -120,25 +151,16 @@ unfolding enumsAt
 enums-some s [] h = absurd (h refl)
 enums-some s (n ∷ p) h = refl
 
-pub enums-empty : (s t : List ℕ) → length t ≡ 0 → NoEnum MessageNotFound ≡ lookedUpEnum (enumsAt s (components t))
-unfolding enumsAt
-enums-empty s t h = rw (components-nil t h)
+module _ (s t : List ℕ) where
+  pub enums-empty : length t ≡ 0 → NoEnum MessageNotFound ≡ lookedUpEnum (enumsAt s (components t))
+  unfolding enumsAt
+  enums-empty h = rw (components-nil t h)
 
-module _ (s t : List ℕ) (h : length t ≡ 0 → ⊥) (i : ℕ) (k : LastAt t i) (b : List ℕ) (e : b ≡ take (i - 1) t)
-    (c : Cursor) (x : c ≡ startOf (eqb i 0)) (r : NextEnum) (q : NextsEnum (enumsAhead s b (part t i (length t))) s b c r) where
-  enums-all : enumsAt s (components t) ≡ enumsAhead s b (part t i (length t)) c
-  enums-all = enums-some s (components t) (components-some t h) ∙ rw (start-before s t i k b e c x, last-text t i k)
+  pub enums-found : (length t ≡ 0 → ⊥) → (r : ℕ) → LastAt t r → (b : List ℕ) → b ≡ take (r - 1) t
+      → (c : Cursor) → c ≡ startOf (eqb r 0)
+      → (v : LookedUpEnum) → v ≡ lookedUpEnum (collect (enumNamed s (part t r (length t))) (ahead s b c))
+      → v ≡ lookedUpEnum (enumsAt s (components t))
+  enums-found h r k b q c e v x =
+      x ∙ rw (start-before s t r k b q c e, last-text t r k, enums-some s (components t) (components-some t h))
 
-  pub enums-none : r ≡ enum.NoMore → NoEnum MessageNotFound ≡ lookedUpEnum (enumsAt s (components t))
-  enums-none g = rw (enums-all, q .none g)
-
-  module _ (p : Span) (c′ : Cursor) (g : r ≡ enum.At p c′)
-      (r′ : NextEnum) (q′ : NextsEnum (enumsAhead s b (part t i (length t))) s b c′ r′) where
-    pub enums-one : r′ ≡ enum.NoMore → Values p ≡ lookedUpEnum (enumsAt s (components t))
-    enums-one g′ = ap Values (q .some p c′ g .body) ∙ rw (enums-all, q .some p c′ g .is, q′ .none g′)
-
-    pub enums-more : (p′ : Span) (c″ : Cursor) → r′ ≡ enum.At p′ c″
-        → NoEnum MessageFoundMoreThanOnce ≡ lookedUpEnum (enumsAt s (components t))
-    enums-more p′ c″ g′ = rw (enums-all, q .some p c′ g .is, q′ .some p′ c″ g′ .is)
-
-pub ruleset enum-by-name-laws = (start-before-stands, enums-stands, enums-empty, enums-none, enums-one, enums-more)
+pub ruleset enum-by-name-laws = (start-before-stands, enums-empty, enums-found)

@@ -3,6 +3,7 @@ pub mod CursorLaws
 pub mod StartLaws
 pub mod Left
 pub mod ScopeFiles
+pub mod TriedLaws
 pub mod LiesLaws
 pub mod ExtensionLaws
 pub mod FullNameLaws

@@ -30,10 +30,8 @@ use Rattle.sheet.proofs.PlaceLaws.{Places}
 use Rattle.sheet.proofs.LyingLaws.{FileLies, Filed, filed-none, filed-one, tree-lies, tree-few}
 use Rattle.scope.specs.declared.lookup.LookupScope.{LookupScope}
 use Rattle.search.specs.declared.extension.Found.{Found}
-use Rattle.search.specs.declared.extension.Search.{Search}
-use Rattle.search.specs.declared.extension.Search.the-variants.{Is, Nowhere}
 use Rattle.search.specs.declared.extension.Resolved.{Resolved}
-use Rattle.search.specs.declared.extension.Resolved.the-variants.{Field}
+use Rattle.search.specs.declared.extension.Resolved.the-variants.{Field, Refused}
 use Rattle.search.specs.declared.full_name.LookedUp.{LookedUp}
 use Rattle.search.specs.declared.full_name.LookedUp.the-variants as looked
 use Rattle.search.specs.declared.full_name.LookedUpEnum.{LookedUpEnum}
@@ -42,7 +40,7 @@ use Rattle.basis.specs.First.{orElse}
 use Rattle.scope.specs.Scope.{Scope, InSheet, holding, fileScope, declarationNamed, enumNamed, declared}
 use Rattle.search.specs.Number.{hasNumber, extends, isExtensionOf, fieldNumbered, extensionNumbered, declarationOf}
 use Rattle.search.specs.Scopes.{scopeIn, scopesIn, scopesFrom, scopes}
-use Rattle.search.specs.Lookup.{foundIn, findExtensionByAbsPath, findExtensionByPath, searched, extended, compared, extResolveField}
+use Rattle.search.specs.Lookup.{foundIn, foundAt, findExtensionByPath, extended, compared, extResolveField}
 use Rattle.search.specs.Lookup.{messageOf, messagesAt, enumsAt, lookedUp, lookedUpEnum}
 use Rattle.basis.proofs.FirstLaws.{given-holds, Every, none-of, one-of, every-all, every-append, every-onto, every-collect}
 use Rattle.basis.proofs.FirstLaws.{first-some-holds}
@@ -51,6 +49,7 @@ use Rattle.scope.proofs.DeclaredPlaces.{Ordered, places-ordered, extension-lies
 use Rattle.scope.proofs.Held.{HeldEnum, enum-held, enum-lies-ordered, enum-lies-within}
 use Rattle.search.proofs.ScopeFiles.{only-some, follows, index}
 use Rattle.search.proofs.ScopesLaws.{Placed, followed-placed}
+use Rattle.search.proofs.TriedLaws.{by-path-some}
 
 -- ---- the scopes at a path
 pub record Standing (s : List ℕ) (c : Scope) : Type 0 where
@@ -110,14 +109,6 @@ module _ (s m : List ℕ) (k : ℕ) (p : LookupScope) (l : InSheet s p) (d : Dec
     numbered-ordered = places-ordered numbered-places
 
 -- ---- an extension that was found
-pub searched-none : (o : Option Found) (r : Search) → r ≡ searched o → r ≡ Nowhere → o ≡ none
-searched-none none r q g = refl
-searched-none (some f) r q g = never cc
-
-pub searched-some : (o : Option Found) (r : Search) → r ≡ searched o → (f : Found) → r ≡ Is f → o ≡ some f
-searched-some none r q f g = never cc
-searched-some (some x) r q f g = let u : x ≡ f = cc in rw u
-
 pub record FoundLies (s : List ℕ) (f : Found) : Type 0 where
   pub places : Places (length s) (f .declaration)
   pub counted : f .file ≤ length s
@@ -131,33 +122,33 @@ module _ (s : List ℕ) (f : Found) where
       let p′ = ap (declarationNamed extensionTag s n) (sym (k .held)) ∙ p in
       rw u record { places = declaration-lies s (c .place) (k .lies) extensionTag _ d p′; counted = k .counted }
 
-  pub found-abs-lies : (p : Path) → findExtensionByAbsPath s p ≡ some f → FoundLies s f
-  unfolding findExtensionByAbsPath
+  pub found-abs-lies : (p : Path) → foundAt s p ≡ some f → FoundLies s f
+  unfolding foundAt
   found-abs-lies [] q = never cc
   found-abs-lies (n ∷ ns) q =
       first-some-holds (Standing s) (foundIn s (last (n ∷ ns))) f (FoundLies s f) (found-in-lies (last (n ∷ ns)))
       (scopes-stand s (parent (n ∷ ns))) q
 
-  pub found-lies : (scope name : List ℕ) → findExtensionByPath s scope name ≡ some f → FoundLies s f
-  unfolding findExtensionByPath
-  found-lies scope name =
-      first-some-holds (λ p. findExtensionByAbsPath s p ≡ some f → FoundLies s f) (findExtensionByAbsPath s) f (FoundLies s f)
-      (λ p k q. k q) (every-all (λ p. findExtensionByAbsPath s p ≡ some f → FoundLies s f) found-abs-lies (candidates scope name))
+  pub found-lies : (scope name : List ℕ) → findExtensionByPath s scope name ≡ Field f → FoundLies s f
+  found-lies scope name q =
+      first-some-holds (λ p. foundAt s p ≡ some f → FoundLies s f) (foundAt s) f (FoundLies s f)
+      (λ p k q. k q) (every-all (λ p. foundAt s p ≡ some f → FoundLies s f) found-abs-lies (candidates scope name))
+      (by-path-some s scope name f q)
 
 -- what `find_extension_by_path` answers
-module _ (s scope name : List ℕ) (r : Search) (q : r ≡ searched (findExtensionByPath s scope name)) (f : Found) (g : r ≡ Is f) where
+module _ (s scope name : List ℕ) (r : Resolved) (q : r ≡ findExtensionByPath s scope name) (f : Found) (g : r ≡ Field f) where
   pub found-places : Places (length s) (f .declaration)
-  found-places = found-lies s f scope name (searched-some (findExtensionByPath s scope name) r q f g) .places
+  found-places = found-lies s f scope name (sym q ∙ g) .places
 
   pub found-ordered : Ordered (f .declaration)
   found-ordered = places-ordered found-places
 
 -- of an extension that was compared
-compared-some : (s m : List ℕ) (o : Option Found) (f : Found) → Field f ≡ compared s m o → o ≡ some f
-compared-some s m none f q = never cc
-compared-some s m (some x) f q = go (extends s m (x .declaration)) q
+compared-some : (s m : List ℕ) (r : Resolved) (f : Found) → Field f ≡ compared s m r → r ≡ Field f
+compared-some s m (Refused w) f q = never cc
+compared-some s m (Field x) f q = go (extends s m (x .declaration)) q
   where
-    go : (b : Bool) → Field f ≡ extended b x → some x ≡ some f
+    go : (b : Bool) → Field f ≡ extended b x → Field x ≡ Field f
     go true q = let u : x ≡ f = cc in rw u
     go false q = never cc
 

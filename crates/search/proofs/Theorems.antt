@@ -1,12 +1,12 @@
--- The theorems about the search, each below the sentence that it says. The words are in specs/Among.antt; what they are about is defined in
--- specs/Lookup.antt, specs/Scopes.antt and, of the crate path, specs/Candidates.antt. `s` is the sheet, whatever its bytes.
+-- The theorems about the search, each below the sentence that it says. The words are in specs/Answers.antt; what they are about is defined
+-- in specs/Lookup.antt, specs/Scopes.antt and, of the crate path, specs/Candidates.antt. `s` is the sheet, whatever its bytes.
 -- Assumes nothing.
-use mathlib.Core.Path.{_≡_, refl, sym, _∙_}
+use mathlib.Core.Path.{_≡_, refl, sym, ap, _∙_}
 use mathlib.Core.Bool.{true, false}
 use mathlib.Core.List.{List, [], _∷_, _++_}
-use mathlib.Core.Option.{none, some}
 use Prim.Native.Nat.{ℕ, suc, _-_, _≤_, _<_}
 use lib.ListN.{length, take}
+use Rattle.reply.specs.declared.Refusal.{Refusal}
 use Rattle.reply.specs.declared.Refusal.the-variants.{ExtensionNotFound, WrongExtensionType}
 use Rattle.octets.specs.Octets.{sameBytes}
 use Rattle.path.specs.Path.{Path, dot, components, spell, allIdent, isRelOrEmpty, isAbs, rootless, isPath, parent}
@@ -14,16 +14,19 @@ use Rattle.candidates.specs.Candidates.{ancestors}
 use Rattle.candidates.specs.Candidates.{candidates, candidate}
 use Rattle.candidates.proofs.CandidateLaws.{candidates-abs, candidates-length-rel, candidate-rel}
 use Rattle.search.specs.declared.extension.Found.{Found}
+use Rattle.search.specs.declared.extension.Candidate.{Candidate}
+use Rattle.search.specs.declared.extension.Tried.the-variants as attempt
 use Rattle.search.specs.declared.extension.Resolved.the-variants.{Field, Refused}
 use Rattle.scope.specs.Scope.{Scope}
 use Rattle.search.specs.Scopes.{scopes}
 use Rattle.search.specs.Number.{extends}
-use Rattle.search.specs.Lookup.{findExtensionByAbsPath, findExtensionByPath, extResolveField}
+use Rattle.search.specs.Lookup.{foundAt, orNotFound, findExtensionByAbsPath, tried, findExtensionByPath, extResolveField}
 use Rattle.basis.specs.Among.{Among, Ordered}
-use Rattle.search.specs.Answers.{Undeclared, Answers, Gives, Earlier}
+use Rattle.search.specs.Answers.{Undeclared, Answers, AnswersAt, Gives, Earlier}
 use Rattle.basis.proofs.AmongLaws.{ordered-mono}
 use Rattle.basis.proofs.AmongFirsts.{firsts-none, none-firsts, firsts-one}
 use Rattle.search.proofs.CandidateOrder.{candidates-fall, candidates-some, candidates-idents, parent-idents}
+use Rattle.search.proofs.TriedLaws.{by-path, by-path-none, by-path-why, none-by-path}
 use Rattle.search.proofs.FoundLaws as found
 use Rattle.search.proofs.ScopeFiles as files
 use Rattle.search.proofs.ScopeOrder.{from-ordered, earlier-apart, from-gives, gives-from}
@@ -31,22 +34,25 @@ use Rattle.search.proofs.ScopeOrder.{from-ordered, earlier-apart, from-
 -- ---- when nothing is found
 
 -- Nothing is found exactly when of no candidate a scope at the path before its last name declares an extension of that name.
-pub nowhere-none : (s scope name : List ℕ) → isPath name ≡ true → findExtensionByPath s scope name ≡ none
+pub nowhere-none : (s scope name : List ℕ) → isPath name ≡ true → findExtensionByPath s scope name ≡ Refused ExtensionNotFound
     → (p : Path) → Among p (candidates scope name) → Undeclared s p
-unfolding findExtensionByPath
 nowhere-none s scope name h e p m =
-    found.find-none s p (candidates-some scope name h p m) (firsts-none (findExtensionByAbsPath s) e m)
+    found.find-none s p (candidates-some scope name h p m) (firsts-none (foundAt s) (by-path-none s scope name ExtensionNotFound e) m)
 
 pub none-nowhere : (s scope name : List ℕ) → ((p : Path) → Among p (candidates scope name) → Undeclared s p)
-    → findExtensionByPath s scope name ≡ none
-unfolding findExtensionByPath
-none-nowhere s scope name h = none-firsts (findExtensionByAbsPath s) (candidates scope name) λ p m. found.none-find s p (h p m)
+    → findExtensionByPath s scope name ≡ Refused ExtensionNotFound
+none-nowhere s scope name h =
+    none-by-path s scope name (none-firsts (foundAt s) (candidates scope name) λ p m. found.none-find s p (h p m))
+
+-- There is no other refusal: a search finds an extension, or that there is none.
+pub refused-not-found : (s scope name : List ℕ) (w : Refusal) → findExtensionByPath s scope name ≡ Refused w → w ≡ ExtensionNotFound
+refused-not-found = by-path-why
 
 -- So an extension part that is reached gets ExtensionNotFound exactly when none of 01's scopes at its candidate paths declares that name.
 pub not-found-none : (s scope m name : List ℕ) → isPath name ≡ true → extResolveField s scope m name ≡ Refused ExtensionNotFound
     → (p : Path) → Among p (candidates scope name) → Undeclared s p
 unfolding extResolveField
-not-found-none s scope m name h e = nowhere-none s scope name h (found.compared-none s m (findExtensionByPath s scope name) e)
+not-found-none s scope m name h e = nowhere-none s scope name h (found.compared-not-found s m (findExtensionByPath s scope name) e)
 
 pub none-not-found : (s scope m name : List ℕ) → ((p : Path) → Among p (candidates scope name) → Undeclared s p)
     → extResolveField s scope m name ≡ Refused ExtensionNotFound
@@ -58,25 +64,47 @@ none-not-found s scope m name h = rw (none-nowhere s scope name h)
 -- 01: "The answer is the first candidate, then first scope, then first declared extension with the last component as its name." That scope
 -- declares it under that candidate. Under no candidate before it is anything declared; of the scopes there, none before it declares that
 -- name; and in the scope no extension before it has that name.
-pub found-answers : (s scope name : List ℕ) (f : Found) → findExtensionByPath s scope name ≡ some f → Answers s scope name f
+pub found-answers : (s scope name : List ℕ) (f : Found) → findExtensionByPath s scope name ≡ Field f → Answers s scope name f
 found-answers = found.found-answers
 
 -- And what this can be said of is found: it can be said of one thing only.
 pub answers-found : (s scope name : List ℕ) (f : Found) → isPath name ≡ true → Answers s scope name f
-    → findExtensionByPath s scope name ≡ some f
+    → findExtensionByPath s scope name ≡ Field f
 answers-found = found.answers-found
+
+-- The position that is given beside it is that of its candidate, counted from 0: the candidate of that position declares it, and none of a
+-- position before that declares anything. So one more than the position is the count of paths tried.
+pub tried-answers : (s scope name : List ℕ) (c : Candidate) → tried s scope name ≡ attempt.Answers c → AnswersAt s scope name c
+tried-answers = found.tried-answers
+
+-- And what this can be said of is the candidate that answers, with its position.
+pub answers-tried : (s scope name : List ℕ) → isPath name ≡ true → (c : Candidate) → AnswersAt s scope name c
+    → tried s scope name ≡ attempt.Answers c
+answers-tried = found.answers-tried
+
+-- What is found is what that candidate declares.
+pub found-tried : (s scope name : List ℕ) (c : Candidate) → tried s scope name ≡ attempt.Answers c
+    → findExtensionByPath s scope name ≡ Field (c .found)
+unfolding findExtensionByPath
+found-tried s scope name c e = rw e
 
 -- 01: "Only then is the extendee compared; a mismatch ends the search." Found first, tested second: what was found is the answer, or its
 -- extendee the reason for none.
-pub extendee-same : (s scope m name : List ℕ) (f : Found) → findExtensionByPath s scope name ≡ some f
+pub extendee-same : (s scope m name : List ℕ) (f : Found) → findExtensionByPath s scope name ≡ Field f
     → extends s m (f .declaration) ≡ true → extResolveField s scope m name ≡ Field f
 unfolding extResolveField
 extendee-same s scope m name f e h = rw (e, h)
 
-pub extendee-other : (s scope m name : List ℕ) (f : Found) → findExtensionByPath s scope name ≡ some f
+pub extendee-other : (s scope m name : List ℕ) (f : Found) → findExtensionByPath s scope name ≡ Field f
     → extends s m (f .declaration) ≡ false → extResolveField s scope m name ≡ Refused WrongExtensionType
 unfolding extResolveField
 extendee-other s scope m name f e h = rw (e, h)
+
+-- Where nothing was found, nothing is compared: the refusal of the search is the answer.
+pub refusal-same : (s scope m name : List ℕ) (w : Refusal) → findExtensionByPath s scope name ≡ Refused w
+    → extResolveField s scope m name ≡ Refused w
+unfolding extResolveField
+refusal-same s scope m name w e = rw e
 
 -- ---- candidates
 
@@ -104,8 +132,10 @@ unscoped-one name h = simp (candidates, h)
 
 -- A leading dot never walks outward: whatever the scope, the search is for that one path.
 pub rooted-is : (s scope name : List ℕ) → findExtensionByPath s scope (dot ∷ name) ≡ findExtensionByAbsPath s (components name)
-unfolding findExtensionByPath isAbs rootless
-rooted-is s scope name = rw (candidates-abs scope (dot ∷ name) refl) (firsts-one (findExtensionByAbsPath s) (components name))
+unfolding findExtensionByAbsPath isAbs rootless
+rooted-is s scope name =
+    by-path s scope (dot ∷ name)
+    ∙ rw (candidates-abs scope (dot ∷ name) refl) (ap (orNotFound Field Refused) (firsts-one (foundAt s) (components name)))
 
 pub rooted-same : (s scope scope′ name : List ℕ) → findExtensionByPath s scope (dot ∷ name) ≡ findExtensionByPath s scope′ (dot ∷ name)
 rooted-same s scope scope′ name = rooted-is s scope name ∙ sym (rooted-is s scope′ name)

@@ -1,6 +1,5 @@
 pub mod Scopes
-pub mod inner
 pub mod Lookup
-pub mod Ahead
 pub mod Answers
 pub mod Number
+pub mod inner

@@ -1,11 +1,15 @@
 -- Lookups, from 01's "The search": an extension by its path in a scope, a message and an enum by full name.
 --
 --                      foundIn s n c == the first extension of the name n that the scope c declares, with the index of its file
---         findExtensionByAbsPath s p == the first scope's first extension of the path p
---   findExtensionByPath s scope name == the first candidate's, of a name in a scope
---                         searched o == what the code answers, of what there is or is not
+--                        foundAt s p == the first scope's first extension at the path p
+--                 foundAmong s at ps == the first of the paths ps at which there is one, and its position, `at` for the first of ps
+--           orNotFound found refused == what a look-up answers of what there is; of nothing that no extension was found
+--         findExtensionByAbsPath s p == the extension at the path p
+--                 tried s scope name == of the candidates of a name in a scope the first at which there is one, and its position
+--                         resolved t == the extension of the candidate that answers
+--   findExtensionByPath s scope name == the extension that a name finds in a scope
 --                       extended b f == the extension f where b holds, else that its extendee is another
---                     compared s m o == the extension, where there is one and it is one of the message m
+--                     compared s m r == the extension, where there is one and it is one of the message m
 --     extResolveField s scope m name == the extension that a name finds in a scope, where it is one of the message m
 --                        messageOf c == the scope c, where it is a message
 --                     messagesAt s p == the messages of the full name p
@@ -16,19 +20,21 @@
 use mathlib.Core.Bool.{Bool, true, false}
 use mathlib.Core.List.{List, [], _∷_}
 use mathlib.Core.Option.{Option, none, some}
-use Prim.Native.Nat.{ℕ}
+use Prim.Native.Nat.{ℕ, _+_}
+use Rattle.reply.specs.declared.Refusal.{Refusal}
 use Rattle.reply.specs.declared.Refusal.the-variants.{ExtensionNotFound, WrongExtensionType}
 use Rattle.reply.specs.declared.Refusal.the-variants.{MessageNotFound, MessageFoundMoreThanOnce}
 use Rattle.path.specs.Path.{Name, Path, parent, last}
 use Rattle.candidates.specs.Candidates.{candidates}
 use Rattle.sheet.specs.Table.{extensionTag}
 use Rattle.sheet.specs.Members.{Enumeration}
-use Rattle.basis.specs.First.{onlyIf, given, firstSome, collect}
+use Rattle.basis.specs.First.{onlyIf, told, given, orElse, firstSome, collect}
 use Rattle.scope.specs.Scope.{Scope, declarationNamed, enumNamed}
 use Rattle.search.specs.Number.{extends}
 use Rattle.search.specs.declared.extension.Found.{Found}
-use Rattle.search.specs.declared.extension.Search.{Search}
-use Rattle.search.specs.declared.extension.Search.the-variants.{Is, Nowhere}
+use Rattle.search.specs.declared.extension.Candidate.{Candidate}
+use Rattle.search.specs.declared.extension.Tried.{Tried}
+use Rattle.search.specs.declared.extension.Tried.the-variants as attempt
 use Rattle.search.specs.declared.extension.Resolved.{Resolved}
 use Rattle.search.specs.declared.extension.Resolved.the-variants.{Field, Refused}
 use Rattle.search.specs.declared.full_name.LookedUp.{LookedUp}
@@ -37,42 +43,56 @@ use Rattle.search.specs.declared.full_name.LookedUpEnum.{LookedUpEnum}
 use Rattle.search.specs.declared.full_name.LookedUpEnum.the-variants.{Values, NoEnum}
 use Rattle.search.specs.Scopes.{scopes}
 
-abbrev pub foundIn : List ℕ → Name → Scope → Option Found
+abbrev pub foundIn : (s : List ℕ) (n : Name) (c : Scope) → Option Found
 foundIn s n c = given (declarationNamed extensionTag s n c) λ d. some (record { file = c .place .file; declaration = d })
 
 -- "The answer is the first candidate, then first scope, then first declared extension with the last component as its name."
-unfoldable pub findExtensionByAbsPath : List ℕ → Path → Option Found
-findExtensionByAbsPath s [] = none
-findExtensionByAbsPath s (n ∷ ns) = firstSome (foundIn s (last (n ∷ ns))) (scopes s (parent (n ∷ ns)))
+unfoldable pub foundAt : (s : List ℕ) (p : Path) → Option Found
+foundAt s [] = none
+foundAt s (n ∷ ns) = firstSome (foundIn s (last (n ∷ ns))) (scopes s (parent (n ∷ ns)))
 
-unfoldable pub findExtensionByPath : List ℕ → List ℕ → List ℕ → Option Found
-findExtensionByPath s scope name = firstSome (findExtensionByAbsPath s) (candidates scope name)
+abbrev pub foundAmong : (s : List ℕ) (at : ℕ) (ps : List Path) → Option Candidate
+foundAmong s at [] = none
+foundAmong s at (p ∷ ps) = orElse (given (foundAt s p) λ f. some (record { position = at; found = f })) (foundAmong s (at + 1) ps)
 
-abbrev pub searched : Option Found → Search
-searched none = Nowhere
-searched (some f) = Is f
+-- 01, Replies: 4, "no candidate has it". Here alone nothing becomes a refusal: whoever looks up an extension hands on what it is told.
+abbrev pub orNotFound : {A B : Type 0} → (found : A → B) (refused : Refusal → B) → Option A → B
+orNotFound found refused = told (refused ExtensionNotFound) found
+
+unfoldable pub findExtensionByAbsPath : (s : List ℕ) (p : Path) → Resolved
+findExtensionByAbsPath s p = orNotFound Field Refused (foundAt s p)
+
+unfoldable pub tried : (s scope name : List ℕ) → Tried
+tried s scope name = orNotFound attempt.Answers attempt.Refused (foundAmong s 0 (candidates scope name))
+
+abbrev pub resolved : Tried → Resolved
+resolved (attempt.Answers c) = Field (c .found)
+resolved (attempt.Refused w) = Refused w
+
+unfoldable pub findExtensionByPath : (s scope name : List ℕ) → Resolved
+findExtensionByPath s scope name = resolved (tried s scope name)
 
 -- "Only then is the extendee compared; a mismatch ends the search."
-abbrev pub extended : Bool → Found → Resolved
+abbrev pub extended : (fits : Bool) (f : Found) → Resolved
 extended true f = Field f
 extended false f = Refused WrongExtensionType
 
-abbrev pub compared : List ℕ → List ℕ → Option Found → Resolved
-compared s m none = Refused ExtensionNotFound
-compared s m (some f) = extended (extends s m (f .declaration)) f
+abbrev pub compared : (s m : List ℕ) → Resolved → Resolved
+compared s m (Field f) = extended (extends s m (f .declaration)) f
+compared s m (Refused w) = Refused w
 
-unfoldable pub extResolveField : List ℕ → List ℕ → List ℕ → List ℕ → Resolved
+unfoldable pub extResolveField : (s scope m name : List ℕ) → Resolved
 extResolveField s scope m name = compared s m (findExtensionByPath s scope name)
 
 -- "A message by full name: the scopes at that path that are messages"
 abbrev pub messageOf : Scope → Option Scope
 messageOf c = onlyIf (c .place .message) (some c) none
 
-unfoldable pub messagesAt : List ℕ → Path → List Scope
+unfoldable pub messagesAt : (s : List ℕ) (p : Path) → List Scope
 messagesAt s p = collect messageOf (scopes s p)
 
 -- "An enum likewise: the first of its last component's name in each scope at the path before it."
-unfoldable pub enumsAt : List ℕ → Path → List Enumeration
+unfoldable pub enumsAt : (s : List ℕ) (p : Path) → List Enumeration
 enumsAt s [] = []
 enumsAt s (n ∷ ns) = collect (enumNamed s (last (n ∷ ns))) (scopes s (parent (n ∷ ns)))
 

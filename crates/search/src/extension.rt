@@ -7,7 +7,8 @@ ghost use Rattle.limits.specs.Figures.{mostCandidate};
 ghost use Rattle.path.specs.Path.{components, isRelOrEmpty, isPath};
 ghost use Rattle.basis.specs.First.{firstSome};
 ghost use Rattle.search.specs.inner.Cursor.{ahead, Stands};
-ghost use Rattle.search.specs.Lookup.{foundIn, findExtensionByAbsPath, findExtensionByPath, extResolveField, searched};
+ghost use Rattle.search.specs.declared.extension.Resolved.the-variants.{Field, Refused};
+ghost use Rattle.search.specs.Lookup.{foundIn, orNotFound, findExtensionByAbsPath, tried, findExtensionByPath, extResolveField};
 use crate::scopes::Cursor;
 use crate::scopes::Next;
 use crate::scopes::next_scope;
@@ -28,32 +29,38 @@ pub struct Found {
     pub declaration: Declaration,
 }
 
-// What a search comes to.
-pub enum Search {
-    Is(Found),
-    Nowhere,
-}
-
-// What a search that compares the extendee comes to.
+// What a look-up comes to.
 pub enum Resolved {
     Field(Found),
     Refused(Refusal),
 }
 
+// The candidate that answers: its position among the candidates, counted from 0, and what is found there.
+pub struct Candidate {
+    pub position: usize,
+    pub found: Found,
+}
+
+// What trying the candidates comes to.
+pub enum Tried {
+    Answers(Candidate),
+    Refused(Refusal),
+}
+
 // The first extension of that name in the scopes that are still to come.
-fn first_extension(s: &[u8], names: &[u8], cursor: Cursor, name: &[u8]) -> Search
+fn first_extension(s: &[u8], names: &[u8], cursor: Cursor, name: &[u8]) -> Resolved
     requires { ⌜ Stands (now s) (now names) cursor ⌝ }
-    ensures { λ r. ⌜ r ≡ searched (firstSome (foundIn (now (s .entry)) (now (name .entry)))
+    ensures { λ r. ⌜ r ≡ orNotFound Field Refused (firstSome (foundIn (now (s .entry)) (now (name .entry)))
         (ahead (now (s .entry)) (now (names .entry)) cursor)) ⌝ }
 {
     let mut c = cursor;
     loop {
         let Next::At { scope, rest } = next_scope(s, names, c) else {
-            return Search::Nowhere;
+            return Resolved::Refused(Refusal::ExtensionNotFound);
         };
         c = rest;
         if let Declared::Declares(d) = declaration_named(s, scope, table::EXTENSION, name) {
-            return Search::Is(Found {
+            return Resolved::Field(Found {
                 file: scope.file,
                 declaration: d,
             });
@@ -62,31 +69,48 @@ fn first_extension(s: &[u8], names: &[u8], cursor: Cursor, name: &[u8]) -> Searc
 }
 
 // The extension of a full name.
-pub fn find_extension_by_abs_path(s: &[u8], path: &[u8]) -> Search
-    ensures { λ r. ⌜ r ≡ searched (findExtensionByAbsPath (now (s .entry)) (components (now (path .entry)))) ⌝ }
+pub fn find_extension_by_abs_path(s: &[u8], path: &[u8]) -> Resolved
+    ensures { λ r. ⌜ r ≡ findExtensionByAbsPath (now (s .entry)) (components (now (path .entry))) ⌝ }
 {
     if path.len() == 0 {
-        return Search::Nowhere;
+        return Resolved::Refused(Refusal::ExtensionNotFound);
     }
     let last = last_at(path);
     first_extension(s, before(path, last), start(last == 0), &path[last..])
 }
 
-// The extension that a name finds in a scope: the candidates are put together in lent room, one after the other.
-pub fn find_extension_by_path(s: &[u8], scope: &[u8], path: &[u8], room: &mut [u8]) -> Search
+// The candidates of a name in a scope, put together in lent room and looked up one after the other, until one answers.
+pub fn try_candidates(s: &[u8], scope: &[u8], path: &[u8], room: &mut [u8]) -> Tried
     requires { ⌜ (isRelOrEmpty (now scope) ≡ true) × (isPath (now path) ≡ true) × (mostCandidate ≤ length (now room)) ⌝ }
-    ensures { λ r. ⌜ r ≡ searched (findExtensionByPath (now (s .entry)) (now (scope .entry)) (now (path .entry))) ⌝ }
+    ensures { λ r. ⌜ r ≡ tried (now (s .entry)) (now (scope .entry)) (now (path .entry)) ⌝ }
 {
     let count = candidates(scope, path);
     let mut i = 0;
     while i < count {
         let n = candidate(scope, path, i, room);
-        if let Search::Is(found) = find_extension_by_abs_path(s, &room[..n]) {
-            return Search::Is(found);
+        if let Resolved::Field(found) = find_extension_by_abs_path(s, &room[..n]) {
+            return Tried::Answers(Candidate {
+                position: i,
+                found: found,
+            });
         }
         i += 1;
     }
-    Search::Nowhere
+    Tried::Refused(Refusal::ExtensionNotFound)
+}
+
+// The extension that a name finds in a scope.
+pub fn find_extension_by_path(s: &[u8], scope: &[u8], path: &[u8], room: &mut [u8]) -> Resolved
+    requires { ⌜ (isRelOrEmpty (now scope) ≡ true) × (isPath (now path) ≡ true) × (mostCandidate ≤ length (now room)) ⌝ }
+    ensures { λ r. ⌜ r ≡ findExtensionByPath (now (s .entry)) (now (scope .entry)) (now (path .entry)) ⌝ }
+{
+    match try_candidates(s, scope, path, room) {
+        Tried::Refused(why) => Resolved::Refused(why),
+        Tried::Answers(first) => {
+            let found = first.found;
+            Resolved::Field(found)
+        }
+    }
 }
 
 // The same, where it extends the message of that full name. A mismatch ends the search.
@@ -100,13 +124,15 @@ pub fn ext_resolve_field_ext(
     requires { ⌜ (isRelOrEmpty (now scope) ≡ true) × (isPath (now path) ≡ true) × (mostCandidate ≤ length (now room)) ⌝ }
     ensures { λ r. ⌜ r ≡ extResolveField (now (s .entry)) (now (scope .entry)) (now (message .entry)) (now (path .entry)) ⌝ }
 {
-    let Search::Is(found) = find_extension_by_path(s, scope, path, room) else {
-        return Resolved::Refused(Refusal::ExtensionNotFound);
-    };
-    let from = found.declaration.extendee.from;
-    let to = found.declaration.extendee.to;
-    if !octets::same(message, &s[from..to]) {
-        return Resolved::Refused(Refusal::WrongExtensionType);
+    match find_extension_by_path(s, scope, path, room) {
+        Resolved::Refused(why) => Resolved::Refused(why),
+        Resolved::Field(found) => {
+            let from = found.declaration.extendee.from;
+            let to = found.declaration.extendee.to;
+            if !octets::same(message, &s[from..to]) {
+                return Resolved::Refused(Refusal::WrongExtensionType);
+            }
+            Resolved::Field(found)
+        }
     }
-    Resolved::Field(found)
 }

@@ -1,9 +1,13 @@
 // Messages and enums by full name: there has to be exactly one.
 ghost use mathlib.Core.Path.{_≡_};
+ghost use mathlib.Core.List.{[], _∷_};
+ghost use Rattle.basis.specs.First.{collect};
+ghost use Rattle.field.specs.Leaf.{Lies};
 ghost use Rattle.path.specs.Path.{components};
-ghost use Rattle.search.specs.inner.Cursor.{Stands, Nexts};
+ghost use Rattle.scope.specs.Scope.{holding, enumNamed};
+ghost use Rattle.search.specs.inner.Cursor.{ahead, Stands, Nexts};
 ghost use Rattle.search.specs.Lookup.{messagesAt, enumsAt, lookedUp, lookedUpEnum};
-ghost use Rattle.search.specs.Ahead.{messagesAhead, enumsAhead, NextsEnum};
+ghost use Rattle.search.specs.inner.Ahead.{passing, isMessage, declaresEnum};
 use crate::scopes::Cursor;
 use crate::scopes::Next;
 use crate::scopes::next_scope;
@@ -28,16 +32,10 @@ pub enum LookedUpEnum {
     NoEnum(Refusal),
 }
 
-// What the next step of a walk through the enums of a full name comes to.
-pub enum NextEnum {
-    At { values: Span, rest: Cursor },
-    NoMore,
-}
-
 // The next message among the scopes that are still to come.
 fn next_message(s: &[u8], names: &[u8], cursor: Cursor) -> Next
     requires { ⌜ Stands (now s) (now names) cursor ⌝ }
-    ensures { λ r. ⌜ Nexts (messagesAhead (now (s .entry)) (now (names .entry))) (now (s .entry)) (now (names .entry)) cursor r ⌝ }
+    ensures { λ r. ⌜ Nexts (passing isMessage (now (s .entry)) (now (names .entry))) (now (s .entry)) (now (names .entry)) cursor r ⌝ }
 {
     let mut c = cursor;
     loop {
@@ -67,25 +65,51 @@ pub fn find_message_by_abs_name(s: &[u8], path: &[u8]) -> LookedUp
     LookedUp::Message(scope)
 }
 
-// The next enum of that name in the scopes that are still to come.
-fn next_enum(s: &[u8], names: &[u8], cursor: Cursor, name: &[u8]) -> NextEnum
+// The next of the scopes that are still to come that declares an enum of that name.
+fn next_enum(s: &[u8], names: &[u8], cursor: Cursor, name: &[u8]) -> Next
     requires { ⌜ Stands (now s) (now names) cursor ⌝ }
-    ensures { λ r. ⌜ NextsEnum (enumsAhead (now (s .entry)) (now (names .entry)) (now (name .entry)))
+    ensures { λ r. ⌜ Nexts (passing (declaresEnum (now (s .entry)) (now (name .entry))) (now (s .entry)) (now (names .entry)))
         (now (s .entry)) (now (names .entry)) cursor r ⌝ }
 {
     let mut c = cursor;
     loop {
         let Next::At { scope, rest } = next_scope(s, names, c) else {
-            return NextEnum::NoMore;
+            return Next::NoMore;
         };
         c = rest;
-        if let Leaf::At { from, to } = enum_named(s, scope, name) {
-            return NextEnum::At {
-                values: Span { from: from, to: to },
+        if let Leaf::At { from: _, to: _ } = enum_named(s, scope, name) {
+            return Next::At {
+                scope: scope,
                 rest: rest,
             };
         }
     }
+}
+
+// The enum of that name in one scope.
+fn enum_in(s: &[u8], scope: LookupScope, name: &[u8]) -> LookedUpEnum
+    requires { ⌜ Lies (scope .body) (now s) ⌝ }
+    ensures { λ r. ⌜ r ≡ lookedUpEnum (collect (enumNamed (now (s .entry)) (now (name .entry))) (holding (now (s .entry)) scope ∷ [])) ⌝ }
+{
+    let Leaf::At { from, to } = enum_named(s, scope, name) else {
+        return LookedUpEnum::NoEnum(Refusal::MessageNotFound);
+    };
+    LookedUpEnum::Values(Span { from: from, to: to })
+}
+
+// The one enum of that name in the scopes that are still to come.
+fn only_enum(s: &[u8], names: &[u8], cursor: Cursor, name: &[u8]) -> LookedUpEnum
+    requires { ⌜ Stands (now s) (now names) cursor ⌝ }
+    ensures { λ r. ⌜ r ≡ lookedUpEnum (collect (enumNamed (now (s .entry)) (now (name .entry)))
+        (ahead (now (s .entry)) (now (names .entry)) cursor)) ⌝ }
+{
+    let Next::At { scope, rest } = next_enum(s, names, cursor, name) else {
+        return LookedUpEnum::NoEnum(Refusal::MessageNotFound);
+    };
+    if let Next::At { scope: _, rest: _ } = next_enum(s, names, rest, name) {
+        return LookedUpEnum::NoEnum(Refusal::MessageFoundMoreThanOnce);
+    }
+    enum_in(s, scope, name)
 }
 
 // The enum of a full name.
@@ -96,12 +120,5 @@ pub fn find_enum_by_abs_name(s: &[u8], path: &[u8]) -> LookedUpEnum
         return LookedUpEnum::NoEnum(Refusal::MessageNotFound);
     }
     let last = last_at(path);
-    let names = before(path, last);
-    let NextEnum::At { values, rest } = next_enum(s, names, start(last == 0), &path[last..]) else {
-        return LookedUpEnum::NoEnum(Refusal::MessageNotFound);
-    };
-    if let NextEnum::At { values: _, rest: _ } = next_enum(s, names, rest, &path[last..]) {
-        return LookedUpEnum::NoEnum(Refusal::MessageFoundMoreThanOnce);
-    }
-    LookedUpEnum::Values(values)
+    only_enum(s, before(path, last), start(last == 0), &path[last..])
 }

@@ -8,6 +8,7 @@ mod names;
 mod replies;
 
 ghost use Prim.Native.Nat.{_≤_};
+use candidates::protobuf_path::candidates;
 use case::part;
 use case::told;
 use case::word_of;
@@ -18,7 +19,6 @@ use console::output::hex;
 use console::output::number;
 use console::output::text;
 use field::Leaf;
-use candidates::protobuf_path::candidates;
 
 const CASE: u8 = 0x60;
 

@@ -11,7 +11,7 @@ find-spec = tie.close (tie.spec
     (λ c. search (needs, find-laws))
     (λ c κs. search (needs, find-laws))
     (λ c. search (needs, find-laws))
-    (λ c κs. search (needs, find-laws))
     (λ c. search (needs, find-laws))
+    (λ c κs. search (needs, find-laws))
     (λ c. search (needs, find-laws))
     (λ c. search (needs, find-laws)))

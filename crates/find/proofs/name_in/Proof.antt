@@ -9,8 +9,13 @@ pub name-in-spec : {M : Type 1} → statement M
 name-in-spec = tie.close (tie.spec
     (λ c κs. search (needs, name-in-laws))
     (λ c. search (needs, name-in-laws))
+    (λ c κs. search (needs, name-in-laws))
     (λ c. search (needs, name-in-laws))
     (λ c. search (needs, name-in-laws))
+    (λ c κs. search (needs, name-in-laws))
+    (λ c. search (needs, name-in-laws))
+    (λ c. search (needs, name-in-laws))
+    (λ c κs. search (needs, name-in-laws))
     (λ c. search (needs, name-in-laws))
     (λ c. search (needs, name-in-laws))
     (λ c. search (needs, name-in-laws))

@@ -3,13 +3,13 @@
 use lib.ListN.{length}
 use Rattle.search.specs.inner.Cursor.{ahead}
 use Rattle.search.proofs.Left.{Left}
-use Rattle.search.proofs.ExtensionLaws.{foundAmong, first-extension-laws}
+use Rattle.search.proofs.ExtensionLaws.{namedIn, first-extension-laws}
 use borrow.Author.Needs.{needs}
 use Rattle.search.proofs.extension.first_extension.Statement.{statement}
 use Rattle.search.proofs.extension.first_extension.Tie as tie
 
 abbrev Inv-loop : tie.InvT-loop
-Inv-loop s names name c₀ c = Left (foundAmong s name (ahead s names c₀)) (foundAmong s name) s names c
+Inv-loop s names name c₀ c = Left (namedIn s name (ahead s names c₀)) (namedIn s name) s names c
 
 abbrev μ-loop : tie.MeasureT-loop
 μ-loop s names name c₀ c = length (ahead s names c)

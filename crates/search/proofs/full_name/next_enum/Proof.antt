@@ -2,9 +2,8 @@
 -- Assumes nothing.
 use lib.ListN.{length}
 use Rattle.basis.specs.First.{collect}
-use Rattle.scope.specs.Scope.{enumNamed}
 use Rattle.search.specs.inner.Cursor.{ahead}
-use Rattle.search.specs.Ahead.{enumsAhead}
+use Rattle.search.specs.inner.Ahead.{kept, passing, declaresEnum}
 use Rattle.search.proofs.Left.{Left}
 use Rattle.search.proofs.FullNameLaws.{next-enum-laws}
 use borrow.Author.Needs.{needs}
@@ -12,7 +11,7 @@ use Rattle.search.proofs.full_name.next_enum.Statement.{statement}
 use Rattle.search.proofs.full_name.next_enum.Tie as tie
 
 abbrev Inv-loop : tie.InvT-loop
-Inv-loop s names name c₀ c = Left (enumsAhead s names name c₀) (collect (enumNamed s name)) s names c
+Inv-loop s names name c₀ c = Left (passing (declaresEnum s name) s names c₀) (collect (kept (declaresEnum s name))) s names c
 
 abbrev μ-loop : tie.MeasureT-loop
 μ-loop s names name c₀ c = length (ahead s names c)

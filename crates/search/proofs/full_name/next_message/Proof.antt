@@ -3,8 +3,7 @@
 use lib.ListN.{length}
 use Rattle.basis.specs.First.{collect}
 use Rattle.search.specs.inner.Cursor.{ahead}
-use Rattle.search.specs.Lookup.{messageOf}
-use Rattle.search.specs.Ahead.{messagesAhead}
+use Rattle.search.specs.inner.Ahead.{kept, passing, isMessage}
 use Rattle.search.proofs.Left.{Left}
 use Rattle.search.proofs.FullNameLaws.{next-message-laws}
 use borrow.Author.Needs.{needs}
@@ -12,7 +11,7 @@ use Rattle.search.proofs.full_name.next_message.Statement.{statement}
 use Rattle.search.proofs.full_name.next_message.Tie as tie
 
 abbrev Inv-loop : tie.InvT-loop
-Inv-loop s names c₀ c = Left (messagesAhead s names c₀) (collect messageOf) s names c
+Inv-loop s names c₀ c = Left (passing isMessage s names c₀) (collect (kept isMessage)) s names c
 
 abbrev μ-loop : tie.MeasureT-loop
 μ-loop s names c₀ c = length (ahead s names c)

@@ -1,0 +1,14 @@
+-- `full_name::enum_in` meets its contract.
+-- Assumes nothing.
+use Rattle.search.proofs.FullNameLaws.{enum-in-laws}
+use borrow.Author.Needs.{needs}
+use Rattle.search.proofs.full_name.enum_in.Statement.{statement}
+use Rattle.search.proofs.full_name.enum_in.Tie as tie
+
+pub enum-in-spec : {M : Type 1} → statement M
+enum-in-spec = tie.close (tie.spec
+    (λ c κs. search (needs, enum-in-laws))
+    (λ c. search (needs, enum-in-laws))
+    (λ c. search (needs, enum-in-laws))
+    (λ c. search (needs, enum-in-laws))
+    (λ c. search (needs, enum-in-laws)))

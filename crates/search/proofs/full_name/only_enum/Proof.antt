@@ -1,0 +1,19 @@
+-- `full_name::only_enum` meets its contract.
+-- Assumes nothing.
+use Rattle.search.proofs.FullNameLaws.{only-enum-laws}
+use borrow.Author.Needs.{needs}
+use Rattle.search.proofs.full_name.only_enum.Statement.{statement}
+use Rattle.search.proofs.full_name.only_enum.Tie as tie
+
+pub only-enum-spec : {M : Type 1} → statement M
+only-enum-spec = tie.close (tie.spec
+    (λ c κs. search (needs, only-enum-laws))
+    (λ c. search (needs, only-enum-laws))
+    (λ c. search (needs, only-enum-laws))
+    (λ c. search (needs, only-enum-laws))
+    (λ c κs. search (needs, only-enum-laws))
+    (λ c. search (needs, only-enum-laws))
+    (λ c. search (needs, only-enum-laws))
+    (λ c. search (needs, only-enum-laws))
+    (λ c κs. search (needs, only-enum-laws))
+    (λ c. search (needs, only-enum-laws)))
