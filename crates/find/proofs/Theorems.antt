@@ -12,6 +12,7 @@ use Rattle.reply.specs.declared.Refusal.the-variants.{BadRequest, ExtensionNotF
 use Rattle.reply.specs.declared.Verdict.the-variants.{Fine, Refused as Bad}
 use Rattle.reply.specs.Verdicts.{firstFault}
 use Rattle.reply.specs.Outcome.{refuse, give}
+use Rattle.reply.proofs.Outcomes.{refuse-inv}
 use Rattle.reply.proofs.VerdictLaws.{first-fine-rest, judged-fine}
 use Rattle.sheetform.specs.Form.{judgeSheet}
 use Rattle.requestform.specs.Form.{judgeScope, judgePath}
@@ -43,7 +44,7 @@ module _ (s c p : List ℕ) (h : judgeAll (judgeSheet s) c p ≡ Fine) where
   not-found-none e = nowhere-none s c p path-form (go (findExtensionByPath s c p) (sym words-open ∙ e))
     where
       go : (r : Resolved) → worded r ≡ refuse ExtensionNotFound → r ≡ Refused ExtensionNotFound
-      go (Refused w) x = let u : w ≡ ExtensionNotFound = cc in rw u
+      go (Refused w) x = ap Refused (refuse-inv w ExtensionNotFound x)
       go (Field f) x = never cc
 
   pub none-not-found : ((q : Path) → Among q (candidates c p) → Undeclared s q) → findWords s c p ≡ refuse ExtensionNotFound
@@ -54,7 +55,7 @@ module _ (s c p : List ℕ) (h : judgeAll (judgeSheet s) c p ≡ Fine) where
   refused-not-found w e = go (findExtensionByPath s c p) refl (sym words-open ∙ e)
     where
       go : (r : Resolved) → findExtensionByPath s c p ≡ r → worded r ≡ refuse w → w ≡ ExtensionNotFound
-      go (Refused x) q y = let u : x ≡ w = cc in search-refuses s c p w (q ∙ ap Refused u)
+      go (Refused x) q y = search-refuses s c p w (q ∙ ap Refused (refuse-inv x w y))
       go (Field f) q y = never cc
 
   -- and else the words are those of the extension that answers.

@@ -6,10 +6,11 @@ use Prim.Native.Nat.{_≤_, _<_}
 use borrow.Author.Tests.{lt-ltb, le-ltb}
 use lib.ListN.{length, drop}
 use Rattle.reply.specs.declared.Cause.{Cause}
+use Rattle.reply.specs.declared.Refusal.{Refusal}
 use Rattle.reply.specs.declared.Refusal.the-variants.{NoRoom}
 use Rattle.reply.specs.declared.Answer.{Answer}
-use Rattle.reply.specs.Reply.{refusedFor, refusedBy, doneWith, absentAnswer}
-use Rattle.reply.specs.Outcome.{Outcome, refused, nothing, give, push, within, Answered}
+use Rattle.reply.specs.Reply.{nowhere, refusedFor, refusedBy, doneWith, absentAnswer}
+use Rattle.reply.specs.Outcome.{Outcome, refused, refuse, nothing, give, push, within, Answered}
 
 module _ {A : Type 0} where
   pub push-push : (xs ys : List A) (o : Outcome A) → push xs (push ys o) ≡ push (xs ++ ys) o
@@ -46,3 +47,7 @@ module _ {A : Type 0} where
 
     pub answered-unique-left : after ≡ after′
     answered-unique-left = a .left ∙ sym (b .left)
+
+-- two refusals that come to the same are one
+pub refuse-inv : {A : Type 0} (w w′ : Refusal) → _≡_ {A = Outcome A} (refuse w) (refuse w′) → w ≡ w′
+refuse-inv w w′ e = let u : nowhere w ≡ nowhere w′ = cc in ap (λ (c : Cause). c .why) u

@@ -2,9 +2,8 @@
 ghost use mathlib.Core.Path.{_≡_};
 ghost use mathlib.Core.List.{[], _∷_};
 ghost use Rattle.basis.specs.First.{collect};
-ghost use Rattle.field.specs.Leaf.{Lies};
 ghost use Rattle.path.specs.Path.{components};
-ghost use Rattle.scope.specs.Scope.{holding, enumNamed};
+ghost use Rattle.scope.specs.Scope.{InSheet, holding, enumNamed};
 ghost use Rattle.search.specs.inner.Cursor.{ahead, Stands, Nexts};
 ghost use Rattle.search.specs.Lookup.{messagesAt, enumsAt, lookedUp, lookedUpEnum};
 ghost use Rattle.search.specs.inner.Ahead.{passing, isMessage, declaresEnum};
@@ -88,7 +87,7 @@ fn next_enum(s: &[u8], names: &[u8], cursor: Cursor, name: &[u8]) -> Next
 
 // The enum of that name in one scope.
 fn enum_in(s: &[u8], scope: LookupScope, name: &[u8]) -> LookedUpEnum
-    requires { ⌜ Lies (scope .body) (now s) ⌝ }
+    requires { ⌜ InSheet (now s) scope ⌝ }
     ensures { λ r. ⌜ r ≡ lookedUpEnum (collect (enumNamed (now (s .entry)) (now (name .entry))) (holding (now (s .entry)) scope ∷ [])) ⌝ }
 {
     let Leaf::At { from, to } = enum_named(s, scope, name) else {
