@@ -1,10 +1,7 @@
 -- The first element that passes a test, and the first of which something is made, by the elements of the list.
 -- Assumes nothing.
-use mathlib.Core.Path.{_≡_, refl, sym, _∙_}
-use mathlib.Core.Bool.{Bool, true, false, true≢false, not-eq-not}
-use mathlib.Core.List.{List, [], _∷_, _++_}
-use mathlib.Core.Option.{Option, none, some}
-use Prim.Native.Nat.{ℕ}
+use Rattle.basis.specs.Kit.{_≡_, refl, sym, _∙_, Bool, true, false, List, [], _∷_, _++_, Option, none, some, ℕ}
+use mathlib.Core.Bool.{true≢false, not-eq-not}
 use Rattle.basis.proofs.Never.{never}
 use Rattle.basis.specs.First.{onlyIf, first, given, orElse, firstSome}
 use Rattle.basis.proofs.FirstLaws.{given-holds, or-else-last}

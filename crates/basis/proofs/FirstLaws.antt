@@ -4,11 +4,7 @@
 --   Every P xs <-> P holds of each of xs
 --
 -- Assumes nothing.
-use mathlib.Core.Path.{_≡_, refl, _∙_}
-use mathlib.Core.Bool.{Bool, true, false}
-use mathlib.Core.List.{List, [], _∷_, _++_}
-use mathlib.Core.Option.{Option, none, some}
-use Prim.Native.Nat.{ℕ}
+use Rattle.basis.specs.Kit.{_≡_, refl, _∙_, Bool, true, false, List, [], _∷_, _++_, Option, none, some, ℕ}
 use Rattle.basis.proofs.Never.{never}
 use Rattle.basis.specs.First.{onlyIf, first, given, orElse, firstSome, onto, collect}
 

@@ -1,3 +1,4 @@
+pub mod Kit
 pub mod Never
 pub mod FirstLaws
 pub mod AmongLaws

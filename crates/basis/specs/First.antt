@@ -10,9 +10,7 @@
 --     collect f xs == all that f makes of xs, in their order
 --
 -- Assumes nothing.
-use mathlib.Core.Bool.{Bool, true, false}
-use mathlib.Core.List.{List, [], _∷_}
-use mathlib.Core.Option.{Option, none, some}
+use Rattle.basis.specs.Kit.{Bool, true, false, List, [], _∷_, Option, none, some}
 
 abbrev pub onlyIf : {A : Type 0} → Bool → A → A → A
 onlyIf true x y = x

@@ -1,2 +1,3 @@
+pub mod Kit
 pub mod First
 pub mod Among

@@ -1,10 +1,8 @@
 -- What the program knows of its input: where its fields lie, and that a scope and a path that passed the test have the form they need.
 -- Assumes nothing.
-use mathlib.Core.Path.{_≡_, refl, sym, _∙_}
-use mathlib.Core.Bool.{Bool, true, false, not, _&&_}
-use mathlib.Core.List.{List}
-use Prim.Native.Nat.{ℕ}
-use borrow.Author.Tests.{not-false}
+use Rattle.basis.specs.Kit.{_≡_, refl, sym, _∙_, Bool, true, false, _&&_, List, ℕ}
+use Rattle.basis.proofs.Kit.{not-false}
+use mathlib.Core.Bool.{not}
 use Rattle.field.proofs.LeafLaws.{leaf-ordered, leaf-within}
 use Rattle.console.proofs.InputLaws.{input-laws}
 use Rattle.path.specs.Path.{isRelOrEmpty, isPath}

@@ -1,9 +1,6 @@
 // Look-ups for the bench. Input: 40 a sheet, 44 how often (4 bytes), then pairs of 42 a scope and 43 a path. Every pair is looked up so
 // often; the line says how many look-ups found an extension, and the sum of the numbers found, both modulo 2^32.
-ghost use mathlib.Core.Path.{_≡_};
-ghost use mathlib.Core.Bool.{true, _&&_};
-ghost use Prim.Native.Nat.{_≤_};
-ghost use lib.ListN.{length};
+ghost use Rattle.basis.specs.Kit.{_≡_, true, _&&_, _≤_, length};
 ghost use Rattle.field.specs.Leaf.{Lies};
 ghost use Rattle.path.specs.Path.{isRelOrEmpty, isPath};
 use console::input::Input;

@@ -1,15 +1,10 @@
 -- The laws of ancestors and candidates: the ways through `ancestor`, `candidates` and `candidate`, and what the crates above cite.
 -- Assumes nothing.
-use mathlib.Core.Path.{_≡_, refl, sym, ap, _∙_}
-use mathlib.Core.Bool.{Bool, true, false}
-use mathlib.Core.List.{List, [], _∷_, _++_, map}
-use Prim.Native.Nat.{ℕ, zero, suc, _+_, _*_, _^_, _-_, _≤_, _<_}
+use Rattle.basis.specs.Kit.{_≡_, refl, sym, ap, _∙_, Bool, true, false, List, [], _∷_, _++_, map, ℕ, zero, suc, _+_, _-_, _*_, _^_}
+use Rattle.basis.specs.Kit.{_≤_, _<_, length, getD, take}
+use Rattle.basis.proofs.Kit.{arith, add-one, w64, Fits}
 use native.Mathlib.Decide.{decLt}
-use native.Mathlib.Numerals.{add-one}
-use native.Mathlib.Omega.{arith}
-use mir.Syntax.{w64}
-use mir.Val.{Fits}
-use lib.ListN.{length, getD, take, length-append, length-map, length-take, List·getD-append}
+use lib.ListN.{length-append, length-map, length-take, List·getD-append}
 use lib.Seq.{getD-at, take-length}
 use Rattle.limits.specs.Figures.{mostPath, mostCandidate}
 use Rattle.octets.specs.Octets.{Laid}

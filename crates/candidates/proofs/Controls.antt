@@ -1,8 +1,6 @@
 -- Closed cases of ancestors and candidates, which the checker computes.
 -- Assumes nothing.
-use mathlib.Core.Path.{_≡_, refl}
-use mathlib.Core.List.{List, [], _∷_, _++_, map}
-use Prim.Native.Nat.{ℕ}
+use Rattle.basis.specs.Kit.{_≡_, refl, List, [], _∷_, _++_, map, ℕ}
 use Rattle.path.specs.Path.{Name, dot, onFirst, split, components, spell, isAbs, rootless}
 use Rattle.candidates.specs.Candidates.{ancestors, candidates}
 

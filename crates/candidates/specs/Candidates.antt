@@ -5,10 +5,7 @@
 --   candidate scope name i == the i-th of them, counted from 0
 --
 -- Assumes nothing.
-use mathlib.Core.Bool.{true, false}
-use mathlib.Core.List.{List, [], _∷_, _++_, map}
-use Prim.Native.Nat.{ℕ}
-use lib.ListN.{getD}
+use Rattle.basis.specs.Kit.{true, false, List, [], _∷_, _++_, map, ℕ, getD}
 use Rattle.path.specs.Path.{Path, components, isAbs, rootless}
 
 unfoldable pub ancestors : Path → List Path

@@ -1,8 +1,5 @@
 // The candidates of a name in a scope: a scope and its parents, each with the name behind it.
-ghost use mathlib.Core.Path.{_≡_};
-ghost use mathlib.Core.List.{[]};
-ghost use Prim.Native.Nat.{_≤_, _<_};
-ghost use lib.ListN.{length, getD};
+ghost use Rattle.basis.specs.Kit.{_≡_, [], _≤_, _<_, length, getD};
 ghost use Rattle.octets.specs.Octets.{Laid};
 ghost use Rattle.path.specs.Path.{components, spell};
 ghost use Rattle.candidates.specs.Candidates.{ancestors, candidates as candidatesOf, candidate as candidateOf};

@@ -1,13 +1,8 @@
 -- What a program knows of its input: where a field's payload lies, how long it is, and the bytes that were read.
 -- Assumes nothing.
-use mathlib.Core.Path.{_≡_, sym, ap, _∙_}
-use mathlib.Core.Bool.{Bool, true, false}
-use mathlib.Core.List.{List}
-use Prim.Native.Nat.{ℕ, _+_, _-_, _≤_}
-use native.Mathlib.Omega.{arith}
-use borrow.Author.Tests.{eq-eqb, ne-eqb, eqb-true, not-true, not-false}
-use lib.Dec.{eqb}
-use lib.ListN.{length}
+use Rattle.basis.specs.Kit.{_≡_, sym, ap, _∙_, Bool, true, false, List, ℕ, _+_, _-_, _≤_, eqb, length}
+use Rattle.basis.proofs.Kit.{arith, eq-eqb, ne-eqb, not-true, not-false}
+use borrow.Author.Tests.{eqb-true}
 use Rattle.field.specs.declared.Leaf.{Leaf}
 use Rattle.field.specs.declared.Leaf.the-variants.{At}
 use Rattle.field.specs.Leaf.{anyBytes, leafAt}

@@ -1,19 +1,16 @@
 -- The size of a signed number as `size` computes it, and the front of an array as `answer` prints it.
 -- Assumes nothing.
-use mathlib.Core.Path.{_≡_, ap, _∙_}
-use mathlib.Core.Bool.{true, false, true≢false}
-use mathlib.Core.List.{List}
-use Prim.Native.Nat.{ℕ, suc, _+_, _≤_}
-use native.Mathlib.Numerals.{add-one}
-use native.Mathlib.Omega.{arith}
-use borrow.Author.Tests.{le-ltb, ltb-true}
+use Rattle.basis.specs.Kit.{_≡_, ap, _∙_, true, false, List, ℕ, suc, _+_, _≤_, length, take}
+use Rattle.basis.proofs.Kit.{arith, add-one, le-ltb, w64, Fits}
+use mathlib.Core.Bool.{true≢false}
+use borrow.Author.Tests.{ltb-true}
 use lib.Dec.{T}
 use lib.IntN.{ℤ, pos, negsuc, natAbs, _-ℤ_}
-use lib.ListN.{length, take, length-take}
+use lib.ListN.{length-take}
 use lib.Signed.{mag, nonNeg, ltZ}
 use mir.Facts.{toZ-ofZ, fits-natAbs}
-use mir.Syntax.{w32, w64}
-use mir.Val.{Fits, SFits, toZ, ofZ}
+use mir.Syntax.{w32}
+use mir.Val.{SFits, toZ, ofZ}
 
 -- ---- a negative number n: -1 - n is not negative, and one less than the size of n
 below-minus : (n : ℤ) → ltZ n (pos 0) ≡ true → negsuc 0 -ℤ n ≡ pos (mag n)

@@ -3,7 +3,7 @@
 --   Fills r room <-> the bytes that were read lie within the room
 --
 -- Assumes nothing.
-use Prim.Native.Nat.{ℕ, _≤_}
+use Rattle.basis.specs.Kit.{ℕ, _≤_}
 use Rattle.console.specs.declared.input.Input.{Input}
 use Rattle.console.specs.declared.input.Input.the-variants as input
 

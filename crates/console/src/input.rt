@@ -1,9 +1,6 @@
 // The fields that a program is given. Where the input is not what the program names, one line that begins `input: ` says what is
 // wrong and where, and nothing after that place is answered.
-ghost use mathlib.Core.Path.{_≡_};
-ghost use Prim.Native.Nat.{_-_, _%_, _≤_};
-ghost use lib.Dec.{eqb};
-ghost use lib.ListN.{length};
+ghost use Rattle.basis.specs.Kit.{_≡_, _-_, _%_, _≤_, eqb, length};
 ghost use Rattle.field.specs.Leaf.{anyBytes, leafAt};
 ghost use Rattle.console.specs.Input.{Fills};
 use crate::output::hex_byte;

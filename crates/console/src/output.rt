@@ -1,5 +1,5 @@
 // The lines that programs print.
-ghost use mathlib.Core.Path.{_≡_};
+ghost use Rattle.basis.specs.Kit.{_≡_};
 ghost use lib.IntN.{natAbs};
 use hex::digits::glyph;
 use hex::words::least;

@@ -1,12 +1,8 @@
 -- Constants: the ways through `check_constant`, `check_elements` and `check_pairs`.
 -- Assumes nothing.
-use mathlib.Core.Path.{_≡_, refl, sym, ap, _∙_}
-use mathlib.Core.Bool.{Bool, true, false, false≢true}
-use mathlib.Core.List.{List}
-use Prim.Native.Nat.{ℕ, zero, suc, _-_, _≤_, _<_}
-use native.Mathlib.Omega.{arith}
-use borrow.Author.Tests.{eq-eqb, ne-eqb, not-true, not-false}
-use lib.ListN.{length}
+use Rattle.basis.specs.Kit.{_≡_, refl, sym, ap, _∙_, Bool, true, false, List, ℕ, zero, suc, _-_, _≤_, _<_, length}
+use Rattle.basis.proofs.Kit.{arith, eq-eqb, ne-eqb, not-true, not-false}
+use mathlib.Core.Bool.{false≢true}
 use Rattle.octets.specs.Octets.{part}
 use Rattle.reply.specs.declared.Refusal.{Refusal}
 use Rattle.reply.specs.declared.Refusal.the-variants.{BadRequest}

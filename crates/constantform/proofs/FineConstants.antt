@@ -1,16 +1,13 @@
 -- What a fine verdict says of the tree of constants, from the leaves up: of payloads inside the bytes, of values, and of constants at
 -- every depth.
 -- Assumes nothing.
-use mathlib.Core.Path.{_≡_, refl, sym, ap, _∙_}
-use mathlib.Core.Bool.{Bool, true, false, _&&_, false≢true}
-use mathlib.Core.List.{List, _∷_, map}
-use Prim.Native.Nat.{ℕ, zero, suc, _+_, _-_, _*_, _≤_, _^_}
+use Rattle.basis.specs.Kit.{_≡_, refl, sym, ap, _∙_, Bool, true, false, _&&_, List, _∷_, map, ℕ, zero, suc, _+_, _-_, _*_, _^_, _≤_}
+use Rattle.basis.specs.Kit.{eqb, ltb, leb, length, getD}
+use Rattle.basis.proofs.Kit.{arith, ne-eqb}
+use mathlib.Core.Bool.{false≢true}
 use native.Mathlib.Decide.{ℕ-discrete}
-use native.Mathlib.Omega.{arith}
-use borrow.Author.Tests.{ne-eqb, eqb-true, leb-true}
-use lib.Dec.{eqb, ltb, leb}
+use borrow.Author.Tests.{eqb-true, leb-true}
 use lib.Ieee.{binary64, ofBits, nanBits}
-use lib.ListN.{length, getD}
 use Rattle.octets.specs.Octets.{part, bigAt}
 use Rattle.octets.proofs.Parts.{part-cons, part-length}
 use Rattle.reply.specs.declared.Refusal.the-variants.{BadRequest, BeyondLimit}

@@ -1,12 +1,7 @@
 -- The leaves of a request: the ways through `is_constant`, `is_bool`, `is_url`, `good_scalar`, `good_pair_name` and `good_part`.
 -- Assumes nothing.
-use mathlib.Core.Path.{_≡_, refl}
-use mathlib.Core.Bool.{Bool, true, false, _&&_, _||_}
-use mathlib.Core.List.{List}
-use Prim.Native.Nat.{ℕ}
-use borrow.Author.Tests.{eq-eqb, ne-eqb}
-use lib.Dec.{eqb, leb}
-use lib.ListN.{length, getD}
+use Rattle.basis.specs.Kit.{_≡_, refl, Bool, true, false, _&&_, _||_, List, ℕ, eqb, leb, length, getD}
+use Rattle.basis.proofs.Kit.{eq-eqb, ne-eqb}
 use Rattle.limits.specs.Figures.{mostUrl}
 use Rattle.path.specs.Ident.{isIdent}
 use Rattle.path.specs.Path.{isRelPath, isPath}

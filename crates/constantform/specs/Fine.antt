@@ -10,10 +10,7 @@
 --      constantTags c ==  the tags of the constants that follow one another and of their names, at the first level, in order
 --
 -- Assumes nothing.
-use mathlib.Core.Bool.{Bool, true, false, _&&_}
-use mathlib.Core.List.{List, [], _∷_}
-use Prim.Native.Nat.{ℕ, _+_}
-use lib.Dec.{eqb}
+use Rattle.basis.specs.Kit.{Bool, true, false, _&&_, List, [], _∷_, ℕ, _+_, eqb}
 use Rattle.path.specs.Ident.{isIdent}
 use Rattle.path.specs.Path.{isRelPath}
 use Rattle.field.specs.Leaf.{text}

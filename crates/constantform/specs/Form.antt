@@ -9,10 +9,7 @@
 --           judgePairs d s a e == the pairs of a message constant
 --
 -- Assumes nothing.
-use mathlib.Core.Bool.{true, false}
-use mathlib.Core.List.{List}
-use Prim.Native.Nat.{ℕ, zero, suc}
-use lib.Dec.{eqb}
+use Rattle.basis.specs.Kit.{true, false, List, ℕ, zero, suc, eqb}
 use Rattle.octets.specs.Octets.{part}
 use Rattle.reply.specs.declared.Refusal.the-variants.{BadRequest}
 use Rattle.reply.specs.declared.Verdict.{Verdict}

@@ -9,11 +9,7 @@
 --       goodPart x bs <=> the bytes are the payload of a part, of an extension part where x holds
 --
 -- Assumes nothing.
-use mathlib.Core.Bool.{Bool, true, false, _&&_, _||_}
-use mathlib.Core.List.{List}
-use Prim.Native.Nat.{ℕ}
-use lib.Dec.{eqb, leb}
-use lib.ListN.{length, getD}
+use Rattle.basis.specs.Kit.{Bool, true, false, _&&_, _||_, List, ℕ, eqb, leb, length, getD}
 use Rattle.limits.specs.Figures.{mostUrl}
 use Rattle.path.specs.Ident.{isIdent}
 use Rattle.path.specs.Path.{isRelPath, isPath}

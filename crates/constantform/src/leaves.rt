@@ -1,5 +1,5 @@
 // What the leaves of a request may hold, by their tags.
-ghost use mathlib.Core.Path.{_≡_};
+ghost use Rattle.basis.specs.Kit.{_≡_};
 ghost use Rattle.constantform.specs.Leaves.{isConstant, isBool, isUrl, goodScalar, goodPairName, goodPart};
 use limits::MOST_URL;
 use path::protobuf_ident::is_ident;

@@ -1,9 +1,7 @@
 // Constants. Only nested constants recurse: the elements of a list and the pairs of a message are loops.
 pub mod leaves;
 
-ghost use mathlib.Core.Path.{_≡_};
-ghost use Prim.Native.Nat.{_≤_};
-ghost use lib.ListN.{length};
+ghost use Rattle.basis.specs.Kit.{_≡_, _≤_, length};
 ghost use Rattle.constantform.specs.Form.{judgeConstant, judgeElements, judgePairs};
 use crate::leaves::good_pair_name;
 use crate::leaves::good_scalar;

@@ -1,9 +1,7 @@
 -- Closed cases of the counts, which the checker computes: P1's sheet, the empty sheet, messages as deep as 01 allows and deeper; the parts
 -- of several options.
 -- Assumes nothing.
-use mathlib.Core.Path.{_≡_, refl}
-use mathlib.Core.List.{List, [], _∷_, _++_, map}
-use Prim.Native.Nat.{ℕ}
+use Rattle.basis.specs.Kit.{_≡_, refl, List, [], _∷_, _++_, map, ℕ}
 use Rattle.octets.specs.Octets.{bigAt}
 use Rattle.field.specs.Field.{fieldAt}
 use Rattle.field.specs.Leaf.{leafAt}

@@ -1,17 +1,9 @@
 -- The laws of counting: what a field holds and what follows it are counted apart, so that siblings are added up, and what each function
 -- that counts comes to, with the bounds by which no sum wraps.
 -- Assumes nothing.
-use mathlib.Core.Path.{_≡_, refl, ap, _∙_}
-use mathlib.Core.Bool.{Bool, true, false}
-use mathlib.Core.List.{List, [], _∷_}
-use Prim.Native.Nat.{ℕ, zero, suc, _+_, _*_, _-_, _≤_}
+use Rattle.basis.specs.Kit.{_≡_, refl, ap, _∙_, Bool, true, false, List, [], _∷_, ℕ, zero, suc, _+_, _-_, _*_, _≤_, eqb, length}
+use Rattle.basis.proofs.Kit.{arith, eq-eqb, ne-eqb, w64, Fits}
 use native.Mathlib.Nat.{le-refl, mul-le-mul-right}
-use native.Mathlib.Omega.{arith}
-use borrow.Author.Tests.{eq-eqb, ne-eqb}
-use lib.Dec.{eqb}
-use lib.ListN.{length}
-use mir.Syntax.{w64}
-use mir.Val.{Fits}
 use mir.Facts.{fits-le}
 use Rattle.limits.specs.Figures.{mostMessages}
 use Rattle.field.specs.declared.Leaf.{Leaf}

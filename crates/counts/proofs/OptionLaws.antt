@@ -1,14 +1,8 @@
 -- The laws of counting parts and options: the loops of `count_parts_at`, `count_options` and `count_parts`.
 -- Assumes nothing.
-use mathlib.Core.Path.{_≡_, refl, sym, ap, _∙_}
-use mathlib.Core.List.{List, [], _∷_}
-use Prim.Native.Nat.{ℕ, _+_, _-_, _≤_, _<_}
-use native.Mathlib.Omega.{arith}
+use Rattle.basis.specs.Kit.{_≡_, refl, sym, ap, _∙_, List, [], _∷_, ℕ, _+_, _-_, _≤_, _<_, length}
+use Rattle.basis.proofs.Kit.{arith, eq-eqb, ne-eqb, w64, Fits}
 use native.Mathlib.Nat.{zero-add, add-zero}
-use borrow.Author.Tests.{eq-eqb, ne-eqb}
-use lib.ListN.{length}
-use mir.Syntax.{w64}
-use mir.Val.{Fits}
 use Rattle.field.specs.declared.Field.{Field}
 use Rattle.field.specs.declared.Field.the-variants.{Whole}
 use Rattle.field.specs.Field.{fieldAt}

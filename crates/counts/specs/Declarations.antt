@@ -9,11 +9,7 @@
 --     fileCount k s t a e == how many of the tag k a field of a sheet holds, itself counted
 --
 -- Assumes nothing.
-use mathlib.Core.Bool.{true, false}
-use mathlib.Core.List.{List, [], _∷_}
-use Prim.Native.Nat.{ℕ, _+_, _*_}
-use lib.Dec.{eqb}
-use lib.ListN.{length}
+use Rattle.basis.specs.Kit.{true, false, List, [], _∷_, ℕ, _+_, _*_, eqb, length}
 use Rattle.sheet.specs.declared.declaration.Declared.{Declared}
 use Rattle.sheet.specs.declared.declaration.Declared.the-variants.{Declares, NoDeclaration}
 use Rattle.sheet.specs.Table.{fileTag, messageTag, extensionTag, enumTag, fieldTag, valueTag}

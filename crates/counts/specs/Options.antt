@@ -3,9 +3,7 @@
 --   partsOf os == the parts of the names of the options, all together
 --
 -- Assumes nothing.
-use mathlib.Core.List.{List, [], _∷_}
-use Prim.Native.Nat.{ℕ, _+_}
-use lib.ListN.{length}
+use Rattle.basis.specs.Kit.{List, [], _∷_, ℕ, _+_, length}
 use Rattle.request.specs.Request.{Option}
 
 abbrev pub partsOf : List Option → ℕ

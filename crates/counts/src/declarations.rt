@@ -1,7 +1,5 @@
 // How many declarations of one tag a sheet has: a walk over the whole tree. Only nested messages recurse: siblings are a loop.
-ghost use mathlib.Core.Path.{_≡_};
-ghost use Prim.Native.Nat.{_+_, _-_, _≤_};
-ghost use lib.ListN.{length};
+ghost use Rattle.basis.specs.Kit.{_≡_, _+_, _-_, _≤_, length};
 ghost use Rattle.field.specs.Walk.{walk};
 ghost use Rattle.sheet.specs.Tree.{none, valuesIn, enumIn, messageIn, itemsIn, treeOf};
 ghost use Rattle.counts.specs.Declarations.{one as oneOf, declaredCount, inItems, inSheet, valueCount, itemCount, fileCount};

@@ -1,7 +1,5 @@
 // How many options a request has, and how many parts their names.
-ghost use mathlib.Core.Path.{_≡_};
-ghost use Prim.Native.Nat.{_-_, _≤_};
-ghost use lib.ListN.{length};
+ghost use Rattle.basis.specs.Kit.{_≡_, _-_, _≤_, length};
 ghost use Rattle.field.specs.Walk.{walk};
 ghost use Rattle.request.specs.Name.{partsIn};
 ghost use Rattle.request.specs.Request.{requestOf};

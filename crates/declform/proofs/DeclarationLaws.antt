@@ -1,11 +1,8 @@
 -- The laws of what a declaration's leaves may hold: the ways through `good_type_path`, `good_shape`,
 -- `good_field`, `is_field`, `is_extension` and `is_value`.
 -- Assumes nothing.
-use mathlib.Core.Path.{_≡_}
-use mathlib.Core.Bool.{Bool, true, false, _&&_}
-use mathlib.Core.List.{List}
-use Prim.Native.Nat.{ℕ}
-use borrow.Author.Tests.{not-true, not-false}
+use Rattle.basis.specs.Kit.{_≡_, Bool, true, false, _&&_, List, ℕ}
+use Rattle.basis.proofs.Kit.{not-true, not-false}
 use Rattle.limits.specs.Figures.{mostNumber, mostType, mostLabel}
 use Rattle.octets.specs.Octets.{part}
 use Rattle.path.specs.Ident.{isIdent}

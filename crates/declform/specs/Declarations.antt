@@ -10,10 +10,7 @@
 --       isValue s a e <=> an enum value's payload is from a to e
 --
 -- Assumes nothing.
-use mathlib.Core.Bool.{Bool, true, false, _&&_}
-use mathlib.Core.List.{List}
-use Prim.Native.Nat.{ℕ}
-use lib.Dec.{leb}
+use Rattle.basis.specs.Kit.{Bool, true, false, _&&_, List, ℕ, leb}
 use Rattle.limits.specs.Figures.{mostNumber, mostType, mostLabel}
 use Rattle.path.specs.Ident.{isIdent}
 use Rattle.path.specs.Path.{isRelPath}

@@ -1,7 +1,5 @@
 // Extensions, fields and enum values: each leaf holds what 01 allows it.
-ghost use mathlib.Core.Path.{_≡_};
-ghost use Prim.Native.Nat.{_≤_};
-ghost use lib.ListN.{length};
+ghost use Rattle.basis.specs.Kit.{_≡_, _≤_, length};
 ghost use Rattle.field.specs.Leaf.{Lies};
 ghost use Rattle.declform.specs.Declarations.{inRange, goodTypePath, goodShape, goodField, isExtension, isField, isValue};
 use limits::MOST_LABEL;

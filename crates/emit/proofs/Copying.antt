@@ -1,11 +1,9 @@
 -- The loop that writes the words of an answer: the first i are in place, and what stands behind them is as it was.
 -- Assumes nothing.
-use mathlib.Core.Path.{_≡_, refl, sym, ap, ap₂, _∙_}
-use mathlib.Core.List.{List, _++_}
-use Prim.Native.Nat.{ℕ, _+_, _≤_, _<_}
-use native.Mathlib.Omega.{arith}
-use native.Mathlib.Numerals.{add-one}
-use lib.ListN.{length, getD, set, take, drop, length-set, take-append-drop}
+use Rattle.basis.specs.Kit.{_≡_, refl, sym, ap, _∙_, List, _++_, ℕ, _+_, _≤_, _<_, length, getD, take, drop}
+use Rattle.basis.proofs.Kit.{arith, add-one}
+use mathlib.Core.Path.{ap₂}
+use lib.ListN.{set, length-set, take-append-drop}
 use lib.Seq.{take-suc, take-suc-set, take-all, drop-set-lt, drop-drop}
 use Rattle.reply.specs.declared.Refusal.the-variants.{NoRoom}
 use Rattle.reply.specs.declared.Answer.{Answer}

@@ -1,13 +1,11 @@
 -- A loop that writes elements as it goes, and a public call that runs it twice: once over nothing, to measure, and once over the lent
 -- memory. One set of laws for elements of any type.
 -- Assumes nothing.
-use mathlib.Core.Path.{_≡_, refl, sym, ap, _∙_}
-use mathlib.Core.List.{List, [], _∷_, _++_, append-nil}
-use Prim.Native.Nat.{ℕ, _+_, _≤_, _<_}
+use Rattle.basis.specs.Kit.{_≡_, refl, sym, ap, _∙_, List, [], _∷_, _++_, ℕ, _+_, _≤_, _<_, length, drop, sets}
+use Rattle.basis.proofs.Kit.{arith}
+use mathlib.Core.List.{append-nil}
 use native.Mathlib.Nat.{zero-add, add-zero}
-use native.Mathlib.Omega.{arith}
-use lib.ListN.{length, drop}
-use lib.Seq.{sets, sets-eq}
+use lib.Seq.{sets-eq}
 use Rattle.basis.proofs.Never.{never}
 use Rattle.octets.specs.Octets.{Laid}
 use Rattle.octets.proofs.Overlay.{laid-append, laid-length}

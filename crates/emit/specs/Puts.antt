@@ -3,8 +3,7 @@
 --   Puts o at l l′ r <-> the writer of the outcome o, from the place `at` on, answered r, and what was l is l′
 --
 -- Assumes nothing.
-use mathlib.Core.List.{List}
-use Prim.Native.Nat.{ℕ}
+use Rattle.basis.specs.Kit.{List, ℕ}
 use Rattle.octets.specs.Octets.{Laid}
 use Rattle.reply.specs.declared.Cause.{Cause}
 use Rattle.reply.specs.Outcome.{Outcome, refused, give}

@@ -1,11 +1,7 @@
 // Elements for the lent memory: what a writer of elements comes to, and the writers that all calls share. A writer is run over an empty
 // part of the lent memory first, which finds a refusal and the length, and then over the whole, so that a refusal writes nothing and
 // NoRoom comes last.
-ghost use mathlib.Core.Path.{_≡_};
-ghost use mathlib.Core.List.{[], _∷_};
-ghost use Prim.Native.Nat.{_<_, _^_};
-ghost use lib.ListN.{length};
-ghost use lib.Seq.{sets};
+ghost use Rattle.basis.specs.Kit.{_≡_, [], _∷_, _^_, _<_, length, sets};
 ghost use Rattle.reply.specs.Outcome.{give, Answered};
 use reply::Answer;
 use reply::Cause;

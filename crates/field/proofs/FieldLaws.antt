@@ -1,13 +1,8 @@
 -- The laws of `fieldAt`: the ways through `field_at`, and where a whole field lies.
 -- Assumes nothing.
-use mathlib.Core.Path.{_≡_, refl, sym, _∙_}
-use mathlib.Core.Bool.{Bool, true, false}
-use mathlib.Core.List.{List}
-use Prim.Native.Nat.{ℕ, _+_, _-_, _≤_, _<_}
-use native.Mathlib.Omega.{arith}
-use borrow.Author.Tests.{lt-ltb, le-ltb, ltb-false}
-use lib.Dec.{ltb}
-use lib.ListN.{length, getD}
+use Rattle.basis.specs.Kit.{_≡_, refl, sym, _∙_, Bool, true, false, List, ℕ, _+_, _-_, _≤_, _<_, ltb, length, getD}
+use Rattle.basis.proofs.Kit.{arith, lt-ltb, le-ltb}
+use borrow.Author.Tests.{ltb-false}
 use Rattle.basis.proofs.Never.{never}
 use Rattle.octets.specs.Octets.{bigAt}
 use Rattle.field.specs.declared.Field.{Field}

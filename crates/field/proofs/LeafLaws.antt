@@ -1,13 +1,8 @@
 -- The laws of `leafAt`: the ways through the functions that look for a leaf, whatever its test, and where a leaf lies.
 -- Assumes nothing.
-use mathlib.Core.Path.{_≡_, refl, sym, _∙_}
-use mathlib.Core.Bool.{Bool, true, false, _&&_}
-use mathlib.Core.List.{List}
-use Prim.Native.Nat.{ℕ, _+_, _-_, _≤_, _<_}
-use native.Mathlib.Omega.{arith}
-use borrow.Author.Tests.{eq-eqb, ne-eqb, eqb-true}
-use lib.Dec.{eqb}
-use lib.ListN.{length}
+use Rattle.basis.specs.Kit.{_≡_, refl, sym, _∙_, Bool, true, false, _&&_, List, ℕ, _+_, _-_, _≤_, _<_, eqb, length}
+use Rattle.basis.proofs.Kit.{arith, eq-eqb, ne-eqb}
+use borrow.Author.Tests.{eqb-true}
 use Rattle.basis.specs.First.{onlyIf}
 use Rattle.basis.proofs.Never.{never}
 use Rattle.octets.specs.Octets.{part}

@@ -12,11 +12,8 @@
 -- A reader's ruleset is one of the loops' (Rest, Seek, Tally; EachLaws in `form`) with `reads-laws` and the proof of `Reads` for it.
 --
 -- Assumes nothing.
-use mathlib.Core.Path.{_≡_, sym, _∙_}
-use mathlib.Core.List.{List}
-use Prim.Native.Nat.{ℕ, _-_, _≤_, _<_}
-use native.Mathlib.Omega.{arith}
-use lib.ListN.{length}
+use Rattle.basis.specs.Kit.{_≡_, sym, _∙_, List, ℕ, _-_, _≤_, _<_, length}
+use Rattle.basis.proofs.Kit.{arith}
 use Rattle.field.specs.declared.Field.{Field}
 use Rattle.field.specs.declared.Field.the-variants.{Whole}
 use Rattle.field.specs.Walk.{Reader}

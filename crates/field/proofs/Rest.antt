@@ -13,10 +13,7 @@
 -- A search does not put `Rest` together from its parts: each loop states its own start, by `rest-start`.
 --
 -- Assumes nothing.
-use mathlib.Core.Path.{_≡_, refl, ap, _∙_}
-use mathlib.Core.List.{List}
-use Prim.Native.Nat.{ℕ, _≤_, _<_}
-use lib.ListN.{length}
+use Rattle.basis.specs.Kit.{_≡_, refl, ap, _∙_, List, ℕ, _≤_, _<_, length}
 use Rattle.field.specs.declared.Field.{Field}
 use Rattle.field.specs.declared.Field.the-variants.{Whole, Cut}
 use Rattle.field.specs.Field.{fieldAt}

@@ -15,10 +15,7 @@
 -- `seek-loop` has those of the turns, for any reader; `seek-laws` all that a loop over the fields of `fieldAt` needs.
 --
 -- Assumes nothing.
-use mathlib.Core.Path.{_≡_, sym, ap, _∙_}
-use mathlib.Core.List.{List}
-use Prim.Native.Nat.{ℕ, _≤_, _<_}
-use lib.ListN.{length}
+use Rattle.basis.specs.Kit.{_≡_, sym, ap, _∙_, List, ℕ, _≤_, _<_, length}
 use Rattle.field.specs.declared.Field.{Field}
 use Rattle.field.specs.declared.Field.the-variants.{Whole, Cut}
 use Rattle.field.specs.Field.{fieldAt}

@@ -17,14 +17,9 @@
 -- `tally-loop` has those of the turns, for any reader; `tally-laws` all that a loop over the fields of `fieldAt` needs, but its start.
 --
 -- Assumes nothing.
-use mathlib.Core.Path.{_≡_, sym, _∙_}
-use mathlib.Core.List.{List}
-use Prim.Native.Nat.{ℕ, _+_, _-_, _≤_, _<_}
+use Rattle.basis.specs.Kit.{_≡_, sym, _∙_, List, ℕ, _+_, _-_, _≤_, _<_, length}
+use Rattle.basis.proofs.Kit.{arith, w64, Fits}
 use native.Mathlib.Nat.{zero-add, add-zero, add-assoc}
-use native.Mathlib.Omega.{arith}
-use lib.ListN.{length}
-use mir.Syntax.{w64}
-use mir.Val.{Fits}
 use mir.Facts.{fits-le}
 use Rattle.field.specs.declared.Field.{Field}
 use Rattle.field.specs.declared.Field.the-variants.{Whole, Cut}

@@ -8,13 +8,9 @@
 --   walk-by-holds  walk-holds  what holds of no fields and of a cut, and of a field that lies ahead with what holds from its end on, holds
 --
 -- Assumes nothing.
-use mathlib.Core.Path.{_≡_, refl, ap, _∙_}
-use mathlib.Core.Bool.{Bool, true, false}
-use mathlib.Core.List.{List}
-use Prim.Native.Nat.{ℕ, zero, suc, _-_, _≤_, _<_}
-use native.Mathlib.Omega.{arith}
-use borrow.Author.Tests.{lt-ltb, le-ltb, ltb-true}
-use lib.Dec.{ltb}
+use Rattle.basis.specs.Kit.{_≡_, refl, ap, _∙_, Bool, true, false, List, ℕ, zero, suc, _-_, _≤_, _<_, ltb}
+use Rattle.basis.proofs.Kit.{arith, lt-ltb, le-ltb}
+use borrow.Author.Tests.{ltb-true}
 use Rattle.field.specs.declared.Field.{Field}
 use Rattle.field.specs.declared.Field.the-variants.{Whole, Cut}
 use Rattle.field.specs.Field.{fieldAt}

@@ -4,11 +4,7 @@
 --   fieldAt s at end == the field whose header starts at `at`, whole before `end`
 --
 -- Assumes nothing.
-use mathlib.Core.Bool.{true, false}
-use mathlib.Core.List.{List}
-use Prim.Native.Nat.{ℕ, _+_}
-use lib.Dec.{ltb}
-use lib.ListN.{getD}
+use Rattle.basis.specs.Kit.{true, false, List, ℕ, _+_, ltb, getD}
 use Rattle.octets.specs.Octets.{bigAt}
 use Rattle.field.specs.declared.Field.{Field}
 use Rattle.field.specs.declared.Field.the-variants.{Whole, Cut}

@@ -11,11 +11,7 @@
 --       onLeaf none l some ==  `some` of a leaf's two places, `none` where there is no leaf
 --
 -- Assumes nothing.
-use mathlib.Core.Bool.{Bool, true, false, _&&_}
-use mathlib.Core.List.{List}
-use Prim.Native.Nat.{ℕ, _≤_}
-use lib.Dec.{eqb}
-use lib.ListN.{length}
+use Rattle.basis.specs.Kit.{Bool, true, false, _&&_, List, ℕ, _≤_, eqb, length}
 use Rattle.basis.specs.First.{onlyIf}
 use Rattle.octets.specs.Octets.{part, sameBytes}
 use Rattle.field.specs.declared.Field.{Field}

@@ -5,9 +5,7 @@
 --                              the offset o: no copy of them, and no equal bytes elsewhere
 --
 -- Assumes nothing.
-use mathlib.Core.Path.{_≡_}
-use mathlib.Core.List.{List}
-use Prim.Native.Nat.{ℕ, _+_}
+use Rattle.basis.specs.Kit.{_≡_, List, ℕ, _+_}
 use Rattle.field.specs.declared.Span.{Span}
 use Rattle.field.specs.Leaf.{text}
 

@@ -9,10 +9,7 @@
 --                  tagsIn w == the tags of the fields, in order
 --
 -- Assumes nothing.
-use mathlib.Core.Bool.{true, false}
-use mathlib.Core.List.{List, [], _∷_}
-use Prim.Native.Nat.{ℕ, zero, suc, _-_}
-use lib.Dec.{ltb}
+use Rattle.basis.specs.Kit.{true, false, List, [], _∷_, ℕ, zero, suc, _-_, ltb}
 use Rattle.field.specs.declared.Field.{Field}
 use Rattle.field.specs.declared.Field.the-variants.{Whole, Cut}
 use Rattle.field.specs.Field.{fieldAt}

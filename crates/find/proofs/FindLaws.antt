@@ -1,16 +1,10 @@
 -- The laws of `put_found`, `find_tested`, `find` and `found_name`: what was found lies in the sheet, so its words fit; and the ways to the
 -- answers.
 -- Assumes nothing.
-use mathlib.Core.Path.{_≡_, refl, sym, ap, _∙_}
-use mathlib.Core.Bool.{Bool, true, false, _&&_}
-use mathlib.Core.List.{List, [], _∷_}
-use Prim.Native.Nat.{ℕ, _+_, _-_, _≤_, _<_}
-use native.Mathlib.Omega.{arith}
+use Rattle.basis.specs.Kit.{_≡_, refl, sym, ap, _∙_, Bool, true, false, _&&_, List, [], _∷_, ℕ, _+_, _-_, _≤_, _<_, leb, length}
+use Rattle.basis.proofs.Kit.{arith, Fits}
 use borrow.Author.Tests.{leb-true}
 use mir.Syntax.{w32}
-use mir.Val.{Fits}
-use lib.Dec.{leb}
-use lib.ListN.{length}
 use Rattle.basis.specs.First.{onlyIf}
 use Rattle.basis.proofs.Never.{never}
 use Rattle.limits.specs.Figures.{mostSheet}

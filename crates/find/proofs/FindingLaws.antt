@@ -1,13 +1,9 @@
 -- The laws of `finding_tested`: the first fault of the sheet's length, the scope and the path, and else what the search finds; what is
 -- known of the scope and the path that it is given; and that of a sheet of the right form the whole test says no more than its length's.
 -- Assumes nothing.
-use mathlib.Core.Path.{_≡_, refl, sym, ap, _∙_}
-use mathlib.Core.Bool.{Bool, true, false}
-use mathlib.Core.List.{List}
-use Prim.Native.Nat.{ℕ, _≤_, _<_}
-use borrow.Author.Tests.{lt-ltb, le-ltb, ltb-false}
-use lib.Dec.{ltb}
-use lib.ListN.{length}
+use Rattle.basis.specs.Kit.{_≡_, refl, sym, ap, _∙_, Bool, true, false, List, ℕ, _≤_, _<_, ltb, length}
+use Rattle.basis.proofs.Kit.{lt-ltb, le-ltb}
+use borrow.Author.Tests.{ltb-false}
 use Rattle.basis.specs.First.{onlyIf}
 use Rattle.basis.proofs.Never.{never}
 use Rattle.limits.specs.Figures.{mostSheet}

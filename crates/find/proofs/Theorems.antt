@@ -1,9 +1,6 @@
 -- What `find` answers, each statement below its sentence. `s` is the sheet, `c` the scope, `p` the path; what is fine has passed the form.
 -- Assumes nothing.
-use mathlib.Core.Path.{_≡_, refl, sym, ap, _∙_}
-use mathlib.Core.Bool.{true}
-use mathlib.Core.List.{List}
-use Prim.Native.Nat.{ℕ}
+use Rattle.basis.specs.Kit.{_≡_, refl, sym, ap, _∙_, true, List, ℕ}
 use Rattle.basis.proofs.Never.{never}
 use Rattle.path.specs.Path.{Path, isPath}
 use Rattle.candidates.specs.Candidates.{candidates}

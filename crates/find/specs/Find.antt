@@ -17,11 +17,7 @@
 --                           sheet's start where they are not
 --
 -- Assumes nothing.
-use mathlib.Core.Bool.{_&&_}
-use mathlib.Core.List.{List, [], _∷_}
-use Prim.Native.Nat.{ℕ, _-_}
-use lib.Dec.{ltb, leb}
-use lib.ListN.{length}
+use Rattle.basis.specs.Kit.{_&&_, List, [], _∷_, ℕ, _-_, ltb, leb, length}
 use Rattle.basis.specs.First.{onlyIf}
 use Rattle.limits.specs.Figures.{mostSheet}
 use Rattle.octets.specs.Octets.{part}

@@ -1,7 +1,5 @@
 // The public search: of a sheet, a scope and a path, the extension that the path finds there.
-ghost use mathlib.Core.Path.{_≡_};
-ghost use mathlib.Core.Bool.{true};
-ghost use Prim.Native.Nat.{_-_};
+ghost use Rattle.basis.specs.Kit.{_≡_, true, _-_};
 ghost use Rattle.path.specs.Path.{isRelOrEmpty, isPath};
 ghost use Rattle.reply.specs.Outcome.{Answered, give};
 ghost use Rattle.field.specs.Part.{PartOf};

@@ -1,10 +1,6 @@
 -- Closed cases of the definitions, which the checker computes: containers with one fault and with two, and a limit on their fields.
 -- Assumes nothing.
-use mathlib.Core.Path.{_≡_, refl}
-use mathlib.Core.Bool.{true, false}
-use mathlib.Core.List.{List, [], _∷_}
-use Prim.Native.Nat.{ℕ}
-use lib.Dec.{eqb, ltb}
+use Rattle.basis.specs.Kit.{_≡_, refl, true, false, List, [], _∷_, ℕ, eqb, ltb}
 use Rattle.octets.specs.Octets.{bigAt}
 use Rattle.reply.specs.declared.Refusal.the-variants.{BadSheet, BeyondLimit}
 use Rattle.reply.specs.declared.Verdict.{Verdict}

@@ -9,9 +9,7 @@
 -- `fieldAt` needs, but its start, which is `rest-start`.
 --
 -- Assumes nothing.
-use mathlib.Core.Path.{_≡_, sym, _∙_}
-use mathlib.Core.List.{List}
-use Prim.Native.Nat.{ℕ, _+_, _-_, _≤_, _<_}
+use Rattle.basis.specs.Kit.{_≡_, sym, _∙_, List, ℕ, _+_, _-_, _≤_, _<_}
 use Rattle.reply.specs.declared.Refusal.{Refusal}
 use Rattle.reply.specs.declared.Verdict.{Verdict}
 use Rattle.reply.specs.declared.Verdict.the-variants.{Fine, Refused}

@@ -5,7 +5,7 @@
 --   eachFrom bad f n w == likewise, by f index tag from to, the first of them having the index n
 --
 -- Assumes nothing.
-use Prim.Native.Nat.{ℕ, _+_}
+use Rattle.basis.specs.Kit.{ℕ, _+_}
 use Rattle.reply.specs.declared.Refusal.{Refusal}
 use Rattle.reply.specs.declared.Verdict.{Verdict}
 use Rattle.reply.specs.declared.Verdict.the-variants.{Fine, Refused}

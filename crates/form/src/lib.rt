@@ -1,7 +1,5 @@
 // Fields that hold one name: of one tag, with an identifier or a path as their payload.
-ghost use mathlib.Core.Path.{_≡_};
-ghost use Prim.Native.Nat.{_≤_};
-ghost use lib.ListN.{length};
+ghost use Rattle.basis.specs.Kit.{_≡_, _≤_, length};
 ghost use Rattle.field.specs.Leaf.{leafAt};
 ghost use Rattle.path.specs.Ident.{isIdent};
 ghost use Rattle.path.specs.Path.{isRelPath, isRelOrEmpty};

@@ -1,9 +1,7 @@
 -- Closed cases of the definitions, which the checker computes: of each range its two ends and what stands beside them; texts in either
 -- case, with blanks and line ends anywhere, empty, ended within a byte, and with a character that is no digit.
 -- Assumes nothing.
-use mathlib.Core.Path.{_≡_, refl}
-use mathlib.Core.List.{List, [], _∷_, map}
-use Prim.Native.Nat.{ℕ}
+use Rattle.basis.specs.Kit.{_≡_, refl, List, [], _∷_, map, ℕ}
 use Rattle.reply.specs.Reply.{ascii}
 use Rattle.hex.specs.Digits.{blank, other, digitOf, Spelled, bytes, noDigit, halfByte, unhex}
 

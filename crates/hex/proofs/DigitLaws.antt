@@ -1,11 +1,9 @@
 -- The ways through `digit_of`: a byte within one of three ranges, a blank or a line end, any other.
 -- Assumes nothing.
-use mathlib.Core.Path.{_≡_}
-use mathlib.Core.Bool.{true, false, _&&_, _||_}
-use Prim.Native.Nat.{ℕ, _+_, _-_, _≤_}
-use native.Mathlib.Omega.{arith}
+use Rattle.basis.specs.Kit.{_≡_, true, false, _&&_, _||_, ℕ, _+_, _-_, _≤_, eqb, leb}
+use Rattle.basis.proofs.Kit.{arith}
 use denote.Floats.{passes}
-use lib.Dec.{T, leb, eqb, leb→le}
+use lib.Dec.{T, leb→le}
 use mir.Facts.{and-yes}
 use Rattle.hex.specs.Digits.{blank, other, digitOf}
 

@@ -1,13 +1,8 @@
 -- The ways through `due_at` and `leaf_of`, and that the field which is due is the leaf of its tag.
 -- Assumes nothing.
-use mathlib.Core.Path.{_≡_, refl, sym, ap, _∙_}
-use mathlib.Core.Bool.{Bool, true, false, _&&_}
-use mathlib.Core.List.{List}
-use Prim.Native.Nat.{ℕ}
-use native.Mathlib.Omega.{arith}
-use borrow.Author.Tests.{eq-eqb, ne-eqb, eqb-true}
-use lib.Dec.{eqb}
-use lib.ListN.{length}
+use Rattle.basis.specs.Kit.{_≡_, refl, sym, ap, _∙_, Bool, true, false, _&&_, List, ℕ, eqb, length}
+use Rattle.basis.proofs.Kit.{arith, eq-eqb, ne-eqb}
+use borrow.Author.Tests.{eqb-true}
 use Rattle.field.specs.declared.Field.{Field}
 use Rattle.field.specs.declared.Field.the-variants.{Whole, Cut}
 use Rattle.field.specs.declared.Leaf.the-variants.{At, Not}

@@ -1,12 +1,9 @@
 -- Digits as they are printed, and that they read back as their numbers.
 -- Assumes nothing.
-use mathlib.Core.Path.{_≡_, sym, ap, _∙_}
-use mathlib.Core.Bool.{true, false, _&&_}
-use Prim.Native.Nat.{ℕ, _+_, _-_, _≤_, _<_}
+use Rattle.basis.specs.Kit.{_≡_, sym, ap, _∙_, true, false, _&&_, ℕ, _+_, _-_, _≤_, _<_, leb}
+use Rattle.basis.proofs.Kit.{arith, lt-ltb, le-ltb}
 use native.Mathlib.Decide.{decLt}
-use native.Mathlib.Omega.{arith}
-use borrow.Author.Tests.{lt-ltb, le-ltb, le-leb, lt-leb}
-use lib.Dec.{leb}
+use borrow.Author.Tests.{le-leb, lt-leb}
 use Rattle.hex.specs.Digits.{digitOf, glyphOf}
 use Rattle.hex.proofs.DigitLaws.{digit-figure, digit-upper}
 

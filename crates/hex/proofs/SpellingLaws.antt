@@ -1,14 +1,12 @@
 -- Texts: the laws of `unhex`, and the loop of `decode`.
 -- Assumes nothing.
-use mathlib.Core.Path.{_≡_, refl, sym, ap, subst, _∙_}
-use mathlib.Core.List.{List, [], _∷_, _++_, append-assoc, append-nil}
-use Prim.Native.Nat.{ℕ, suc, _+_, _*_, _≤_, _<_}
+use Rattle.basis.specs.Kit.{_≡_, refl, sym, ap, _∙_, List, [], _∷_, _++_, ℕ, suc, _+_, _*_, _≤_, _<_, length, getD, drop, sets}
+use Rattle.basis.proofs.Kit.{arith, add-one, eq-eqb, ne-eqb}
+use mathlib.Core.Path.{subst}
+use mathlib.Core.List.{append-assoc, append-nil}
 use native.Mathlib.Nat.{zero-add}
-use native.Mathlib.Numerals.{add-one}
-use native.Mathlib.Omega.{arith}
-use borrow.Author.Tests.{eq-eqb, ne-eqb}
-use lib.ListN.{length, getD, drop, drop-of-length-le}
-use lib.Seq.{sets, drop-cons}
+use lib.ListN.{drop-of-length-le}
+use lib.Seq.{drop-cons}
 use Rattle.octets.specs.Octets.{Laid}
 use Rattle.octets.proofs.Overlay.{laid-append, laid-length}
 use Rattle.hex.specs.declared.digits.Decoded.the-variants.{Bytes, NoDigit, HalfByte}

@@ -1,15 +1,14 @@
 -- A buffer that is filled by a rule, element by element: the loops of `words_of` and `signed_words_of`, for elements of any type.
 -- Assumes nothing.
-use mathlib.Core.Path.{_≡_, refl, ap, _∙_}
-use mathlib.Core.List.{List}
-use Prim.Native.Nat.{ℕ, _+_, _*_, _/_, _≤_, _<_, min}
+use Rattle.basis.specs.Kit.{_≡_, refl, ap, _∙_, List, ℕ, _+_, _*_, _/_, _≤_, _<_, length, getD, take}
+use Rattle.basis.proofs.Kit.{arith, Fits}
+use Prim.Native.Nat.{min}
 use native.Mathlib.Decide.{decLt}
-use native.Mathlib.Omega.{arith}
 use lib.IntN.{ℤ}
-use lib.ListN.{length, getD, set, take, length-set, length-take}
+use lib.ListN.{set, length-set, length-take}
 use lib.Seq.{getD-set-same, getD-set-other}
 use mir.Syntax.{w32}
-use mir.Val.{Fits, toZ, ofZ}
+use mir.Val.{toZ, ofZ}
 use mir.Facts.{ofZ-toZ}
 use Rattle.hex.specs.Words.{Filled}
 

@@ -10,13 +10,7 @@
 --   Decodes t l l′ r <-> r is what the text t comes to, and where it spells bytes they are laid over l, which is l′ then
 --
 -- Assumes nothing.
-use mathlib.Core.Path.{_≡_}
-use mathlib.Core.Bool.{true, false, _&&_, _||_}
-use mathlib.Core.List.{List, [], _∷_}
-use Prim.Native.Nat.{ℕ, suc, _+_, _-_, _*_}
-use lib.Dec.{leb, ltb, eqb}
-use lib.ListN.{length}
-use lib.Seq.{sets}
+use Rattle.basis.specs.Kit.{_≡_, true, false, _&&_, _||_, List, [], _∷_, ℕ, suc, _+_, _-_, _*_, eqb, ltb, leb, length, sets}
 use Rattle.hex.specs.declared.digits.Decoded.{Decoded}
 use Rattle.hex.specs.declared.digits.Decoded.the-variants.{Bytes, NoDigit, HalfByte}
 

@@ -1,6 +1,5 @@
 // Hexadecimal text, two digits a byte, either case; blanks and line ends are passed over.
-ghost use mathlib.Core.Path.{_≡_};
-ghost use Prim.Native.Nat.{_≤_, _<_};
+ghost use Rattle.basis.specs.Kit.{_≡_, _≤_, _<_};
 ghost use Rattle.hex.specs.Digits.{other, digitOf, glyphOf, Decodes};
 
 // What a text comes to.

@@ -1,7 +1,5 @@
 // The field that is due at a place of the input, or why it is not there.
-ghost use mathlib.Core.Path.{_≡_};
-ghost use Prim.Native.Nat.{_≤_};
-ghost use lib.ListN.{length};
+ghost use Rattle.basis.specs.Kit.{_≡_, _≤_, length};
 ghost use Rattle.hex.specs.Due.{dueAt, leafOf};
 use field::Field;
 use field::Leaf;

@@ -1,8 +1,7 @@
 // Words of 4 bytes, the highest first, as a payload has them.
-ghost use mathlib.Core.Path.{_≡_};
-ghost use Prim.Native.Nat.{_*_, _/_, min};
+ghost use Rattle.basis.specs.Kit.{_≡_, _*_, _/_, length};
+ghost use Prim.Native.Nat.{min};
 ghost use lib.IntN.{pos};
-ghost use lib.ListN.{length};
 ghost use mir.Syntax.{w32};
 ghost use mir.Val.{toZ};
 ghost use Rattle.octets.specs.Octets.{bigAt};

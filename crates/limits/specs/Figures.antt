@@ -18,7 +18,7 @@
 --         mostUrl == bytes of a type URL
 --
 -- Assumes nothing.
-use Prim.Native.Nat.{ℕ, _+_}
+use Rattle.basis.specs.Kit.{ℕ, _+_}
 
 -- 01, Sheet and request: "Identifiers are 1 to 64 bytes"
 abbrev pub mostIdent : ℕ

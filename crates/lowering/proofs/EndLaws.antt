@@ -1,10 +1,7 @@
 -- What an end becomes: the ways through `end_of`, on the bits of a signed word.
 -- Assumes nothing.
-use mathlib.Core.Path.{_≡_, refl}
-use mathlib.Core.Bool.{true, false}
-use Prim.Native.Nat.{ℕ, zero, suc, _-_, _^_, _<_}
-use native.Mathlib.Omega.{arith}
-use borrow.Author.Tests.{eq-eqb, ne-eqb, lt-ltb}
+use Rattle.basis.specs.Kit.{_≡_, refl, true, false, ℕ, zero, suc, _-_, _^_, _<_}
+use Rattle.basis.proofs.Kit.{arith, eq-eqb, ne-eqb, lt-ltb}
 use lib.IntN.{ℤ, pos, negsuc, _+ℤ_}
 use mir.Syntax.{w32}
 use mir.Val.{SFits, ofZ, toZ}

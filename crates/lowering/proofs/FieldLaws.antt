@@ -1,17 +1,11 @@
 -- Fields: the loop of `put_fields`, and the ways through `lower_fields`.
 -- Assumes nothing.
-use mathlib.Core.Path.{_≡_, refl, sym, ap, _∙_}
-use mathlib.Core.Bool.{Bool, true, false}
-use mathlib.Core.List.{List, [], _∷_}
-use Prim.Native.Nat.{ℕ, suc, _+_, _≤_, _<_}
-use native.Mathlib.Numerals.{add-one}
-use native.Mathlib.Omega.{arith}
-use borrow.Author.Tests.{lt-ltb, le-ltb, eq-eqb, ne-eqb}
-use lib.Dec.{eqb}
-use lib.ListN.{length, getD, drop, drop-of-length-le}
-use lib.Seq.{sets, drop-cons}
+use Rattle.basis.specs.Kit.{_≡_, refl, sym, ap, _∙_, Bool, true, false, List, [], _∷_, ℕ, suc, _+_, _≤_, _<_, eqb, length, getD, drop}
+use Rattle.basis.specs.Kit.{sets}
+use Rattle.basis.proofs.Kit.{arith, add-one, eq-eqb, ne-eqb, lt-ltb, le-ltb, Fits}
+use lib.ListN.{drop-of-length-le}
+use lib.Seq.{drop-cons}
 use mir.Syntax.{w32}
-use mir.Val.{Fits}
 use Rattle.basis.proofs.Never.{never}
 use Rattle.limits.specs.Figures.{mostWords}
 use Rattle.reply.specs.declared.Refusal.the-variants.{BadRequest, BeyondLimit}

@@ -1,16 +1,12 @@
 -- Ranges: the loop of `put_ranges`, and the ways through `lower_ranges`.
 -- Assumes nothing.
-use mathlib.Core.Path.{_≡_, refl, sym, ap, _∙_}
-use mathlib.Core.List.{List, [], _∷_}
-use Prim.Native.Nat.{ℕ, suc, _+_, _%_, _≤_, _<_}
-use native.Mathlib.Numerals.{add-one}
-use native.Mathlib.Omega.{arith}
-use borrow.Author.Tests.{lt-ltb, le-ltb, eq-eqb, ne-eqb}
+use Rattle.basis.specs.Kit.{_≡_, refl, sym, ap, _∙_, List, [], _∷_, ℕ, suc, _+_, _%_, _≤_, _<_, length, getD, drop, sets}
+use Rattle.basis.proofs.Kit.{arith, add-one, eq-eqb, ne-eqb, lt-ltb, le-ltb, Fits}
 use lib.IntN.{ℤ, pos}
-use lib.ListN.{length, getD, drop, drop-of-length-le}
-use lib.Seq.{sets, drop-cons}
+use lib.ListN.{drop-of-length-le}
+use lib.Seq.{drop-cons}
 use mir.Syntax.{w32}
-use mir.Val.{Fits, SFits, toZ, ofZ}
+use mir.Val.{SFits, toZ, ofZ}
 use mir.Facts.{toZ-ofZ}
 use lib.Signed.{mag}
 use Rattle.basis.proofs.Never.{never}

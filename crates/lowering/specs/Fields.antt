@@ -6,11 +6,7 @@
 --           lowerFields ws == what lowering fields comes to
 --
 -- Assumes nothing.
-use mathlib.Core.Bool.{true, false}
-use mathlib.Core.List.{List, [], _∷_}
-use Prim.Native.Nat.{ℕ, suc}
-use lib.Dec.{ltb, eqb}
-use lib.ListN.{length}
+use Rattle.basis.specs.Kit.{true, false, List, [], _∷_, ℕ, suc, eqb, ltb, length}
 use Rattle.limits.specs.Figures.{mostWords}
 use Rattle.reply.specs.declared.Refusal.the-variants.{BadRequest, BeyondLimit}
 use Rattle.reply.specs.Outcome.{Outcome, refuse, give, push}

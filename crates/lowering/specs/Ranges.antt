@@ -9,12 +9,8 @@
 --   lowerRanges k ws ==  what lowering ranges comes to
 --
 -- Assumes nothing.
-use mathlib.Core.Bool.{Bool, true, false}
-use mathlib.Core.List.{List, [], _∷_}
-use Prim.Native.Nat.{ℕ, _%_}
-use lib.Dec.{ltb, eqb}
+use Rattle.basis.specs.Kit.{Bool, true, false, List, [], _∷_, ℕ, _%_, eqb, ltb, length}
 use lib.IntN.{ℤ, pos, negsuc, _+ℤ_}
-use lib.ListN.{length}
 use Rattle.limits.specs.Figures.{mostWords}
 use Rattle.reply.specs.declared.Refusal.the-variants.{BadRequest, BeyondLimit, RangeEnd}
 use Rattle.reply.specs.Outcome.{Outcome, refuse, give, push}

@@ -1,6 +1,5 @@
 // Fields: the oneof that each belongs to.
-ghost use Prim.Native.Nat.{_≤_};
-ghost use lib.ListN.{length};
+ghost use Rattle.basis.specs.Kit.{_≤_, length};
 ghost use Rattle.limits.specs.Figures.{mostWords};
 ghost use Rattle.reply.specs.Outcome.{Answered};
 ghost use Rattle.lowering.specs.Fields.{oneofs, lowerFields};

@@ -1,9 +1,5 @@
 // Ranges: of extensions, of reserved numbers of a message, of reserved numbers of an enum.
-ghost use mathlib.Core.Path.{_≡_};
-ghost use mathlib.Core.List.{[], _∷_};
-ghost use Prim.Native.Nat.{_%_, _^_, _<_};
-ghost use lib.ListN.{length};
-ghost use lib.Seq.{sets};
+ghost use Rattle.basis.specs.Kit.{_≡_, [], _∷_, _%_, _^_, _<_, length, sets};
 ghost use Rattle.reply.specs.Outcome.{Answered};
 ghost use Rattle.lowering.specs.Ranges.{endOf, pairs, lowerRanges};
 ghost use Rattle.emit.specs.Puts.{Puts};

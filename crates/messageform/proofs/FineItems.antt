@@ -1,11 +1,8 @@
 -- What a fine verdict says of the tree, from the leaves up: of a leaf and what stands after it, of values, and of items at every depth.
 -- Assumes nothing.
-use mathlib.Core.Path.{_≡_, refl, sym, ap, _∙_}
-use mathlib.Core.Bool.{Bool, true, false, _&&_, false≢true}
-use mathlib.Core.List.{List, _∷_}
-use Prim.Native.Nat.{ℕ, zero, suc}
+use Rattle.basis.specs.Kit.{_≡_, refl, sym, ap, _∙_, Bool, true, false, _&&_, List, _∷_, ℕ, zero, suc, length}
+use mathlib.Core.Bool.{false≢true}
 use native.Mathlib.Decide.{ℕ-discrete}
-use lib.ListN.{length}
 use Rattle.octets.specs.Octets.{part}
 use Rattle.path.specs.Ident.{isIdent}
 use Rattle.path.specs.Path.{isRelPath}

@@ -1,11 +1,7 @@
 -- What the tree of a fine enum, a fine message and of what a fine file or message holds is like: every leaf is what 01 allows, and nothing
 -- is left out.
 -- Assumes nothing.
-use mathlib.Core.Path.{_≡_, sym, ap, _∙_}
-use mathlib.Core.Bool.{Bool, true}
-use mathlib.Core.List.{List}
-use Prim.Native.Nat.{ℕ, suc, _<_}
-use lib.ListN.{length}
+use Rattle.basis.specs.Kit.{_≡_, sym, ap, _∙_, Bool, true, List, ℕ, suc, _<_, length}
 use Rattle.path.specs.Ident.{isIdent}
 use Rattle.reply.specs.declared.Refusal.the-variants.{BadSheet}
 use Rattle.reply.specs.declared.Verdict.the-variants.{Fine}

@@ -1,12 +1,7 @@
 -- The laws of enums and messages: the ways through `check_value`, `check_enum`, `check_item`, `check_message` and `check_items`.
 -- Assumes nothing.
-use mathlib.Core.Path.{_≡_, refl, sym, _∙_}
-use mathlib.Core.Bool.{Bool, true, false}
-use mathlib.Core.List.{List}
-use Prim.Native.Nat.{ℕ, zero, suc, _-_, _≤_}
-use native.Mathlib.Omega.{arith}
-use borrow.Author.Tests.{eq-eqb, ne-eqb, not-true, not-false}
-use lib.ListN.{length}
+use Rattle.basis.specs.Kit.{_≡_, refl, sym, _∙_, Bool, true, false, List, ℕ, zero, suc, _-_, _≤_, length}
+use Rattle.basis.proofs.Kit.{arith, eq-eqb, ne-eqb, not-true, not-false}
 use Rattle.path.specs.Ident.{isIdent}
 use Rattle.reply.specs.declared.Refusal.the-variants.{BadSheet}
 use Rattle.reply.specs.declared.Verdict.{Verdict}

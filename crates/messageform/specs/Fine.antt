@@ -5,9 +5,7 @@
 --        itemTags i ==  the tags of the items, in order
 --
 -- Assumes nothing.
-use mathlib.Core.Bool.{Bool, true, _&&_}
-use mathlib.Core.List.{List, [], _∷_}
-use Prim.Native.Nat.{ℕ}
+use Rattle.basis.specs.Kit.{Bool, true, _&&_, List, [], _∷_, ℕ}
 use Rattle.path.specs.Ident.{isIdent}
 use Rattle.path.specs.Path.{isRelPath}
 use Rattle.field.specs.Leaf.{text}

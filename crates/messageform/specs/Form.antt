@@ -9,10 +9,7 @@
 --        judgeItems d fields s a e == what a file holds after its package, or a message after its name, with d levels left
 --
 -- Assumes nothing.
-use mathlib.Core.Bool.{Bool, true, false}
-use mathlib.Core.List.{List}
-use Prim.Native.Nat.{ℕ, zero, suc}
-use lib.Dec.{eqb}
+use Rattle.basis.specs.Kit.{Bool, true, false, List, ℕ, zero, suc, eqb}
 use Rattle.path.specs.Ident.{isIdent}
 use Rattle.reply.specs.declared.Refusal.the-variants.{BadSheet}
 use Rattle.reply.specs.declared.Verdict.{Verdict}

@@ -1,7 +1,5 @@
 // Enums, messages, and what a file or a message holds. Only nested messages recurse: siblings are a loop.
-ghost use mathlib.Core.Path.{_≡_};
-ghost use Prim.Native.Nat.{_≤_};
-ghost use lib.ListN.{length};
+ghost use Rattle.basis.specs.Kit.{_≡_, _≤_, length};
 ghost use Rattle.messageform.specs.Form.{judgeValue, judgeEnum, judgeItem, judgeMessage, judgeItems};
 use declform::is_extension;
 use declform::is_field;

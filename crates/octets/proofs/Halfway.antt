@@ -1,13 +1,11 @@
 -- Bytes that are laid over a list one by one: what every loop of a writer keeps, and the loop of `put_all`.
 -- Assumes nothing.
-use mathlib.Core.Path.{_≡_, refl, sym, ap, _∙_}
-use mathlib.Core.List.{List, [], _∷_, _++_, append-assoc, append-nil}
-use Prim.Native.Nat.{ℕ, suc, _+_, _≤_, _<_}
+use Rattle.basis.specs.Kit.{_≡_, refl, sym, ap, _∙_, List, [], _∷_, _++_, ℕ, suc, _+_, _≤_, _<_, length, getD, drop, sets}
+use Rattle.basis.proofs.Kit.{arith, add-one}
+use mathlib.Core.List.{append-assoc, append-nil}
 use native.Mathlib.Nat.{add-zero, add-assoc}
-use native.Mathlib.Numerals.{add-one}
-use native.Mathlib.Omega.{arith}
-use lib.ListN.{length, getD, drop, length-append, drop-of-length-le}
-use lib.Seq.{sets, drop-cons}
+use lib.ListN.{length-append, drop-of-length-le}
+use lib.Seq.{drop-cons}
 use Rattle.octets.specs.Octets.{Laid}
 use Rattle.octets.proofs.Overlay.{laid-append, laid-length}
 

@@ -1,12 +1,10 @@
 -- Elements laid over a list: the laws of `sets` and of `Laid`.
 -- Assumes nothing.
-use mathlib.Core.Path.{_≡_, refl, sym, ap, _∙_}
-use mathlib.Core.List.{List, [], _∷_, _++_}
-use Prim.Native.Nat.{ℕ, suc, _+_, _≤_}
+use Rattle.basis.specs.Kit.{_≡_, refl, sym, ap, _∙_, List, [], _∷_, _++_, ℕ, suc, _+_, _≤_, length, sets}
+use Rattle.basis.proofs.Kit.{arith}
 use native.Mathlib.Nat.{add-zero, add-suc, suc-add}
-use native.Mathlib.Omega.{arith}
-use lib.ListN.{length, set, length-append}
-use lib.Seq.{sets, length-sets, set-out}
+use lib.ListN.{set, length-append}
+use lib.Seq.{length-sets, set-out}
 use Rattle.octets.specs.Octets.{Laid}
 
 module _ {A : Type 0} where

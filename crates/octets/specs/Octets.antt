@@ -6,13 +6,7 @@
 --   Laid l at bs l′ r <-> l′ is l with bs laid over it from `at` on, and r is the place after them
 --
 -- Assumes nothing.
-use mathlib.Core.Path.{_≡_}
-use mathlib.Core.Bool.{Bool, true, false}
-use mathlib.Core.List.{List, [], _∷_}
-use Prim.Native.Nat.{ℕ, zero, suc, _+_, _-_, _*_}
-use lib.Dec.{eqb}
-use lib.ListN.{length, getD, take, drop}
-use lib.Seq.{sets}
+use Rattle.basis.specs.Kit.{_≡_, Bool, true, false, List, [], _∷_, ℕ, zero, suc, _+_, _-_, _*_, eqb, length, getD, take, drop, sets}
 
 abbrev pub part : List ℕ → ℕ → ℕ → List ℕ
 part s a e = take (e - a) (drop a s)

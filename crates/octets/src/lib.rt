@@ -1,9 +1,5 @@
 // Bytes in lent slices: read as numbers, compared, and laid over a slice as far as it reaches.
-ghost use mathlib.Core.Path.{_≡_};
-ghost use mathlib.Core.List.{[], _∷_};
-ghost use Prim.Native.Nat.{_+_, _^_, _≤_, _<_};
-ghost use lib.ListN.{length, getD};
-ghost use lib.Seq.{sets};
+ghost use Rattle.basis.specs.Kit.{_≡_, [], _∷_, _+_, _^_, _≤_, _<_, length, getD, sets};
 ghost use mir.Syntax.{w32};
 ghost use mir.Val.{toZ};
 ghost use Rattle.octets.specs.Octets.{sameBytes, bigAt, Laid};

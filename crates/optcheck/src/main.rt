@@ -1,7 +1,6 @@
 // Checks the form of sheets and requests. Input: 40 a sheet, or 40 a sheet and 41 a request; several of these one after the other are
 // several cases, each answered in its turn. On 0 it says what it read.
-ghost use Prim.Native.Nat.{_≤_};
-ghost use lib.ListN.{length};
+ghost use Rattle.basis.specs.Kit.{_≤_, length};
 use console::input::Input;
 use console::input::MOST_BYTES;
 use console::output::number;

@@ -1,8 +1,6 @@
 // Finds extensions. Input: 40 a sheet, 42 a scope, 43 a path; several of these one after the other are several cases, each answered in its
 // turn. On 0 it says which extension the path finds.
-ghost use mathlib.Core.Path.{_≡_};
-ghost use Prim.Native.Nat.{_≤_};
-ghost use lib.ListN.{length};
+ghost use Rattle.basis.specs.Kit.{_≡_, _≤_, length};
 ghost use Rattle.field.specs.Leaf.{Lies};
 use console::input::Input;
 use console::input::MOST_BYTES;

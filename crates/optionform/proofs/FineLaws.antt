@@ -1,14 +1,10 @@
 -- What the tree of a fine option is like: every part is what 01 allows, and nothing is left out. The final statements stand at the end.
 -- Assumes nothing.
-use mathlib.Core.Path.{_≡_, refl, sym, ap, subst, _∙_}
-use mathlib.Core.Bool.{Bool, true, false}
-use mathlib.Core.List.{List, [], _∷_}
-use Prim.Native.Nat.{ℕ, suc, _+_, _≤_, _<_}
+use Rattle.basis.specs.Kit.{_≡_, refl, sym, ap, _∙_, Bool, true, false, List, [], _∷_, ℕ, suc, _+_, _≤_, _<_, eqb, ltb, length}
+use Rattle.basis.proofs.Kit.{arith}
+use mathlib.Core.Path.{subst}
 use native.Mathlib.Decide.{ℕ-discrete}
-use native.Mathlib.Omega.{arith}
 use borrow.Author.Tests.{ltb-true, ltb-false, eqb-true, eqb-false, le-leb}
-use lib.Dec.{eqb, ltb}
-use lib.ListN.{length}
 use Rattle.basis.proofs.Never.{never}
 use Rattle.limits.specs.Figures.{mostOptions, mostParts, mostConstants}
 use Rattle.reply.specs.declared.Refusal.the-variants.{BadRequest, BeyondLimit}

@@ -1,14 +1,8 @@
 -- Options and names: the ways through `check_parts`, `check_last` and `check_option`.
 -- Assumes nothing.
-use mathlib.Core.Path.{_≡_, refl, sym}
-use mathlib.Core.Bool.{Bool, true, false}
-use mathlib.Core.List.{List}
-use Prim.Native.Nat.{ℕ, zero, suc, _+_, _-_, _≤_, _<_}
+use Rattle.basis.specs.Kit.{_≡_, refl, sym, Bool, true, false, List, ℕ, zero, suc, _+_, _-_, _≤_, _<_, eqb, length}
+use Rattle.basis.proofs.Kit.{arith, eq-eqb, ne-eqb, lt-ltb, le-ltb, not-true, not-false}
 use native.Mathlib.Decide.{decLt}
-use native.Mathlib.Omega.{arith}
-use borrow.Author.Tests.{eq-eqb, ne-eqb, lt-ltb, le-ltb, not-true, not-false}
-use lib.Dec.{eqb}
-use lib.ListN.{length}
 use Rattle.basis.proofs.Never.{never}
 use Rattle.limits.specs.Figures.{mostOptions, mostParts, mostConstants}
 use Rattle.octets.specs.Octets.{part}

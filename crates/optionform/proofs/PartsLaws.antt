@@ -1,12 +1,10 @@
 -- The walk over the parts of a fine name: from one part to the next, and on to what follows them. `after` is what holds there: of an option
 -- its constant, of a name alone that it ends.
 -- Assumes nothing.
-use mathlib.Core.Path.{_≡_, sym, ap, subst, _∙_}
-use mathlib.Core.Bool.{true, false, and-eq-true-iff}
-use mathlib.Core.List.{List}
-use Prim.Native.Nat.{ℕ, _≤_}
-use native.Mathlib.Omega.{arith}
-use lib.ListN.{length}
+use Rattle.basis.specs.Kit.{_≡_, sym, ap, _∙_, true, false, List, ℕ, _≤_, length}
+use Rattle.basis.proofs.Kit.{arith}
+use mathlib.Core.Path.{subst}
+use mathlib.Core.Bool.{and-eq-true-iff}
 use Rattle.path.specs.Ident.{isIdent}
 use Rattle.path.specs.Path.{isPath}
 use Rattle.field.specs.Leaf.{text}

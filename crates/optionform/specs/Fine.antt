@@ -4,11 +4,7 @@
 --   goodOption s o <=> an option has 1 to 16 good parts and one good constant
 --
 -- Assumes nothing.
-use mathlib.Core.Bool.{Bool, true, _&&_}
-use mathlib.Core.List.{List, [], _∷_}
-use Prim.Native.Nat.{ℕ}
-use lib.Dec.{eqb, leb}
-use lib.ListN.{length}
+use Rattle.basis.specs.Kit.{Bool, true, _&&_, List, [], _∷_, ℕ, eqb, leb, length}
 use Rattle.limits.specs.Figures.{mostParts}
 use Rattle.field.specs.Leaf.{text}
 use Rattle.request.specs.declared.name.Part.{Part}

@@ -9,10 +9,7 @@
 --    judgeOption s i t a e == one field of a request after its heading, the i-th, counted from 0
 --
 -- Assumes nothing.
-use mathlib.Core.Bool.{true, false}
-use mathlib.Core.List.{List}
-use Prim.Native.Nat.{ℕ, _+_}
-use lib.Dec.{eqb, ltb}
+use Rattle.basis.specs.Kit.{true, false, List, ℕ, _+_, eqb, ltb}
 use Rattle.limits.specs.Figures.{mostOptions, mostParts, mostConstants}
 use Rattle.reply.specs.declared.Refusal.the-variants.{BadRequest, BeyondLimit}
 use Rattle.reply.specs.declared.Verdict.{Verdict}

@@ -1,7 +1,5 @@
 // Options and their names.
-ghost use mathlib.Core.Path.{_≡_};
-ghost use Prim.Native.Nat.{_≤_};
-ghost use lib.ListN.{length};
+ghost use Rattle.basis.specs.Kit.{_≡_, _≤_, length};
 ghost use Rattle.field.specs.Walk.{walk};
 ghost use Rattle.optionform.specs.Form.{partsFrom, judgeLast, judgeOption};
 use constantform::check_constant;

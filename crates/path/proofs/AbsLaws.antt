@@ -1,12 +1,9 @@
 -- A leading dot: the laws of `is_abs` and `without_root`.
 -- Assumes nothing.
-use mathlib.Core.Path.{_≡_, refl, sym, _∙_}
-use mathlib.Core.Bool.{Bool, true, false, false≢true}
-use mathlib.Core.List.{List, [], _∷_}
-use Prim.Native.Nat.{ℕ, suc, _-_, _≤_}
-use native.Mathlib.Omega.{arith}
-use lib.Dec.{eqb}
-use lib.ListN.{length, getD, take, drop, length-drop}
+use Rattle.basis.specs.Kit.{_≡_, refl, sym, _∙_, Bool, true, false, List, [], _∷_, ℕ, suc, _-_, _≤_, eqb, length, getD, take, drop}
+use Rattle.basis.proofs.Kit.{arith}
+use mathlib.Core.Bool.{false≢true}
+use lib.ListN.{length-drop}
 use lib.Seq.{take-all}
 use Rattle.path.specs.Path.{dot, isAbs, rootless}
 

@@ -1,10 +1,7 @@
 -- Closed cases of the definitions, computed: of each rule one that holds, one at the limit and one refused just past it.
 -- Assumes nothing.
-use mathlib.Core.Path.{_≡_, refl}
-use mathlib.Core.Bool.{true, false}
-use mathlib.Core.List.{List, [], _∷_, _++_, map}
-use Prim.Native.Nat.{ℕ}
-use lib.ListN.{length, replicate}
+use Rattle.basis.specs.Kit.{_≡_, refl, true, false, List, [], _∷_, _++_, map, ℕ, length}
+use lib.ListN.{replicate}
 use Rattle.path.specs.Ident.{isLetter, isDigit, allWord, isIdent}
 use Rattle.path.specs.Path.{Name, dot, onFirst, split, components, spell, allIdent, isRelPath, isRelOrEmpty}
 use Rattle.path.specs.Path.{rootless, isPath, parent, last}

@@ -1,12 +1,8 @@
 -- The tests of a path's form: the laws of `is_rel_path`, `is_rel_or_empty` and `is_path`.
 -- Assumes nothing.
-use mathlib.Core.Path.{_≡_, refl}
-use mathlib.Core.Bool.{Bool, true, false}
-use mathlib.Core.List.{List, [], _∷_}
-use Prim.Native.Nat.{ℕ, _≤_, _<_}
-use native.Mathlib.Omega.{arith}
+use Rattle.basis.specs.Kit.{_≡_, refl, Bool, true, false, List, [], _∷_, ℕ, _≤_, _<_, length, drop}
+use Rattle.basis.proofs.Kit.{arith}
 use borrow.Author.Tests.{le-leb, lt-leb}
-use lib.ListN.{length, drop}
 use Rattle.limits.specs.Figures.{mostPath}
 use Rattle.path.specs.Path.{split, components, allIdent, isRelPath, isRelOrEmpty, rootless, isPath}
 use Rattle.path.proofs.PathLaws.{components-split}

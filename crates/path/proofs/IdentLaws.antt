@@ -1,14 +1,12 @@
 -- Identifiers: an identifier is not empty and holds no dot; the laws of `is_letter`, `is_word`, `all_word` and `is_ident`.
 -- Assumes nothing.
-use mathlib.Core.Path.{_≡_, refl, ap, subst}
-use mathlib.Core.Bool.{Bool, true, false, _&&_, _||_, and-eq-true-iff, false≢true}
-use mathlib.Core.List.{List, [], _∷_}
-use Prim.Native.Nat.{ℕ, _+_, _≤_, _<_}
-use native.Mathlib.Numerals.{add-one}
-use native.Mathlib.Omega.{arith}
-use borrow.Author.Tests.{not-true, not-false, eqb-true, le-leb, lt-leb}
-use lib.Dec.{leb, eqb}
-use lib.ListN.{length, getD, drop, drop-of-length-le}
+use Rattle.basis.specs.Kit.{_≡_, refl, ap, Bool, true, false, _&&_, _||_, List, [], _∷_, ℕ, _+_, _≤_, _<_, eqb, leb, length, getD}
+use Rattle.basis.specs.Kit.{drop}
+use Rattle.basis.proofs.Kit.{arith, add-one, not-true, not-false}
+use mathlib.Core.Path.{subst}
+use mathlib.Core.Bool.{and-eq-true-iff, false≢true}
+use borrow.Author.Tests.{eqb-true, le-leb, lt-leb}
+use lib.ListN.{drop-of-length-le}
 use lib.Seq.{drop-cons}
 use Rattle.limits.specs.Figures.{mostIdent}
 use Rattle.path.specs.Ident.{isLetter, isDigit, allWord, isIdent}

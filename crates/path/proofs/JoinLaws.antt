@@ -1,13 +1,8 @@
 -- One path followed by another: the laws of `append`.
 -- Assumes nothing.
-use mathlib.Core.Path.{_≡_, refl}
-use mathlib.Core.List.{List, [], _∷_, _++_, append-nil}
-use Prim.Native.Nat.{ℕ, _+_, _*_, _^_, _<_}
-use native.Mathlib.Omega.{arith}
-use mir.Syntax.{w64}
-use mir.Val.{Fits}
-use lib.ListN.{length}
-use lib.Seq.{sets}
+use Rattle.basis.specs.Kit.{_≡_, refl, List, [], _∷_, _++_, ℕ, _+_, _*_, _^_, _<_, length, sets}
+use Rattle.basis.proofs.Kit.{arith, w64, Fits}
+use mathlib.Core.List.{append-nil}
 use Rattle.octets.specs.Octets.{Laid}
 use Rattle.octets.proofs.Overlay.{laid-append}
 use Rattle.path.specs.Path.{dot, split, components, spell}

@@ -1,12 +1,10 @@
 -- The names of a text from a place on, and those before a place: the laws of a walk over the components by `component_end`.
 -- Assumes nothing.
-use mathlib.Core.Path.{_≡_, sym, ap, _∙_}
-use mathlib.Core.List.{List, [], _∷_, _++_}
-use Prim.Native.Nat.{ℕ, suc, _+_, _-_, _≤_, _<_}
+use Rattle.basis.specs.Kit.{_≡_, sym, ap, _∙_, List, [], _∷_, _++_, ℕ, suc, _+_, _-_, _≤_, _<_, length, getD, take, drop}
+use Rattle.basis.proofs.Kit.{arith}
 use native.Mathlib.Decide.{decLt}
-use native.Mathlib.Omega.{arith}
 use borrow.Author.Tests.{le-leb, lt-leb}
-use lib.ListN.{length, getD, take, drop, length-drop}
+use lib.ListN.{length-drop}
 use lib.Seq.{drop-cons, drop-drop, take-add, getD-drop}
 use Rattle.octets.specs.Octets.{part}
 use Rattle.path.specs.Path.{dot, split, components}

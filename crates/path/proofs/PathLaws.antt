@@ -1,13 +1,11 @@
 -- Paths and their texts, identifiers and parents: the laws that the crates above cite.
 -- Assumes nothing.
-use mathlib.Core.Path.{_≡_, refl, ap, _∙_}
-use mathlib.Core.Bool.{true, and-eq-true-iff}
-use mathlib.Core.List.{List, [], _∷_, _++_}
-use Prim.Native.Nat.{ℕ, zero, suc, _+_, _-_, _≤_, _<_}
-use native.Mathlib.Omega.{arith}
+use Rattle.basis.specs.Kit.{_≡_, refl, ap, _∙_, true, List, [], _∷_, _++_, ℕ, zero, suc, _+_, _-_, _≤_, _<_, leb, length, getD, take}
+use Rattle.basis.specs.Kit.{drop}
+use Rattle.basis.proofs.Kit.{arith}
+use mathlib.Core.Bool.{and-eq-true-iff}
 use borrow.Author.Tests.{leb-true}
-use lib.Dec.{leb}
-use lib.ListN.{length, getD, take, drop, length-append}
+use lib.ListN.{length-append}
 use Rattle.limits.specs.Figures.{mostPath}
 use Rattle.path.specs.Ident.{isIdent}
 use Rattle.path.specs.Path.{Name, Path, dot, split, components, spell, allIdent, isRelOrEmpty}

@@ -1,12 +1,9 @@
 -- A text byte by byte, each a dot or another byte: the laws of its pieces between the dots that go by the bytes.
 -- Assumes nothing.
-use mathlib.Core.Path.{_≡_, refl, sym, ap, subst, _∙_}
-use mathlib.Core.List.{List, [], _∷_, _++_}
-use Prim.Native.Nat.{ℕ, suc, _≤_, _<_}
+use Rattle.basis.specs.Kit.{_≡_, refl, sym, ap, _∙_, List, [], _∷_, _++_, ℕ, suc, _≤_, _<_, length, getD, take, drop}
+use Rattle.basis.proofs.Kit.{arith, ne-eqb}
+use mathlib.Core.Path.{subst}
 use native.Mathlib.Decide.{ℕ-discrete, decLt}
-use native.Mathlib.Omega.{arith}
-use borrow.Author.Tests.{ne-eqb}
-use lib.ListN.{length, getD, take, drop}
 use Rattle.path.specs.Path.{Name, Path, dot, onFirst, split, spell}
 use Rattle.path.specs.inner.Places.{untilDot}
 

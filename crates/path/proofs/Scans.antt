@@ -1,13 +1,9 @@
 -- The loops over a text: what is known at the head of each, and the laws of each way through.
 -- Assumes nothing.
-use mathlib.Core.Path.{_≡_, refl, sym, ap, _∙_}
-use mathlib.Core.Bool.{Bool, true, false}
-use mathlib.Core.List.{List, [], _∷_, _++_}
-use Prim.Native.Nat.{ℕ, suc, _+_, _-_, _≤_, _<_}
-use native.Mathlib.Numerals.{add-one}
-use native.Mathlib.Omega.{arith}
-use borrow.Author.Tests.{not-true, not-false}
-use lib.ListN.{length, getD, take, drop, drop-of-length-le, take-append-drop}
+use Rattle.basis.specs.Kit.{_≡_, refl, sym, ap, _∙_, Bool, true, false, List, [], _∷_, _++_, ℕ, suc, _+_, _-_, _≤_, _<_, length, getD}
+use Rattle.basis.specs.Kit.{take, drop}
+use Rattle.basis.proofs.Kit.{arith, add-one, not-true, not-false}
+use lib.ListN.{drop-of-length-le, take-append-drop}
 use lib.Seq.{drop-cons, drop-length, take-take, take-length, length-take-le}
 use Rattle.path.specs.Ident.{isIdent}
 use Rattle.path.specs.Path.{dot, split, components, spell, allIdent, parent}

@@ -16,11 +16,7 @@
 --           last p ==  its last component, the empty name where there is none
 --
 -- Assumes nothing.
-use mathlib.Core.Bool.{Bool, true, false, _&&_}
-use mathlib.Core.List.{List, [], _∷_, _++_}
-use Prim.Native.Nat.{ℕ}
-use lib.Dec.{leb, eqb}
-use lib.ListN.{length}
+use Rattle.basis.specs.Kit.{Bool, true, false, _&&_, List, [], _∷_, _++_, ℕ, eqb, leb, length}
 use Rattle.limits.specs.Figures.{mostPath}
 use Rattle.path.specs.Ident.{isIdent}
 

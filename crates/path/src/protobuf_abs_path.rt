@@ -1,5 +1,5 @@
 // Absolute paths: a leading dot, then a path.
-ghost use mathlib.Core.Path.{_≡_};
+ghost use Rattle.basis.specs.Kit.{_≡_};
 ghost use Rattle.path.specs.Path.{isAbs, rootless};
 
 // Whether the text leads with a dot.

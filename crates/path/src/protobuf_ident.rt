@@ -1,8 +1,5 @@
 // Identifiers.
-ghost use mathlib.Core.Path.{_≡_};
-ghost use mathlib.Core.Bool.{_||_};
-ghost use Prim.Native.Nat.{_≤_};
-ghost use lib.ListN.{length, drop};
+ghost use Rattle.basis.specs.Kit.{_≡_, _||_, _≤_, length, drop};
 ghost use Rattle.path.specs.Ident.{isLetter, isDigit, allWord, isIdent};
 use limits::MOST_IDENT;
 

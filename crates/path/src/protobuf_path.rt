@@ -1,5 +1,5 @@
 // Paths that may be absolute or relative.
-ghost use mathlib.Core.Path.{_≡_};
+ghost use Rattle.basis.specs.Kit.{_≡_};
 ghost use Rattle.path.specs.Path.{isPath};
 use crate::protobuf_abs_path::without_root;
 use crate::protobuf_rel_path::all_ident;

@@ -1,8 +1,5 @@
 // Relative paths: identifiers joined by dots, with no leading dot.
-ghost use mathlib.Core.Path.{_≡_};
-ghost use mathlib.Core.List.{_++_};
-ghost use Prim.Native.Nat.{suc, _+_, _-_, _≤_};
-ghost use lib.ListN.{length, drop, take};
+ghost use Rattle.basis.specs.Kit.{_≡_, _++_, suc, _+_, _-_, _≤_, length, take, drop};
 ghost use Rattle.octets.specs.Octets.{Laid};
 ghost use Rattle.path.specs.inner.Places.{untilDot};
 ghost use Rattle.path.specs.Path.{split, components, spell, allIdent, isRelPath, isRelOrEmpty, parent};

@@ -1,8 +1,6 @@
 -- Closed cases of outcomes and of the table, which the checker computes: room one short, exact and ample; Absent in no room; what is left.
 -- Assumes nothing.
-use mathlib.Core.Path.{_≡_, refl}
-use mathlib.Core.List.{[], _∷_, map}
-use Prim.Native.Nat.{ℕ}
+use Rattle.basis.specs.Kit.{_≡_, refl, [], _∷_, map, ℕ}
 use Rattle.reply.specs.declared.Refusal.the-variants.{BadRequest, NoRoom, BuiltinOptionNotFound}
 use Rattle.reply.specs.declared.Refusal.the-variants.{BuiltinOptionPointsToNonSingularField}
 use Rattle.reply.specs.Reply.{refusedBy, doneWith, absentAnswer, second, name}

@@ -1,14 +1,12 @@
 -- Names: the code's table is right, by one test that antt computes; the loop that looks a row up there, and the one that spells its name.
 -- Assumes nothing.
-use mathlib.Core.Path.{_≡_, refl, sym, subst, ap, _∙_}
-use mathlib.Core.Bool.{Bool, true, false, _&&_}
-use mathlib.Core.List.{List, [], _∷_}
-use Prim.Native.Nat.{ℕ, suc, _+_, _-_, _*_, _≤_, _<_}
-use native.Mathlib.Omega.{arith}
-use native.Mathlib.Numerals.{add-one}
-use borrow.Author.Tests.{eq-eqb, eqb-true}
-use lib.Dec.{T, eqb, leb, eqb→eq, leb→le}
-use lib.ListN.{length, getD, set, take, drop, length-set, length-take, length-drop}
+use Rattle.basis.specs.Kit.{_≡_, refl, sym, ap, _∙_, Bool, true, false, _&&_, List, [], _∷_, ℕ, suc, _+_, _-_, _*_, _≤_, _<_, eqb, leb}
+use Rattle.basis.specs.Kit.{length, getD, take, drop}
+use Rattle.basis.proofs.Kit.{arith, add-one, eq-eqb}
+use mathlib.Core.Path.{subst}
+use borrow.Author.Tests.{eqb-true}
+use lib.Dec.{T, eqb→eq, leb→le}
+use lib.ListN.{set, length-set, length-take, length-drop}
 use lib.Seq.{take-suc, take-suc-set, take-all}
 use Rattle.basis.proofs.Never.{never}
 use Rattle.reply.specs.declared.Refusal.{Refusal}

@@ -1,10 +1,8 @@
 -- The laws of outcomes: the ways to a public call's answer, and that there is one answer only.
 -- Assumes nothing.
-use mathlib.Core.Path.{_≡_, refl, sym, ap, _∙_}
-use mathlib.Core.List.{List, [], _++_, append-assoc}
-use Prim.Native.Nat.{_≤_, _<_}
-use borrow.Author.Tests.{lt-ltb, le-ltb}
-use lib.ListN.{length, drop}
+use Rattle.basis.specs.Kit.{_≡_, refl, sym, ap, _∙_, List, [], _++_, _≤_, _<_, length, drop}
+use Rattle.basis.proofs.Kit.{lt-ltb, le-ltb}
+use mathlib.Core.List.{append-assoc}
 use Rattle.reply.specs.declared.Cause.{Cause}
 use Rattle.reply.specs.declared.Refusal.{Refusal}
 use Rattle.reply.specs.declared.Refusal.the-variants.{NoRoom}

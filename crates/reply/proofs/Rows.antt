@@ -1,10 +1,10 @@
 -- The rows of 01's table: at a refusal that a match has found, and that no two refusals share one.
 -- Assumes nothing.
-use mathlib.Core.Path.{_≡_, refl, sym, subst, ap, _∙_}
-use mathlib.Core.Bool.{Bool, _&&_, _||_, not}
-use Prim.Native.Nat.{ℕ, _<_}
-use borrow.Author.Tests.{eq-eqb}
-use lib.Dec.{T, eqb, eqb→eq}
+use Rattle.basis.specs.Kit.{_≡_, refl, sym, ap, _∙_, Bool, _&&_, _||_, ℕ, _<_, eqb}
+use Rattle.basis.proofs.Kit.{eq-eqb}
+use mathlib.Core.Path.{subst}
+use mathlib.Core.Bool.{not}
+use lib.Dec.{T, eqb→eq}
 use Rattle.reply.specs.declared.Refusal.{Refusal}
 use Rattle.reply.specs.declared.Cause.{Cause}
 use Rattle.reply.specs.declared.Answer.{Answer}

@@ -5,12 +5,9 @@
 --       each ps p <=> the test p holds of each, and none holds anything
 --
 -- Assumes nothing.
-use mathlib.Core.Path.{_≡_, refl, ap}
-use mathlib.Core.Bool.{Bool, true, false, _&&_}
-use mathlib.Core.List.{List, [], _∷_}
+use Rattle.basis.specs.Kit.{_≡_, refl, ap, Bool, true, false, _&&_, List, [], _∷_, ℕ, zero, suc, _<_}
+use Rattle.basis.proofs.Kit.{arith}
 use mathlib.Core.Logic.{_⊎_, inl, inr}
-use Prim.Native.Nat.{ℕ, zero, suc, _<_}
-use native.Mathlib.Omega.{arith}
 use lib.Dec.{T}
 use denote.Struct.Field.{Field}
 use denote.Enum.Declared.{Choice}

@@ -9,12 +9,7 @@
 --   Answered o before after r <-> r is the answer of o, and the lent memory, `before` the call, is `after` it
 --
 -- Assumes nothing.
-use mathlib.Core.Path.{_≡_}
-use mathlib.Core.Bool.{true, false}
-use mathlib.Core.List.{List, _++_}
-use Prim.Native.Nat.{ℕ}
-use lib.Dec.{ltb}
-use lib.ListN.{length, drop}
+use Rattle.basis.specs.Kit.{_≡_, true, false, List, _++_, ℕ, ltb, length, drop}
 use Rattle.reply.specs.declared.Refusal.{Refusal}
 use Rattle.reply.specs.declared.Refusal.the-variants.{NoRoom}
 use Rattle.reply.specs.declared.Cause.{Cause}

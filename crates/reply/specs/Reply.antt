@@ -15,12 +15,9 @@
 --   absentAnswer ==  the answer Absent
 --
 -- Assumes nothing.
-use mathlib.Core.Path.{_≡_}
-use Prim.Native.Nat.{ℕ}
+use Rattle.basis.specs.Kit.{_≡_, List, [] as []ᴸ, _∷_ as _∷ᴸ_, ℕ, take}
 use Prim.Native.Char.{code}
 use Prim.Native.String.{String, [], _∷_}
-use mathlib.Core.List.{List, [] as []ᴸ, _∷_ as _∷ᴸ_}
-use lib.ListN.{take}
 use Rattle.reply.specs.declared.Refusal.{Refusal}
 use Rattle.reply.specs.declared.Refusal.the-variants.{BadSheet, BadRequest, BeyondLimit, ExtensionNotFound}
 use Rattle.reply.specs.declared.Refusal.the-variants.{WrongExtensionType, ExtensionIsNotMessage}

@@ -5,10 +5,7 @@
 --       Tabled rows <-> the table has the rows of all refusals, and no others
 --
 -- Assumes nothing.
-use mathlib.Core.Path.{_≡_}
-use mathlib.Core.List.{List}
-use Prim.Native.Nat.{ℕ, _+_, _*_, _≤_, _<_}
-use lib.ListN.{length, getD, take, drop}
+use Rattle.basis.specs.Kit.{_≡_, List, ℕ, _+_, _*_, _≤_, _<_, length, getD, take, drop}
 use Rattle.reply.specs.declared.Refusal.{Refusal}
 use Rattle.reply.specs.Reply.{number, second, name, mostName}
 

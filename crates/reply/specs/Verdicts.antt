@@ -8,9 +8,7 @@
 --         Says v r <-> the answer r is the verdict v, and so has its number and its second word
 --
 -- Assumes nothing.
-use mathlib.Core.Path.{_≡_}
-use mathlib.Core.Bool.{Bool, true, false}
-use Prim.Native.Nat.{ℕ}
+use Rattle.basis.specs.Kit.{_≡_, Bool, true, false, ℕ}
 use Rattle.reply.specs.declared.Refusal.{Refusal}
 use Rattle.reply.specs.declared.Refusal.the-variants.{BeyondLimit}
 use Rattle.reply.specs.declared.Verdict.{Verdict}

@@ -1,7 +1,5 @@
 // 01's table of replies, once: the refusals, the answer that every public call returns, and the names that programs print.
-ghost use mathlib.Core.Path.{_≡_};
-ghost use Prim.Native.Nat.{_≤_};
-ghost use lib.ListN.{length};
+ghost use Rattle.basis.specs.Kit.{_≡_, _≤_, length};
 ghost use Rattle.reply.specs.Reply.{number as numberOf, second as secondOf, nowhere as nowhereOf, refusedFor, refusedBy};
 ghost use Rattle.reply.specs.Reply.{doneWith, absentAnswer};
 ghost use Rattle.reply.specs.Reply.{NameOf, mostName, textOf};

@@ -1,12 +1,8 @@
 -- Closed cases of constants, which the checker computes: the eight kinds, at their limits and past them, and the tree of a message.
 -- Assumes nothing.
-use mathlib.Core.Path.{_≡_, refl}
-use mathlib.Core.Bool.{true, false}
-use mathlib.Core.List.{List, [], _∷_, map}
-use Prim.Native.Nat.{ℕ}
+use Rattle.basis.specs.Kit.{_≡_, refl, true, false, List, [], _∷_, map, ℕ, length}
 use lib.IntN.{negsuc}
 use lib.Ieee.{inf, fin, nanBits, ofBits, ofFields, odd}
-use lib.ListN.{length}
 use Rattle.octets.specs.Octets.{bigAt}
 use Rattle.field.specs.Field.{fieldAt}
 use Rattle.field.specs.Leaf.{span}

@@ -1,17 +1,12 @@
 -- The laws of constants: the ways through the readers of a number, a bool and a constant, and the places that a constant holds.
 -- Assumes nothing.
-use mathlib.Core.Path.{_≡_, refl, sym, _∙_, subst}
-use mathlib.Core.Bool.{Bool, true, false, not}
-use mathlib.Core.List.{List}
-use Prim.Native.Nat.{ℕ, _+_, _-_, _%_, _^_, _≤_, _<_}
-use native.Mathlib.Omega.{arith}
-use borrow.Author.Tests.{lt-ltb, le-ltb, eq-eqb, ne-eqb}
-use lib.Dec.{T, eqb, ltb}
+use Rattle.basis.specs.Kit.{_≡_, refl, sym, _∙_, Bool, true, false, List, ℕ, _+_, _-_, _%_, _^_, _≤_, _<_, eqb, ltb, length, getD}
+use Rattle.basis.proofs.Kit.{arith, eq-eqb, ne-eqb, lt-ltb, le-ltb, w64, Fits}
+use mathlib.Core.Path.{subst}
+use mathlib.Core.Bool.{not}
+use lib.Dec.{T}
 use lib.Ieee.{binary64, ofBits, nanBits}
 use lib.Ieee.Bits.{nanBits-above}
-use lib.ListN.{length, getD}
-use mir.Syntax.{w64}
-use mir.Val.{Fits}
 use Rattle.octets.specs.Octets.{bigAt}
 use Rattle.field.specs.declared.Span.{Span}
 use Rattle.field.specs.Leaf.{span}

@@ -1,14 +1,9 @@
 -- Pairs of a message constant: the ways through `pair_at`, where a pair lies, and the fields that begin with one or with none.
 -- Assumes nothing.
-use mathlib.Core.Path.{_≡_, refl, sym, ap, subst, subst⁻¹, _∙_}
-use mathlib.Core.Bool.{Bool, true, false, _&&_}
-use mathlib.Core.List.{List}
-use Prim.Native.Nat.{ℕ, _-_, _≤_, _<_}
+use Rattle.basis.specs.Kit.{_≡_, refl, sym, ap, _∙_, Bool, true, false, _&&_, List, ℕ, _-_, _≤_, _<_, leb, length}
+use Rattle.basis.proofs.Kit.{arith, not-true, not-false}
+use mathlib.Core.Path.{subst, subst⁻¹}
 use native.Mathlib.Decide.{decLt}
-use native.Mathlib.Omega.{arith}
-use borrow.Author.Tests.{not-true, not-false}
-use lib.Dec.{leb}
-use lib.ListN.{length}
 use Rattle.basis.proofs.Never.{never}
 use Rattle.field.specs.declared.Field.{Field}
 use Rattle.field.specs.declared.Field.the-variants.{Whole, Cut}

@@ -1,9 +1,6 @@
 -- Closed cases of requests, which the checker computes: the request of P1 with its places, no options, no heading, and what is left out.
 -- Assumes nothing.
-use mathlib.Core.Path.{_≡_, refl}
-use mathlib.Core.Bool.{true, false}
-use mathlib.Core.List.{List, [], _∷_, _++_}
-use Prim.Native.Nat.{ℕ}
+use Rattle.basis.specs.Kit.{_≡_, refl, true, false, List, [], _∷_, _++_, ℕ}
 use Rattle.octets.specs.Octets.{bigAt}
 use Rattle.field.specs.Field.{fieldAt}
 use Rattle.field.specs.Leaf.{span, leafAt}

@@ -12,12 +12,8 @@
 --        pairAt s at e ==  the pair at a place
 --
 -- Assumes nothing.
-use mathlib.Core.Bool.{Bool, true, false, _&&_}
-use mathlib.Core.List.{List}
-use Prim.Native.Nat.{ℕ, _-_, _^_}
-use lib.Dec.{eqb, ltb, leb}
+use Rattle.basis.specs.Kit.{Bool, true, false, _&&_, List, ℕ, _-_, _^_, eqb, ltb, leb, getD}
 use lib.Ieee.{binary64, ofBits, nanBits}
-use lib.ListN.{getD}
 use Rattle.octets.specs.Octets.{bigAt}
 use Rattle.field.specs.declared.Field.{Field}
 use Rattle.field.specs.declared.Field.the-variants.{Whole, Cut}

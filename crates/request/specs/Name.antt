@@ -10,10 +10,7 @@
 --     afterParts at w == where these parts end, the fields w starting at the place `at`
 --
 -- Assumes nothing.
-use mathlib.Core.Bool.{Bool, true, false}
-use mathlib.Core.List.{List, [], _∷_}
-use Prim.Native.Nat.{ℕ}
-use lib.Dec.{eqb}
+use Rattle.basis.specs.Kit.{Bool, true, false, List, [], _∷_, ℕ, eqb}
 use Rattle.field.specs.declared.Field.{Field}
 use Rattle.field.specs.declared.Field.the-variants.{Whole, Cut}
 use Rattle.field.specs.Field.{fieldAt}

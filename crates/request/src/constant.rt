@@ -1,7 +1,5 @@
 // Constants, and the pairs of a message constant.
-ghost use mathlib.Core.Path.{_≡_};
-ghost use Prim.Native.Nat.{_≤_};
-ghost use lib.ListN.{length};
+ghost use Rattle.basis.specs.Kit.{_≡_, _≤_, length};
 ghost use Rattle.request.specs.Constant.{integerOf, floatOf, boolOf, numericOf, constantOf, isPairName, pairAt};
 use crate::table;
 use field::Field;

@@ -1,7 +1,5 @@
 // The heading of a request, its scope and the path of its options type, and where the parts of an option end.
-ghost use mathlib.Core.Path.{_≡_};
-ghost use Prim.Native.Nat.{_≤_};
-ghost use lib.ListN.{length};
+ghost use Rattle.basis.specs.Kit.{_≡_, _≤_, length};
 ghost use Rattle.field.specs.Walk.{walk};
 ghost use Rattle.request.specs.Name.{afterParts};
 ghost use Rattle.request.specs.Request.{headingOf};

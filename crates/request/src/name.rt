@@ -1,7 +1,5 @@
 // The parts of an option's name.
-ghost use mathlib.Core.Path.{_≡_};
-ghost use Prim.Native.Nat.{_≤_};
-ghost use lib.ListN.{length};
+ghost use Rattle.basis.specs.Kit.{_≡_, _≤_, length};
 ghost use Rattle.request.specs.Name.{partAt};
 use crate::table;
 use field::Field;

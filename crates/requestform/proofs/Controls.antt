@@ -1,10 +1,7 @@
 -- Closed cases of the definitions, computed: of each rule one that holds, one at the limit and one refused just past it.
 -- Assumes nothing.
-use mathlib.Core.Path.{_≡_, refl}
-use mathlib.Core.Bool.{true, false}
-use mathlib.Core.List.{List, [], _∷_, _++_, map}
-use Prim.Native.Nat.{ℕ, zero, suc}
-use lib.ListN.{length, replicate}
+use Rattle.basis.specs.Kit.{_≡_, refl, true, false, List, [], _∷_, _++_, map, ℕ, zero, suc, length}
+use lib.ListN.{replicate}
 use Rattle.octets.specs.Octets.{bigAt}
 use Rattle.path.specs.Ident.{isLetter, isDigit, allWord, isIdent}
 use Rattle.path.specs.Path.{dot, onFirst, split, components, allIdent, isRelPath, isRelOrEmpty, rootless, isPath}

@@ -1,14 +1,11 @@
 -- What a fine request's tree is like: every leaf is what 01 allows, and nothing is left out. The final statements stand at the end; what
 -- they say of an option goes on in optionform/proofs (FineLaws, PartsLaws), of its constant in constantform/proofs (FineLaws).
 -- Assumes nothing.
-use mathlib.Core.Path.{_≡_, refl, sym, ap, subst, _∙_}
-use mathlib.Core.Bool.{Bool, true, false, false≢true, not, _&&_, and-eq-true-iff}
-use mathlib.Core.List.{List, [], _∷_}
-use Prim.Native.Nat.{ℕ, suc, _+_, _≤_, _<_}
-use native.Mathlib.Omega.{arith}
+use Rattle.basis.specs.Kit.{_≡_, refl, sym, ap, _∙_, Bool, true, false, _&&_, List, [], _∷_, ℕ, suc, _+_, _≤_, _<_, eqb, ltb, length}
+use Rattle.basis.proofs.Kit.{arith}
+use mathlib.Core.Path.{subst}
+use mathlib.Core.Bool.{false≢true, not, and-eq-true-iff}
 use borrow.Author.Tests.{eqb-true}
-use lib.Dec.{eqb, ltb}
-use lib.ListN.{length}
 use Rattle.limits.specs.Figures.{mostRequest, mostOptions}
 use Rattle.path.specs.Path.{isRelPath, isRelOrEmpty}
 use Rattle.reply.specs.declared.Refusal.the-variants.{BadRequest, BeyondLimit}

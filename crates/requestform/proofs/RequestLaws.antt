@@ -1,14 +1,9 @@
 -- Requests, and what a call is given alone: the ways through `check_options`, `check_request`, `check_scope`, `check_options_type`,
 -- `check_path` and `check_name`.
 -- Assumes nothing.
-use mathlib.Core.Path.{_≡_}
-use mathlib.Core.Bool.{Bool, _&&_, not}
-use mathlib.Core.List.{List}
-use Prim.Native.Nat.{ℕ, _≤_, _<_, _+_, _-_}
-use native.Mathlib.Omega.{arith}
-use borrow.Author.Tests.{lt-ltb, le-ltb}
-use lib.ListN.{length}
-use lib.Dec.{eqb}
+use Rattle.basis.specs.Kit.{_≡_, Bool, _&&_, List, ℕ, _+_, _-_, _≤_, _<_, eqb, length}
+use Rattle.basis.proofs.Kit.{arith, lt-ltb, le-ltb}
+use mathlib.Core.Bool.{not}
 use Rattle.limits.specs.Figures.{mostRequest}
 use Rattle.path.specs.Path.{isRelPath, isRelOrEmpty, isPath}
 use Rattle.reply.specs.declared.Refusal.the-variants.{BadRequest}

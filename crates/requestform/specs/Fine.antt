@@ -4,9 +4,7 @@
 --    goodRequest s q <=> scope, options type and options are what 01 allows
 --
 -- Assumes nothing.
-use mathlib.Core.Bool.{Bool, true, _&&_}
-use mathlib.Core.List.{List, [], _∷_}
-use Prim.Native.Nat.{ℕ}
+use Rattle.basis.specs.Kit.{Bool, true, _&&_, List, [], _∷_, ℕ}
 use Rattle.path.specs.Path.{isRelPath, isRelOrEmpty}
 use Rattle.field.specs.Leaf.{text}
 use Rattle.request.specs.Request.{Option, Request}

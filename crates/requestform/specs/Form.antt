@@ -10,11 +10,8 @@
 --          judgePath t == a path as an extension part has it, alone
 --
 -- Assumes nothing.
-use mathlib.Core.Bool.{true, false, _&&_, not}
-use mathlib.Core.List.{List}
-use Prim.Native.Nat.{ℕ}
-use lib.Dec.{eqb, ltb}
-use lib.ListN.{length}
+use Rattle.basis.specs.Kit.{true, false, _&&_, List, ℕ, eqb, ltb, length}
+use mathlib.Core.Bool.{not}
 use Rattle.limits.specs.Figures.{mostRequest}
 use Rattle.path.specs.Path.{isRelPath, isRelOrEmpty, isPath}
 use Rattle.reply.specs.declared.Refusal.the-variants.{BadRequest}

@@ -1,8 +1,6 @@
 // The form of a request, and of a path or a name that a call is given alone: every byte string is fine, or has a first fault from the
 // front.
-ghost use mathlib.Core.Path.{_≡_};
-ghost use Prim.Native.Nat.{_≤_};
-ghost use lib.ListN.{length};
+ghost use Rattle.basis.specs.Kit.{_≡_, _≤_, length};
 ghost use Rattle.reply.specs.Verdicts.{Says};
 ghost use Rattle.requestform.specs.Form.{judgeOptions, judgeRequest, judgeScope, judgeOptionsType, judgePath, judgeName};
 use field::Field;

@@ -1,14 +1,12 @@
 -- `closest m p`, the whole number nearest to m / p, a tie to the even one: which neighbour of m / p it is, how large, and that it is within
 -- half of m / p and even at a tie. Then the laws of `round_shift`, whose p is 1 << k. Assumes nothing.
-use mathlib.Core.Path.{_≡_, refl, sym, ap, _∙_, subst}
+use Rattle.basis.specs.Kit.{_≡_, refl, sym, ap, _∙_, ℕ, zero, suc, _+_, _-_, _*_, _/_, _%_, _^_, _≤_, _<_, eqb}
+use Rattle.basis.proofs.Kit.{arith, add-one, w64, Fits}
+use mathlib.Core.Path.{subst}
 use mathlib.Core.Bool.{not}
-use Prim.Native.Nat.{ℕ, zero, suc, _+_, _-_, _*_, _/_, _%_, _^_, _≤_, _<_, compare, Ordering, Ordering·lt, Ordering·eq, Ordering·gt}
+use Prim.Native.Nat.{compare, Ordering, Ordering·lt, Ordering·eq, Ordering·gt}
 use native.Mathlib.Nat.{le-trans, le-of-lt, lt-of-lt-of-le, mod-lt, add-zero, one-mul, suc-mul, div-add-mod', div-eq-of-lt, mod-eq-of-lt}
-use native.Mathlib.Numerals.{add-one}
-use native.Mathlib.Omega.{arith}
-use mir.Syntax.{w64}
-use mir.Val.{Fits}
-use lib.Dec.{T, isLe, isEq, eqb, leb→le, nleb→lt, eqb→eq, eqb-refl, lit<}
+use lib.Dec.{T, isLe, isEq, leb→le, nleb→lt, eqb→eq, eqb-refl, lit<}
 use lib.Arith.{lt-of-le-ne}
 use lib.Pow.{pow-pos, pow-mono, shl-exact, shr-lt}
 use lib.Ieee.{nearest}

@@ -1,9 +1,6 @@
 -- Closed cases, which antt computes, that hold the definitions of specs/ to 01 and to IEEE 754: of each rule one that holds, one at the
 -- limit and one past it. The definitions are believed, so a wrong clause need break no other proof. Assumes nothing.
-use mathlib.Core.Path.{_≡_, refl}
-use mathlib.Core.Bool.{true, false}
-use mathlib.Core.List.{List, [], _∷_, map}
-use Prim.Native.Nat.{ℕ}
+use Rattle.basis.specs.Kit.{_≡_, refl, true, false, List, [], _∷_, map, ℕ}
 use lib.Ieee.{Format, binary32, binary64, ofInt, ofBits, round, toBits}
 use Rattle.round.specs.Rounding.{signedOf, intBits, narrow, narrowBits}
 

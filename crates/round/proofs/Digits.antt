@@ -1,13 +1,12 @@
 -- Numbers by their binary digits: powers of two, how many digits a number has, and how q * 2 ^ k is written with p digits, as `toBits`
 -- does: k times the weight of the leading digit, plus q. No format stands here. Assumes nothing.
-use mathlib.Core.Path.{_≡_, ap, _∙_}
+use Rattle.basis.specs.Kit.{_≡_, ap, _∙_, ℕ, zero, suc, _+_, _-_, _*_, _/_, _^_, _≤_, _<_}
+use Rattle.basis.proofs.Kit.{arith}
 use mathlib.Core.Logic.{inl, inr}
-use Prim.Native.Nat.{ℕ, zero, suc, _+_, _-_, _*_, _/_, _^_, _≤_, _<_}
 use native.Mathlib.Nat.{le-refl, le-trans, lt-of-lt-of-le, lt-of-le-of-lt, lt-of-not-le, lt-irrefl, zero-lt-suc, eq-or-lt-of-le}
 use native.Mathlib.Nat.{suc-mul, mul-assoc, mul-le-mul, mul-le-mul-left, mul-le-mul-right, le-of-mul-le-mul-left, le-of-mul-le-mul-right}
 use native.Mathlib.Nat.{pow-suc, pow-succ', le-div-iff-mul-le, div-lt-iff-lt-mul}
 use native.Mathlib.Decide.{decLt}
-use native.Mathlib.Omega.{arith}
 use lib.Pow.{pow-add, pow-pos, pow-mono, pow-lt, shl-shr}
 use lib.Ieee.{size}
 use lib.Ieee.Digits.{size-lt, size-le}

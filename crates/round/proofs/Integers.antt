@@ -1,14 +1,13 @@
 -- The laws of the conversions of integers, at either format: the shift that brings the top bit to bit 63, the bits of an integer that is so
 -- shifted, and the sign. Assumes nothing.
-use mathlib.Core.Path.{_≡_, refl, sym, ap, _∙_}
-use mathlib.Core.Bool.{Bool, true, false}
-use Prim.Native.Nat.{ℕ, zero, suc, _+_, _-_, _*_, _/_, _%_, _^_, _≤_, _<_, suc-le-suc, min}
+use Rattle.basis.specs.Kit.{_≡_, refl, sym, ap, _∙_, Bool, true, false, ℕ, zero, suc, _+_, _-_, _*_, _/_, _%_, _^_, _≤_, _<_, ltb}
+use Rattle.basis.proofs.Kit.{arith, w64, Fits}
+use Prim.Native.Nat.{suc-le-suc, min}
 use native.Mathlib.Nat.{le-trans, lt-of-le-of-lt, zero-lt-suc, one-mul, mul-le-mul-right, mod-eq-of-lt, min-eq-left}
-use native.Mathlib.Omega.{arith}
-use mir.Syntax.{Width, w64}
-use mir.Val.{Fits, bits}
+use mir.Syntax.{Width}
+use mir.Val.{bits}
 use lib.IntN.{pos, negℤ}
-use lib.Dec.{T, ltb, ltb→lt, lit≤}
+use lib.Dec.{T, ltb→lt, lit≤}
 use lib.Pow.{pow-add, shl-lt}
 use lib.Count.{leadingZeros, leading-top}
 use lib.Ieee.{Format, binary32, binary64, prec, emax, low, hid, ones, top, round, ofInt, toBits}

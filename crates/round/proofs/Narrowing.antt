@@ -1,14 +1,13 @@
 -- The laws of narrowing a double to a float: the bits of m * 2 ^ x units of the smallest double, then the same by a double's fields, as
 -- `finite` has them, then with the sign, the infinities and the NaNs, as `f64_bits_to_f32_bits` has them. Assumes nothing.
-use mathlib.Core.Path.{_≡_, refl, sym, ap, _∙_}
-use mathlib.Core.Bool.{Bool, true, false, cond}
-use Prim.Native.Nat.{ℕ, zero, suc, _+_, _-_, _*_, _/_, _%_, _^_, _≤_, _<_, min}
+use Rattle.basis.specs.Kit.{_≡_, refl, sym, ap, _∙_, Bool, true, false, ℕ, zero, suc, _+_, _-_, _*_, _/_, _%_, _^_, _≤_, _<_, leb}
+use Rattle.basis.proofs.Kit.{arith, ne-eqb, w64, Fits}
+use mathlib.Core.Bool.{cond}
+use Prim.Native.Nat.{min}
 use native.Mathlib.Nat.{lt-of-lt-of-le}
-use native.Mathlib.Omega.{arith}
-use borrow.Author.Tests.{le-leb, lt-leb, ne-eqb}
-use mir.Syntax.{w32, w64}
-use mir.Val.{Fits}
-use lib.Dec.{leb, lit≤}
+use borrow.Author.Tests.{le-leb, lt-leb}
+use mir.Syntax.{w32}
+use lib.Dec.{lit≤}
 use lib.Pow.{pow-pos, pow-mono}
 use lib.Ieee.{Float, nan, inf, fin, binary32, binary64, odd, round, ofFields, ofBits, toBits}
 use lib.Ieee.Fits.{down-pos}

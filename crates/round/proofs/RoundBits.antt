@@ -1,13 +1,11 @@
 -- The bits of a rounded fraction, at either format: the number that is kept of its digits, which may be one too long, plus the number of
 -- digits that are dropped, as the exponent's field, and the infinity's bits where that is more. The sign is a bit on top. Assumes nothing.
-use mathlib.Core.Path.{_≡_, refl, sym, ap, _∙_}
-use mathlib.Core.Bool.{Bool, true, false, cond}
-use Prim.Native.Nat.{ℕ, zero, suc, _+_, _-_, _*_, _/_, _^_, _≤_, _<_, min}
+use Rattle.basis.specs.Kit.{_≡_, refl, sym, ap, _∙_, Bool, true, false, ℕ, zero, suc, _+_, _-_, _*_, _/_, _^_, _≤_, _<_, ltb}
+use Rattle.basis.proofs.Kit.{arith, lt-ltb, le-ltb}
+use mathlib.Core.Bool.{cond}
+use Prim.Native.Nat.{min}
 use native.Mathlib.Nat.{le-trans, zero-add, mul-pos, mul-div-cancel, le-div-iff-mul-le, div-div-eq-div-mul, min-eq-left, min-eq-right}
 use native.Mathlib.Decide.{decLt}
-use native.Mathlib.Omega.{arith}
-use lib.Dec.{ltb}
-use borrow.Author.Tests.{lt-ltb, le-ltb}
 use lib.Pow.{pow-add, pow-pos, shr-lt}
 use lib.Ieee.{Float, nan, inf, fin, Format, prec, emax, low, up, down, size, odd, units, round, hid, ones, top, toBits}
 use lib.Ieee.Fits.{two, reach, down-pos, round-is}

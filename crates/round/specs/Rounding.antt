@@ -7,8 +7,7 @@
 --       narrowBits b == the bits of a float from the bits of a double
 --
 -- Assumes nothing.
-use Prim.Native.Nat.{ℕ, _*_}
-use mathlib.Core.Bool.{Bool, true, false}
+use Rattle.basis.specs.Kit.{Bool, true, false, ℕ, _*_}
 use lib.IntN.{ℤ, pos, negℤ}
 use lib.Ieee.{Float, nan, inf, fin, Format, binary32, binary64, up, down, round, ofInt, ofBits, toBits}
 

@@ -1,7 +1,5 @@
 // Rounding to float and double, on bit patterns: to nearest, ties to even, overflow to infinity, any NaN to 7FC00000.
-ghost use mathlib.Core.Path.{_≡_};
-ghost use mathlib.Core.Bool.{false};
-ghost use Prim.Native.Nat.{_*_, _^_, _≤_, _<_};
+ghost use Rattle.basis.specs.Kit.{_≡_, false, _*_, _^_, _≤_, _<_};
 ghost use lib.IntN.{pos};
 ghost use lib.Ieee.{binary32, binary64, ofFields, toBits};
 ghost use lib.Ieee.Nearest.{closest};

@@ -1,10 +1,7 @@
 -- Closed cases of the definitions, which the checker computes: of each rule one that finds, one that finds the first of two, and one that
 -- finds nothing.
 -- Assumes nothing.
-use mathlib.Core.Path.{_≡_, refl}
-use mathlib.Core.List.{List, [], _∷_, map}
-use mathlib.Core.Option.{Option, none, some}
-use Prim.Native.Nat.{ℕ}
+use Rattle.basis.specs.Kit.{_≡_, refl, List, [], _∷_, map, Option, none, some, ℕ}
 use Rattle.basis.specs.First.{given}
 use Rattle.sheet.specs.Table.{messageTag, extensionTag, fieldTag}
 use Rattle.sheet.specs.Members.{Enumeration}

@@ -6,12 +6,9 @@
 --   FoundEnum s n c p <-> the first enum of the name n in the scope c has the body p
 --
 -- Assumes nothing.
-use mathlib.Core.Path.{_≡_, refl, sym, ap, subst, _∙_}
-use mathlib.Core.List.{List}
-use mathlib.Core.Option.{Option, none, some}
-use Prim.Native.Nat.{ℕ, _-_, _≤_}
-use native.Mathlib.Omega.{arith}
-use lib.ListN.{length}
+use Rattle.basis.specs.Kit.{_≡_, refl, sym, ap, _∙_, List, Option, none, some, ℕ, _-_, _≤_, length}
+use Rattle.basis.proofs.Kit.{arith}
+use mathlib.Core.Path.{subst}
 use Rattle.basis.proofs.Never.{never}
 use Rattle.field.specs.declared.Leaf.{Leaf}
 use Rattle.field.specs.declared.Leaf.the-variants.{At, Not}

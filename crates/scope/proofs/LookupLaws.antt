@@ -5,14 +5,10 @@
 --          inner p a e == the place of a message of the scope p whose body is from a to e
 --
 -- Assumes nothing.
-use mathlib.Core.Path.{_≡_, refl, sym, ap, _∙_}
-use mathlib.Core.Bool.{Bool, true, false}
-use mathlib.Core.List.{List, [], _∷_}
-use mathlib.Core.Option.{Option, some}
+use Rattle.basis.specs.Kit.{_≡_, refl, sym, ap, _∙_, Bool, true, false, List, [], _∷_, Option, some, ℕ, _-_, eqb}
+use Rattle.basis.proofs.Kit.{eq-eqb, ne-eqb, not-true, not-false}
 use mathlib.Core.Option as option
-use Prim.Native.Nat.{ℕ, _-_}
-use borrow.Author.Tests.{not-true, not-false, eq-eqb, ne-eqb, eqb-true, eqb-false}
-use lib.Dec.{eqb}
+use borrow.Author.Tests.{eqb-true, eqb-false}
 use Rattle.octets.specs.Octets.{sameBytes}
 use Rattle.field.specs.declared.Leaf.{Leaf}
 use Rattle.field.specs.declared.Leaf.the-variants.{At, Not}

@@ -6,13 +6,9 @@
 --   declarationWhere good k s t a e ==  the declaration that a field of a scope is, where it passes the test
 --
 -- Assumes nothing.
-use mathlib.Core.Path.{_≡_, refl, sym, _∙_}
-use mathlib.Core.Bool.{Bool, true, false}
-use mathlib.Core.Option.{Option, none, some}
-use mathlib.Core.List.{List, [], _++_}
-use Prim.Native.Nat.{ℕ}
-use borrow.Author.Tests.{eq-eqb, ne-eqb, eqb-true, eqb-false}
-use lib.Dec.{eqb}
+use Rattle.basis.specs.Kit.{_≡_, refl, sym, _∙_, Bool, true, false, List, [], _++_, Option, none, some, ℕ, eqb}
+use Rattle.basis.proofs.Kit.{eq-eqb, ne-eqb}
+use borrow.Author.Tests.{eqb-true, eqb-false}
 use Rattle.basis.proofs.Never.{never}
 use Rattle.octets.specs.Octets.{sameBytes, bigAt}
 use Rattle.field.specs.declared.Leaf.{Leaf}

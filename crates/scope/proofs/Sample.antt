@@ -1,10 +1,6 @@
 -- The sheet of the controls of scopes and of numbers, and how it is looked into.
 -- Assumes nothing.
-use mathlib.Core.Bool.{false}
-use mathlib.Core.List.{List, [], _∷_, _++_}
-use mathlib.Core.Option.{Option, none, some}
-use Prim.Native.Nat.{ℕ}
-use lib.ListN.{length}
+use Rattle.basis.specs.Kit.{false, List, [], _∷_, _++_, Option, none, some, ℕ, length}
 use Rattle.octets.specs.Octets.{sameBytes, bigAt}
 use Rattle.basis.specs.First.{given}
 use Rattle.field.specs.Field.{fieldAt}

@@ -14,11 +14,7 @@
 --   placed, declared, valued, bodied == what the code answers, of what there is or is not
 --
 -- Assumes nothing.
-use mathlib.Core.Bool.{true, false}
-use mathlib.Core.List.{List}
-use mathlib.Core.Option.{Option, some}
-use Prim.Native.Nat.{ℕ, _-_, _≤_}
-use lib.ListN.{length}
+use Rattle.basis.specs.Kit.{true, false, List, Option, some, ℕ, _-_, _≤_, length}
 use Rattle.limits.specs.Figures.{mostMessages}
 use Rattle.field.specs.declared.Leaf.{Leaf}
 use Rattle.field.specs.declared.Leaf.the-variants.{At, Not}

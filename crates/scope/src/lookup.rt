@@ -1,7 +1,5 @@
 // A scope, and the way down from one to a message or an enum in it.
-ghost use mathlib.Core.Path.{_≡_};
-ghost use Prim.Native.Nat.{_≤_};
-ghost use lib.ListN.{length};
+ghost use Rattle.basis.specs.Kit.{_≡_, _≤_, length};
 ghost use Rattle.octets.specs.Octets.{sameBytes};
 ghost use Rattle.field.specs.Leaf.{leafAt};
 ghost use Rattle.field.specs.Walk.{walk};

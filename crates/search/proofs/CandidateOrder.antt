@@ -1,12 +1,9 @@
 -- The candidates of a name get shorter, and those of a name and a scope of the right form are paths of identifiers, not empty.
 -- Assumes nothing.
-use mathlib.Core.Path.{_≡_, refl}
-use mathlib.Core.Bool.{Bool, true, false, and-eq-true-iff}
-use mathlib.Core.List.{List, [], _∷_, _++_, map}
-use Prim.Native.Nat.{ℕ, _≤_, _<_}
-use native.Mathlib.Omega.{arith}
-use lib.Dec.{leb}
-use lib.ListN.{length, length-append}
+use Rattle.basis.specs.Kit.{_≡_, refl, Bool, true, false, List, [], _∷_, _++_, map, ℕ, _≤_, _<_, leb, length}
+use Rattle.basis.proofs.Kit.{arith}
+use mathlib.Core.Bool.{and-eq-true-iff}
+use lib.ListN.{length-append}
 use Rattle.limits.specs.Figures.{mostPath}
 use Rattle.path.specs.Path.{Name, Path, split, components, spell, allIdent, isRelOrEmpty, isAbs, rootless, isPath}
 use Rattle.path.specs.Path.{parent}

@@ -1,9 +1,6 @@
 -- Closed cases of the lookups, which the checker computes: of each rule cases that hold, cases at its border, and cases that are refused.
 -- Assumes nothing.
-use mathlib.Core.Path.{_≡_, refl}
-use mathlib.Core.List.{List, [], _∷_, _++_, map}
-use mathlib.Core.Option.{Option, none, some}
-use Prim.Native.Nat.{ℕ}
+use Rattle.basis.specs.Kit.{_≡_, refl, List, [], _∷_, _++_, map, Option, none, some, ℕ}
 use Prim.Native.String.{String}
 use Rattle.octets.specs.Octets.{bigAt, sameBytes}
 use Rattle.reply.specs.Reply.{number, ascii}

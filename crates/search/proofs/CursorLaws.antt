@@ -4,14 +4,11 @@
 --   Onward L s t c c′ <-> c′ is a cursor that has the same scopes of L before it as c
 --
 -- Assumes nothing.
-use mathlib.Core.Path.{_≡_, refl, sym, _∙_}
-use mathlib.Core.Bool.{Bool, true, false}
-use mathlib.Core.List.{List, [], _∷_, _++_, append-nil}
-use Prim.Native.Nat.{ℕ, zero, suc, _+_, _-_, _≤_, _<_}
-use native.Mathlib.Omega.{arith}
-use borrow.Author.Tests.{ne-eqb, eqb-true}
-use lib.Dec.{eqb}
-use lib.ListN.{length, getD, take, drop}
+use Rattle.basis.specs.Kit.{_≡_, refl, sym, _∙_, Bool, true, false, List, [], _∷_, _++_, ℕ, zero, suc, _+_, _-_, _≤_, _<_, eqb, length}
+use Rattle.basis.specs.Kit.{getD, take, drop}
+use Rattle.basis.proofs.Kit.{arith, ne-eqb}
+use mathlib.Core.List.{append-nil}
+use borrow.Author.Tests.{eqb-true}
 use Rattle.basis.proofs.Never.{never}
 use Rattle.octets.specs.Octets.{part}
 use Rattle.field.specs.declared.Field.{Field}

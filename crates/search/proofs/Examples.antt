@@ -1,8 +1,6 @@
 -- 01's examples P2 to P7, as one table under one statement, which the checker computes.
 -- Assumes nothing.
-use mathlib.Core.Path.{_≡_, refl}
-use mathlib.Core.List.{List, [], _∷_, _++_, map}
-use Prim.Native.Nat.{ℕ}
+use Rattle.basis.specs.Kit.{_≡_, refl, List, [], _∷_, _++_, map, ℕ}
 use Prim.Native.String.{String}
 use Rattle.octets.specs.Octets.{bigAt, sameBytes}
 use Rattle.reply.specs.Reply.{number, ascii}

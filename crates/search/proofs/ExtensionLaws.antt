@@ -6,15 +6,10 @@
 --   Trying v s ps l₀ l i <-> v is what the paths ps from the i-th on come to, and the room l, lent as l₀, holds every candidate
 --
 -- Assumes nothing.
-use mathlib.Core.Path.{_≡_, refl, sym, ap, _∙_}
-use mathlib.Core.Bool.{Bool, true, false}
-use mathlib.Core.List.{List, [], _∷_}
-use Prim.Native.Nat.{ℕ, _+_, _-_, _≤_, _<_}
-use native.Mathlib.Numerals.{add-one}
-use native.Mathlib.Omega.{arith}
-use borrow.Author.Tests.{not-true, not-false}
-use lib.Dec.{eqb}
-use lib.ListN.{length, take, drop, getD, drop-of-length-le}
+use Rattle.basis.specs.Kit.{_≡_, refl, sym, ap, _∙_, Bool, true, false, List, [], _∷_, ℕ, _+_, _-_, _≤_, _<_, eqb, length, getD, take}
+use Rattle.basis.specs.Kit.{drop}
+use Rattle.basis.proofs.Kit.{arith, add-one, not-true, not-false}
+use lib.ListN.{drop-of-length-le}
 use lib.Seq.{length-take-le, drop-cons, sets-eq, take-append-seam}
 use Rattle.limits.specs.Figures.{mostCandidate}
 use Rattle.octets.specs.Octets.{Laid, part}

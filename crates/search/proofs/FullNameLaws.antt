@@ -1,14 +1,9 @@
 -- The laws of the look-ups by full name: the ways through `next_message`, `next_enum`, `find_message_by_abs_name`, `enum_in`,
 -- `only_enum` and `find_enum_by_abs_name`.
 -- Assumes nothing.
-use mathlib.Core.Path.{_≡_, refl, sym, ap, _∙_}
-use mathlib.Core.Bool.{Bool, true, false}
-use mathlib.Core.List.{List, [], _∷_}
-use mathlib.Core.Option.{Option, none, some}
-use Prim.Native.Nat.{ℕ, suc, _-_, _<_}
-use native.Mathlib.Omega.{arith}
-use lib.Dec.{eqb}
-use lib.ListN.{length, take}
+use Rattle.basis.specs.Kit.{_≡_, refl, sym, ap, _∙_, Bool, true, false, List, [], _∷_, Option, none, some, ℕ, suc, _-_, _<_, eqb}
+use Rattle.basis.specs.Kit.{length, take}
+use Rattle.basis.proofs.Kit.{arith}
 use Rattle.octets.specs.Octets.{part}
 use Rattle.field.specs.declared.Leaf.{Leaf}
 use Rattle.field.specs.declared.Leaf.the-variants as leaf

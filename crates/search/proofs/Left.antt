@@ -1,10 +1,6 @@
 -- A loop over the scopes that a cursor has still before it: the answer v is what F, a function of scopes, gives of those.
 -- Assumes nothing.
-use mathlib.Core.Path.{_≡_, refl, ap, _∙_}
-use mathlib.Core.List.{List, [], _∷_}
-use mathlib.Core.Option.{Option, none, some}
-use Prim.Native.Nat.{ℕ, _<_}
-use lib.ListN.{length}
+use Rattle.basis.specs.Kit.{_≡_, refl, ap, _∙_, List, [], _∷_, Option, none, some, ℕ, _<_, length}
 use Rattle.scope.specs.declared.lookup.LookupScope.{LookupScope}
 use Rattle.search.specs.declared.scopes.Cursor.{Cursor}
 use Rattle.search.specs.declared.scopes.Next.{Next}

@@ -8,13 +8,8 @@
 --    OneEnum s es p <-> the only one of the enums es has its values at p, a place of s
 --
 -- Assumes nothing.
-use mathlib.Core.Path.{_≡_, refl, sym, ap, _∙_}
-use mathlib.Core.Bool.{Bool, true, false}
-use mathlib.Core.List.{List, [], _∷_, _++_}
-use mathlib.Core.Option.{Option, none, some}
-use Prim.Native.Nat.{ℕ, _+_, _≤_}
-use native.Mathlib.Omega.{arith}
-use lib.ListN.{length}
+use Rattle.basis.specs.Kit.{_≡_, refl, sym, ap, _∙_, Bool, true, false, List, [], _∷_, _++_, Option, none, some, ℕ, _+_, _≤_, length}
+use Rattle.basis.proofs.Kit.{arith}
 use Rattle.basis.proofs.Never.{never}
 use Rattle.field.specs.declared.Span.{Span}
 use Rattle.field.specs.Walk.{walk}

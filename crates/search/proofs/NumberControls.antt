@@ -1,8 +1,6 @@
 -- Closed cases of the declaration of a number, which the checker computes.
 -- Assumes nothing.
-use mathlib.Core.Path.{_≡_, refl}
-use mathlib.Core.List.{List, [], _∷_, map}
-use Prim.Native.Nat.{ℕ}
+use Rattle.basis.specs.Kit.{_≡_, refl, List, [], _∷_, map, ℕ}
 use Rattle.scope.proofs.Sample.{sheet, file, nameM, nameN, inM, inN, declares}
 use Rattle.search.specs.Number.{declarationOf}
 

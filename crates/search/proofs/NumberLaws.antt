@@ -4,13 +4,9 @@
 --     fileWhere good s t a e == the first one in a field of a sheet
 --
 -- Assumes nothing.
-use mathlib.Core.Path.{_≡_, refl, sym, _∙_}
-use mathlib.Core.Bool.{Bool, true, false}
-use mathlib.Core.List.{List, [], append-nil}
-use Prim.Native.Nat.{ℕ, _-_, _≤_}
-use native.Mathlib.Omega.{arith}
-use borrow.Author.Tests.{eq-eqb, ne-eqb, not-true, not-false}
-use lib.ListN.{length}
+use Rattle.basis.specs.Kit.{_≡_, refl, sym, _∙_, Bool, true, false, List, [], ℕ, _-_, _≤_, length}
+use Rattle.basis.proofs.Kit.{arith, eq-eqb, ne-eqb, not-true, not-false}
+use mathlib.Core.List.{append-nil}
 use Rattle.limits.specs.Figures.{mostMessages}
 use Rattle.field.specs.declared.Leaf.{Leaf}
 use Rattle.field.specs.declared.Leaf.the-variants.{At, Not}

@@ -1,11 +1,7 @@
 -- The scopes that files give, of one package: which file gives which, and that the files stand in their order.
 -- Assumes nothing.
-use mathlib.Core.Path.{_≡_, refl, sym, ap, _∙_}
-use mathlib.Core.Bool.{Bool, true, false}
-use mathlib.Core.List.{List, [], _∷_}
-use mathlib.Core.Option.{Option, none, some}
-use Prim.Native.Nat.{ℕ, zero, suc, _+_, _<_}
-use native.Mathlib.Omega.{arith}
+use Rattle.basis.specs.Kit.{_≡_, refl, sym, ap, _∙_, Bool, true, false, List, [], _∷_, Option, none, some, ℕ, zero, suc, _+_, _<_}
+use Rattle.basis.proofs.Kit.{arith}
 use lib.ListN.{getElem?}
 use Rattle.basis.proofs.Never.{never}
 use Rattle.octets.specs.Octets.{sameBytes}

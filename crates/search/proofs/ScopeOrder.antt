@@ -1,12 +1,10 @@
 -- The scopes at a path, package by package: the order they stand in, and the files that give them.
 -- Assumes nothing.
-use mathlib.Core.Path.{_≡_, refl, sym, ap, subst, _∙_}
-use mathlib.Core.Bool.{true}
-use mathlib.Core.List.{List, [], _∷_, _++_, map, append-nil, append-assoc}
-use mathlib.Core.Option.{some}
-use Prim.Native.Nat.{ℕ, zero, suc, _≤_, _<_}
-use native.Mathlib.Omega.{arith}
-use lib.ListN.{length, getD, getElem?, length-append}
+use Rattle.basis.specs.Kit.{_≡_, refl, sym, ap, _∙_, true, List, [], _∷_, _++_, map, some, ℕ, zero, suc, _≤_, _<_, length, getD}
+use Rattle.basis.proofs.Kit.{arith}
+use mathlib.Core.Path.{subst}
+use mathlib.Core.List.{append-nil, append-assoc}
+use lib.ListN.{getElem?, length-append}
 use Rattle.basis.proofs.Never.{never}
 use Rattle.field.specs.Leaf.{text}
 use Rattle.path.specs.Path.{Name, Path, components, spell, allIdent}

@@ -6,18 +6,10 @@
 --       filePlace i m e ==  the place of the i-th file, whose body is from m up to e
 --
 -- Assumes nothing.
-use mathlib.Core.Path.{_≡_, refl, sym, ap, _∙_}
-use mathlib.Core.Bool.{Bool, true, false}
-use mathlib.Core.List.{List, [], _∷_}
-use mathlib.Core.Option.{Option, none, some}
-use Prim.Native.Nat.{ℕ, suc, _+_, _-_, _*_, _^_, _≤_, _<_}
+use Rattle.basis.specs.Kit.{_≡_, refl, sym, ap, _∙_, Bool, true, false, List, [], _∷_, Option, none, some, ℕ, suc, _+_, _-_, _*_, _^_}
+use Rattle.basis.specs.Kit.{_≤_, _<_, eqb, length, take, drop}
+use Rattle.basis.proofs.Kit.{arith, ne-eqb, not-true, not-false, w64, Fits}
 use native.Mathlib.Nat.{add-zero}
-use native.Mathlib.Omega.{arith}
-use borrow.Author.Tests.{not-true, not-false, ne-eqb}
-use lib.Dec.{eqb}
-use mir.Syntax.{w64}
-use mir.Val.{Fits}
-use lib.ListN.{length, take, drop}
 use Rattle.basis.proofs.Never.{never}
 use Rattle.limits.specs.Figures.{mostMessages}
 use Rattle.octets.specs.Octets.{part, sameBytes}

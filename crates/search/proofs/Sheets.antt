@@ -10,10 +10,8 @@
 --     enum n values == an enum of the name n
 --
 -- Assumes nothing.
-use mathlib.Core.List.{List, [], _∷_, _++_}
-use Prim.Native.Nat.{ℕ, _/_, _%_}
+use Rattle.basis.specs.Kit.{List, [], _∷_, _++_, ℕ, _/_, _%_, length}
 use Prim.Native.String.{String}
-use lib.ListN.{length}
 use Rattle.reply.specs.Reply.{ascii}
 use Rattle.sheet.specs.Table.{fileTag, messageTag, extensionTag, enumTag, fieldTag, valueTag, packageTag, nameTag}
 use Rattle.sheet.specs.Table.{extendeeTag, numberTag, typeTag, labelTag, signedNumberTag}

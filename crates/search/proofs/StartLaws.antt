@@ -1,12 +1,9 @@
 -- Where the walks of the look-ups by full name start: before all scopes at the path, or at the path before its last name.
 -- Assumes nothing.
-use mathlib.Core.Path.{_≡_, sym, ap, _∙_}
-use mathlib.Core.List.{List, []}
-use Prim.Native.Nat.{ℕ, _-_}
+use Rattle.basis.specs.Kit.{_≡_, sym, ap, _∙_, List, [], ℕ, _-_, eqb, length, take, drop}
+use Rattle.basis.proofs.Kit.{arith}
 use native.Mathlib.Decide.{ℕ-discrete}
-use native.Mathlib.Omega.{arith}
-use lib.Dec.{eqb}
-use lib.ListN.{length, take, drop, length-take, length-drop}
+use lib.ListN.{length-take, length-drop}
 use lib.Seq.{take-all}
 use Rattle.octets.specs.Octets.{part}
 use Rattle.path.specs.Path.{components, spell, parent, last}

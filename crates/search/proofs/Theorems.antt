@@ -1,11 +1,7 @@
 -- The theorems about the search, each below the sentence that it says. The words are in specs/Answers.antt; what they are about is defined
 -- in specs/Lookup.antt, specs/Scopes.antt and, of the crate path, specs/Candidates.antt. `s` is the sheet, whatever its bytes.
 -- Assumes nothing.
-use mathlib.Core.Path.{_≡_, refl, sym, ap, _∙_}
-use mathlib.Core.Bool.{true, false}
-use mathlib.Core.List.{List, [], _∷_, _++_}
-use Prim.Native.Nat.{ℕ, suc, _-_, _≤_, _<_}
-use lib.ListN.{length, take}
+use Rattle.basis.specs.Kit.{_≡_, refl, sym, ap, _∙_, true, false, List, [], _∷_, _++_, ℕ, suc, _-_, _≤_, _<_, length, take}
 use Rattle.reply.specs.declared.Refusal.{Refusal}
 use Rattle.reply.specs.declared.Refusal.the-variants.{ExtensionNotFound, WrongExtensionType}
 use Rattle.octets.specs.Octets.{sameBytes}

@@ -12,12 +12,8 @@
 --              Earlier s c d <-> the package of c has fewer components than that of d; or as many, and its file stands before that of d
 --
 -- Assumes nothing.
-use mathlib.Core.Path.{_≡_}
-use mathlib.Core.Bool.{true}
-use mathlib.Core.List.{List, [], _++_, map}
-use mathlib.Core.Option.{some}
-use Prim.Native.Nat.{ℕ, _<_}
-use lib.ListN.{length, getD, getElem?}
+use Rattle.basis.specs.Kit.{_≡_, true, List, [], _++_, map, some, ℕ, _<_, length, getD}
+use lib.ListN.{getElem?}
 use Rattle.field.specs.Leaf.{text, isText}
 use Rattle.path.specs.Path.{Path, components, parent, last}
 use Rattle.candidates.specs.Candidates.{candidates, candidate}

@@ -17,10 +17,7 @@
 --             lookedUp, lookedUpEnum == the one that there is; of none MessageNotFound, of more than one MessageFoundMoreThanOnce
 --
 -- Assumes nothing.
-use mathlib.Core.Bool.{Bool, true, false}
-use mathlib.Core.List.{List, [], _∷_}
-use mathlib.Core.Option.{Option, none, some}
-use Prim.Native.Nat.{ℕ, _+_}
+use Rattle.basis.specs.Kit.{Bool, true, false, List, [], _∷_, Option, none, some, ℕ, _+_}
 use Rattle.reply.specs.declared.Refusal.{Refusal}
 use Rattle.reply.specs.declared.Refusal.the-variants.{ExtensionNotFound, WrongExtensionType}
 use Rattle.reply.specs.declared.Refusal.the-variants.{MessageNotFound, MessageFoundMoreThanOnce}

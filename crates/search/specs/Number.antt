@@ -10,11 +10,7 @@
 --                               the name by which it reached that scope
 --
 -- Assumes nothing.
-use mathlib.Core.Bool.{Bool, _&&_}
-use mathlib.Core.List.{List}
-use mathlib.Core.Option.{Option}
-use Prim.Native.Nat.{ℕ}
-use lib.Dec.{eqb}
+use Rattle.basis.specs.Kit.{Bool, _&&_, List, Option, ℕ, eqb}
 use Rattle.field.specs.Leaf.{isText}
 use Rattle.sheet.specs.declared.declaration.Declaration.{Declaration}
 use Rattle.sheet.specs.Tree.{treeOf}

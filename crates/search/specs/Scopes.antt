@@ -7,10 +7,7 @@
 --              scopes s p == the scopes at the path p, in order
 --
 -- Assumes nothing.
-use mathlib.Core.Bool.{Bool, true, false}
-use mathlib.Core.List.{List, [], _∷_, _++_}
-use mathlib.Core.Option.{Option, none, some}
-use Prim.Native.Nat.{ℕ, _+_}
+use Rattle.basis.specs.Kit.{Bool, true, false, List, [], _∷_, _++_, Option, none, some, ℕ, _+_}
 use Rattle.field.specs.Leaf.{isText}
 use Rattle.path.specs.Path.{Path, spell}
 use Rattle.sheet.specs.Tree.{File, treeOf}

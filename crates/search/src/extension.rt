@@ -1,8 +1,5 @@
 // An extension by its path: the first candidate, the first scope, the first of that name; only then is its extendee compared.
-ghost use mathlib.Core.Path.{_≡_};
-ghost use mathlib.Core.Bool.{true};
-ghost use Prim.Native.Nat.{_≤_};
-ghost use lib.ListN.{length};
+ghost use Rattle.basis.specs.Kit.{_≡_, true, _≤_, length};
 ghost use Rattle.limits.specs.Figures.{mostCandidate};
 ghost use Rattle.path.specs.Path.{components, isRelOrEmpty, isPath};
 ghost use Rattle.basis.specs.First.{firstSome};

@@ -1,6 +1,5 @@
 // Messages and enums by full name: there has to be exactly one.
-ghost use mathlib.Core.Path.{_≡_};
-ghost use mathlib.Core.List.{[], _∷_};
+ghost use Rattle.basis.specs.Kit.{_≡_, [], _∷_};
 ghost use Rattle.basis.specs.First.{collect};
 ghost use Rattle.path.specs.Path.{components};
 ghost use Rattle.scope.specs.Scope.{InSheet, holding, enumNamed};

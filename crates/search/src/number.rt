@@ -1,5 +1,5 @@
 // The declaration of a number at a message: the message's fields first, then the sheet's extensions of it in the order of the bytes.
-ghost use mathlib.Core.Path.{_≡_};
+ghost use Rattle.basis.specs.Kit.{_≡_};
 ghost use Rattle.field.specs.Leaf.{Lies};
 ghost use Rattle.field.specs.Walk.{walk};
 ghost use Rattle.sheet.specs.declared.declaration.Declared.the-variants.{NoDeclaration};

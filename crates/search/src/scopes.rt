@@ -1,8 +1,6 @@
 // The scopes at a path, one after the other: fewest package components first, then file order. A path is the text of its names, and
 // a place in it where a name starts; past the end there are no names left.
-ghost use mathlib.Core.Path.{_≡_};
-ghost use Prim.Native.Nat.{suc, _≤_};
-ghost use lib.ListN.{length};
+ghost use Rattle.basis.specs.Kit.{_≡_, suc, _≤_, length};
 ghost use Rattle.field.specs.Leaf.{onLeaf};
 ghost use Rattle.path.specs.inner.Places.{namesFrom};
 ghost use Rattle.scope.specs.Scope.{InSheet, holding, placed};

@@ -1,9 +1,7 @@
 -- Closed cases of the tree, which the checker computes: P1's sheet with every place, the empty sheet, a message that holds
 -- another, a field and an enum, cuts at the end of a sheet and of a file, what is no declaration, messages as deep as 01 allows and deeper.
 -- Assumes nothing.
-use mathlib.Core.Path.{_≡_, refl}
-use mathlib.Core.List.{List, [], _∷_, _++_, map}
-use Prim.Native.Nat.{ℕ, zero, suc, _+_, _*_}
+use Rattle.basis.specs.Kit.{_≡_, refl, List, [], _∷_, _++_, map, ℕ, zero, suc, _+_, _*_}
 use Rattle.octets.specs.Octets.{bigAt}
 use Rattle.field.specs.Field.{fieldAt}
 use Rattle.field.specs.Leaf.{span, leafAt}

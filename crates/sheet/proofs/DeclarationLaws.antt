@@ -1,9 +1,7 @@
 -- The laws of declarations: the ways through `extension_at`, `message_field_at` and `value_at`.
 -- Assumes nothing.
-use mathlib.Core.Path.{_≡_}
-use mathlib.Core.List.{List}
-use Prim.Native.Nat.{ℕ}
-use borrow.Author.Tests.{eq-eqb, ne-eqb}
+use Rattle.basis.specs.Kit.{_≡_, List, ℕ}
+use Rattle.basis.proofs.Kit.{eq-eqb, ne-eqb}
 use Rattle.octets.specs.Octets.{bigAt}
 use Rattle.field.specs.declared.Leaf.{Leaf}
 use Rattle.field.specs.declared.Leaf.the-variants.{At, Not}

@@ -5,11 +5,8 @@
 --   Filed s fs   <-> so do all of the files
 --
 -- Assumes nothing.
-use mathlib.Core.Path.{_≡_, refl, sym}
-use mathlib.Core.List.{List, [], _∷_}
-use Prim.Native.Nat.{ℕ, zero, suc, _-_, _≤_}
-use native.Mathlib.Omega.{arith}
-use lib.ListN.{length}
+use Rattle.basis.specs.Kit.{_≡_, refl, sym, List, [], _∷_, ℕ, zero, suc, _-_, _≤_, length}
+use Rattle.basis.proofs.Kit.{arith}
 use Rattle.limits.specs.Figures.{mostMessages}
 use Rattle.field.specs.declared.Leaf.the-variants.{At}
 use Rattle.field.specs.declared.Span.{Span}

@@ -1,10 +1,7 @@
 -- Where the names and the paths of declarations lie: before the end of the payload that they were read from.
 -- Assumes nothing.
-use mathlib.Core.Path.{_≡_, refl, sym, _∙_}
-use mathlib.Core.List.{List}
-use Prim.Native.Nat.{ℕ, _≤_}
-use native.Mathlib.Omega.{arith}
-use lib.ListN.{length}
+use Rattle.basis.specs.Kit.{_≡_, refl, sym, _∙_, List, ℕ, _≤_, length}
+use Rattle.basis.proofs.Kit.{arith}
 use Rattle.basis.proofs.Never.{never}
 use Rattle.octets.specs.Octets.{bigAt}
 use Rattle.field.specs.declared.Leaf.the-variants.{At}

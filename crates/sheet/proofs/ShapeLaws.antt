@@ -1,13 +1,7 @@
 -- The laws of type paths and of shapes: the ways through `has_type_path`, `type_path_at` and `shape_at`, and where a type path lies.
 -- Assumes nothing.
-use mathlib.Core.Path.{_≡_, refl, sym, _∙_}
-use mathlib.Core.Bool.{Bool, true, false, _||_}
-use mathlib.Core.List.{List}
-use Prim.Native.Nat.{ℕ, _≤_}
-use native.Mathlib.Omega.{arith}
-use borrow.Author.Tests.{not-true, not-false, eq-eqb, ne-eqb}
-use lib.Dec.{eqb}
-use lib.ListN.{length, getD}
+use Rattle.basis.specs.Kit.{_≡_, refl, sym, _∙_, Bool, true, false, _||_, List, ℕ, _≤_, eqb, length, getD}
+use Rattle.basis.proofs.Kit.{arith, eq-eqb, ne-eqb, not-true, not-false}
 use Rattle.basis.specs.First.{onlyIf}
 use Rattle.basis.proofs.Never.{never}
 use Rattle.octets.specs.Octets.{bigAt}

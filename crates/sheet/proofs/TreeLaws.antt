@@ -1,12 +1,8 @@
 -- The laws of a sheet's tree: what a list of fields holds opens at its first field, and what one field holds goes by its tag. They are for
 -- whoever walks over a sheet: the counts here, and the search to come.
 -- Assumes nothing.
-use mathlib.Core.Path.{_≡_, refl, ap}
-use mathlib.Core.List.{List, [], _∷_}
-use Prim.Native.Nat.{ℕ, zero, suc, _-_, _≤_, _<_}
-use native.Mathlib.Omega.{arith}
-use borrow.Author.Tests.{ne-eqb}
-use lib.ListN.{length}
+use Rattle.basis.specs.Kit.{_≡_, refl, ap, List, [], _∷_, ℕ, zero, suc, _-_, _≤_, _<_, length}
+use Rattle.basis.proofs.Kit.{arith, ne-eqb}
 use Rattle.limits.specs.Figures.{mostMessages}
 use Rattle.field.specs.declared.Field.{Field}
 use Rattle.field.specs.declared.Field.the-variants.{Whole, Cut}

@@ -12,11 +12,7 @@
 --          valueAt s a e ==  the enum value whose payload is from a to e
 --
 -- Assumes nothing.
-use mathlib.Core.Bool.{Bool, true, false, _||_}
-use mathlib.Core.List.{List}
-use Prim.Native.Nat.{ℕ}
-use lib.Dec.{eqb}
-use lib.ListN.{getD}
+use Rattle.basis.specs.Kit.{Bool, true, false, _||_, List, ℕ, eqb, getD}
 use Rattle.basis.specs.First.{onlyIf}
 use Rattle.octets.specs.Octets.{bigAt}
 use Rattle.field.specs.declared.Leaf.{Leaf}

@@ -11,9 +11,7 @@
 --   everyExtension fs   == the extensions of the files, at every depth
 --
 -- Assumes nothing.
-use mathlib.Core.List.{List, [], _∷_, _++_}
-use Prim.Native.Nat.{ℕ}
-use lib.Dec.{eqb}
+use Rattle.basis.specs.Kit.{List, [], _∷_, _++_, ℕ, eqb}
 use Rattle.basis.specs.First.{onlyIf}
 use Rattle.field.specs.declared.Span.{Span}
 use Rattle.sheet.specs.declared.declaration.Declaration.{Declaration}

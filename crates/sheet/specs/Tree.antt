@@ -20,11 +20,7 @@
 --                     treeOf s == the files of a sheet, in order
 --
 -- Assumes nothing.
-use mathlib.Core.Bool.{true, false}
-use mathlib.Core.List.{List, [], _∷_}
-use Prim.Native.Nat.{ℕ, zero, suc}
-use lib.Dec.{eqb}
-use lib.ListN.{length}
+use Rattle.basis.specs.Kit.{true, false, List, [], _∷_, ℕ, zero, suc, eqb, length}
 use Rattle.limits.specs.Figures.{mostMessages}
 use Rattle.field.specs.declared.Span.{Span}
 use Rattle.field.specs.Leaf.{span, anyBytes, onLeaf, leafAt}

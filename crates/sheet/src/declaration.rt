@@ -1,7 +1,5 @@
 // Extensions, fields and enum values, as they are written: their leaves in order, each of its size, and nothing after them.
-ghost use mathlib.Core.Path.{_≡_};
-ghost use Prim.Native.Nat.{_≤_};
-ghost use lib.ListN.{length};
+ghost use Rattle.basis.specs.Kit.{_≡_, _≤_, length};
 ghost use Rattle.sheet.specs.Declaration.{hasTypePath, typePathAt, shapeAt, extensionAt, messageFieldAt, valueAt};
 use crate::table;
 use field::Leaf;

@@ -1,9 +1,6 @@
 -- Closed cases of the definitions, which the checker computes: of each rule one that holds, one at the limit and one refused just past it.
 -- Assumes nothing.
-use mathlib.Core.Path.{_≡_, refl}
-use mathlib.Core.List.{List, [], _∷_, _++_, map}
-use Prim.Native.Nat.{ℕ, zero, suc}
-use lib.ListN.{length}
+use Rattle.basis.specs.Kit.{_≡_, refl, List, [], _∷_, _++_, map, ℕ, zero, suc, length}
 use Rattle.octets.specs.Octets.{bigAt}
 use Rattle.path.specs.Ident.{isLetter, isDigit, allWord, isIdent}
 use Rattle.path.specs.Path.{onFirst, split, components, allIdent, isRelPath, isRelOrEmpty}

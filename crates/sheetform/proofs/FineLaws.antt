@@ -1,14 +1,9 @@
 -- What a fine sheet's tree is like: every leaf is what 01 allows, and nothing is left out. The final statements stand at the end;
 -- what they say of a file and of each message in it goes on in messageform/proofs/FineLaws.antt.
 -- Assumes nothing.
-use mathlib.Core.Path.{_≡_, refl, sym, ap, _∙_}
-use mathlib.Core.Bool.{Bool, true, false}
-use mathlib.Core.List.{List}
-use Prim.Native.Nat.{ℕ, suc, _+_, _≤_, _<_}
+use Rattle.basis.specs.Kit.{_≡_, refl, sym, ap, _∙_, Bool, true, false, List, ℕ, suc, _+_, _≤_, _<_, ltb, length}
+use Rattle.basis.proofs.Kit.{arith}
 use native.Mathlib.Decide.{ℕ-discrete}
-use native.Mathlib.Omega.{arith}
-use lib.Dec.{ltb}
-use lib.ListN.{length}
 use Rattle.limits.specs.Figures.{mostSheet, mostFiles, mostMessages}
 use Rattle.path.specs.Path.{isRelOrEmpty}
 use Rattle.reply.specs.declared.Refusal.the-variants.{BadSheet, BeyondLimit}

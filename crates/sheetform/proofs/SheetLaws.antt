@@ -1,13 +1,8 @@
 -- The laws of files and sheets: the ways through `check_file`, `check_files` and `check_sheet`.
 -- Assumes nothing.
-use mathlib.Core.Path.{_≡_, refl, sym, _∙_}
-use mathlib.Core.Bool.{Bool, true, false}
-use mathlib.Core.List.{List}
-use Prim.Native.Nat.{ℕ, _+_, _^_, _≤_, _<_}
-use native.Mathlib.Omega.{arith}
-use borrow.Author.Tests.{eq-eqb, ne-eqb, lt-ltb, le-ltb, ltb-true}
-use lib.Dec.{eqb, ltb}
-use lib.ListN.{length}
+use Rattle.basis.specs.Kit.{_≡_, refl, sym, _∙_, Bool, true, false, List, ℕ, _+_, _^_, _≤_, _<_, eqb, ltb, length}
+use Rattle.basis.proofs.Kit.{arith, eq-eqb, ne-eqb, lt-ltb, le-ltb}
+use borrow.Author.Tests.{ltb-true}
 use Rattle.basis.proofs.Never.{never}
 use Rattle.limits.specs.Figures.{mostSheet, mostFiles, mostMessages}
 use Rattle.path.specs.Path.{isRelOrEmpty}

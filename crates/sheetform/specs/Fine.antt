@@ -3,9 +3,7 @@
 --   goodFiles s fs <=> every name, path, number, type and label in the files is what 01 allows
 --
 -- Assumes nothing.
-use mathlib.Core.Bool.{Bool, true, _&&_}
-use mathlib.Core.List.{List, [], _∷_}
-use Prim.Native.Nat.{ℕ}
+use Rattle.basis.specs.Kit.{Bool, true, _&&_, List, [], _∷_, ℕ}
 use Rattle.path.specs.Path.{isRelOrEmpty}
 use Rattle.field.specs.Leaf.{text}
 use Rattle.sheet.specs.Tree.{File}

@@ -1,7 +1,5 @@
 // The form of a sheet: every byte string is fine, or has a first fault from the front.
-ghost use mathlib.Core.Path.{_≡_};
-ghost use Prim.Native.Nat.{_≤_};
-ghost use lib.ListN.{length};
+ghost use Rattle.basis.specs.Kit.{_≡_, _≤_, length};
 ghost use Rattle.reply.specs.Verdicts.{Says};
 ghost use Rattle.sheetform.specs.Form.{judgeFile, judgeFiles, judgeSheet};
 use field::Field;

@@ -1,14 +1,9 @@
 -- A table of all types whose entries all pass the test of `wireOf` gives each type its wire type; a number above them is none of those
 -- that `wireOf` lists.
 -- Assumes nothing.
-use mathlib.Core.Path.{_≡_, refl}
-use mathlib.Core.Bool.{Bool, true, false, _&&_}
-use mathlib.Core.List.{List, [], _∷_}
-use Prim.Native.Nat.{ℕ, suc, _≤_, _<_}
-use native.Mathlib.Omega.{arith}
-use borrow.Author.Tests.{ne-eqb}
-use lib.Dec.{T, leb, leb→le}
-use lib.ListN.{length, getD}
+use Rattle.basis.specs.Kit.{_≡_, refl, Bool, true, false, _&&_, List, [], _∷_, ℕ, suc, _≤_, _<_, leb, length, getD}
+use Rattle.basis.proofs.Kit.{arith, ne-eqb}
+use lib.Dec.{T, leb→le}
 use mir.Facts.{and-yes}
 use Rattle.limits.specs.Figures.{mostType}
 use Rattle.types.specs.Types.{VARINT, isAny, wireOf}

@@ -6,10 +6,7 @@
 --                     wireOf t ==  the wire type of the type t, VARINT where t is no type's number
 --
 -- Assumes nothing.
-use mathlib.Core.Bool.{Bool, true, false, _||_}
-use mathlib.Core.List.{List, [], _∷_}
-use Prim.Native.Nat.{ℕ}
-use lib.Dec.{eqb}
+use Rattle.basis.specs.Kit.{Bool, true, false, _||_, List, [], _∷_, ℕ, eqb}
 
 abbrev pub TYPE_DOUBLE : ℕ
 TYPE_DOUBLE = 1

@@ -1,5 +1,5 @@
 // The types of descriptor.proto and their wire types.
-ghost use mathlib.Core.Path.{_≡_};
+ghost use Rattle.basis.specs.Kit.{_≡_};
 ghost use Rattle.types.specs.Types.{wireOf};
 use limits::MOST_TYPE;
 

@@ -1,9 +1,6 @@
 -- UTF-8: closed cases, of each rule one at the limit and one just past it.
 -- Assumes nothing.
-use mathlib.Core.Path.{_≡_, refl}
-use mathlib.Core.Bool.{true, false}
-use mathlib.Core.List.{List, [], _∷_, map}
-use Prim.Native.Nat.{ℕ}
+use Rattle.basis.specs.Kit.{_≡_, refl, true, false, List, [], _∷_, map, ℕ}
 use lib.ListN.{replicate}
 use Rattle.octets.specs.Octets.{sameBytes}
 use Rattle.utf8.specs.Utf8.{isScalar, utf8, pointOf, stands, leadOf, utf8From, isUtf8}

@@ -1,14 +1,11 @@
 -- The four forms of RFC 3629, section 3, as facts on numbers: they are what `utf8` writes, and `pointOf` reads the value back.
 -- Assumes nothing.
-use mathlib.Core.Path.{_≡_, refl, sym, _∙_}
-use mathlib.Core.Bool.{Bool, true, false, _&&_, _||_, true≢false}
-use mathlib.Core.List.{List, [], _∷_, _++_}
-use Prim.Native.Nat.{ℕ, _+_, _-_, _*_, _/_, _%_, _≤_, _<_}
+use Rattle.basis.specs.Kit.{_≡_, refl, sym, _∙_, Bool, true, false, _&&_, _||_, List, [], _∷_, _++_, ℕ, _+_, _-_, _*_, _/_, _%_, _≤_}
+use Rattle.basis.specs.Kit.{_<_, ltb, leb, getD}
+use Rattle.basis.proofs.Kit.{arith, lt-ltb, le-ltb}
+use mathlib.Core.Bool.{true≢false}
 use native.Mathlib.Nat.{div-div-eq-div-mul}
-use native.Mathlib.Omega.{arith}
-use lib.Dec.{ltb, leb}
-use lib.ListN.{getD}
-use borrow.Author.Tests.{lt-ltb, le-ltb, le-leb, ltb-true, ltb-false, leb-true}
+use borrow.Author.Tests.{le-leb, ltb-true, ltb-false, leb-true}
 use Rattle.utf8.specs.Utf8.{isScalar, utf8, pointOf}
 
 -- the surrogates, U+D800 to U+DFFF, are the numbers whose 0x800th is 0x1B

@@ -1,12 +1,10 @@
 -- What `leadOf` finds: the bytes of a scalar value at the front of a list.
 -- Assumes nothing.
-use mathlib.Core.Path.{_≡_, refl, sym, _∙_}
-use mathlib.Core.Bool.{Bool, true, false, _&&_, true≢false}
-use mathlib.Core.List.{List, _++_}
+use Rattle.basis.specs.Kit.{_≡_, refl, sym, _∙_, Bool, true, false, _&&_, List, _++_, ℕ, _≤_, length, take, drop}
+use Rattle.basis.proofs.Kit.{arith}
+use mathlib.Core.Bool.{true≢false}
 use mathlib.Core.Logic.{_⊎_, inl, inr, ⊎-elim}
-use Prim.Native.Nat.{ℕ, _≤_}
-use native.Mathlib.Omega.{arith}
-use lib.ListN.{length, take, drop, take-append-drop, length-append}
+use lib.ListN.{take-append-drop, length-append}
 use lib.Seq.{take-append-seam}
 use Rattle.octets.specs.Octets.{sameBytes}
 use Rattle.utf8.specs.Utf8.{isScalar, utf8, pointOf, stands, leadOf}

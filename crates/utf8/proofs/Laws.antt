@@ -1,11 +1,8 @@
 -- The test that computes holds of the bytes of scalar values, one after the other, and of no others.
 -- Assumes nothing.
-use mathlib.Core.Path.{_≡_, refl, sym, _∙_}
-use mathlib.Core.Bool.{true, false, true≢false}
-use mathlib.Core.List.{List, [], _∷_, _++_}
-use Prim.Native.Nat.{ℕ, zero, suc, _≤_, _<_}
-use native.Mathlib.Omega.{arith}
-use lib.ListN.{length, drop}
+use Rattle.basis.specs.Kit.{_≡_, refl, sym, _∙_, true, false, List, [], _∷_, _++_, ℕ, zero, suc, _≤_, _<_, length, drop}
+use Rattle.basis.proofs.Kit.{arith}
+use mathlib.Core.Bool.{true≢false}
 use lib.Seq.{drop-append-seam}
 use borrow.Author.Tests.{eqb-true}
 use Rattle.utf8.specs.Utf8.{utf8, Utf8, none, more, leadOf, utf8From, isUtf8}

@@ -1,10 +1,8 @@
 -- The laws of `two`, `three`, `four` and `lead_at`: what the bytes of a value that stands at the front of a list are, by its lead byte.
 -- Assumes nothing.
-use mathlib.Core.Path.{_≡_, sym}
-use mathlib.Core.List.{List, [], _∷_}
-use Prim.Native.Nat.{ℕ, _-_, _/_, _≤_, _<_}
-use native.Mathlib.Omega.{arith}
-use lib.ListN.{length, getD, take, drop, take-append-drop, length-drop}
+use Rattle.basis.specs.Kit.{_≡_, sym, List, [], _∷_, ℕ, _-_, _/_, _≤_, _<_, length, getD, take, drop}
+use Rattle.basis.proofs.Kit.{arith}
+use lib.ListN.{take-append-drop, length-drop}
 use lib.Seq.{take-suc, take-all, length-take-le}
 use Rattle.octets.specs.Octets.{part}
 use Rattle.utf8.specs.Utf8.{pointOf, leadOf}

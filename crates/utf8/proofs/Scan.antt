@@ -1,14 +1,9 @@
 -- The loop of `is_utf8`: what is known at its head, and its laws.
 -- Assumes nothing.
-use mathlib.Core.Path.{_≡_, refl, sym, _∙_}
-use mathlib.Core.Bool.{true, false}
-use mathlib.Core.List.{List}
-use Prim.Native.Nat.{ℕ, _+_, _^_, _≤_, _<_}
-use native.Mathlib.Omega.{arith}
-use lib.ListN.{length, drop, length-drop, drop-of-length-le}
+use Rattle.basis.specs.Kit.{_≡_, refl, sym, _∙_, true, false, List, ℕ, _+_, _^_, _≤_, _<_, length, drop}
+use Rattle.basis.proofs.Kit.{arith, w64, Fits}
+use lib.ListN.{length-drop, drop-of-length-le}
 use lib.Seq.{drop-drop}
-use mir.Syntax.{w64}
-use mir.Val.{Fits}
 use Rattle.utf8.specs.Utf8.{leadOf, utf8From, isUtf8}
 use Rattle.utf8.proofs.Front.{Front, front-within, lead-some}
 use Rattle.utf8.proofs.Laws.{utf8-step, utf8-not}

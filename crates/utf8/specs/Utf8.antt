@@ -10,12 +10,8 @@
 --       isUtf8 bs <=> the same as Utf8, as a test that computes
 --
 -- Assumes nothing.
-use mathlib.Core.Path.{_≡_}
-use mathlib.Core.Bool.{Bool, true, false, _&&_, _||_}
-use mathlib.Core.List.{List, [], _∷_, _++_}
-use Prim.Native.Nat.{ℕ, zero, suc, _+_, _-_, _*_, _/_, _%_}
-use lib.Dec.{leb, ltb, eqb}
-use lib.ListN.{length, getD, take}
+use Rattle.basis.specs.Kit.{_≡_, Bool, true, false, _&&_, _||_, List, [], _∷_, _++_, ℕ, zero, suc, _+_, _-_, _*_, _/_, _%_, eqb, ltb}
+use Rattle.basis.specs.Kit.{leb, length, getD, take}
 use Rattle.octets.specs.Octets.{sameBytes}
 
 unfoldable pub isScalar : ℕ → Bool

@@ -1,7 +1,5 @@
 // The strict test for UTF-8.
-ghost use mathlib.Core.Path.{_≡_};
-ghost use Prim.Native.Nat.{_≤_, _<_};
-ghost use lib.ListN.{length, getD, drop};
+ghost use Rattle.basis.specs.Kit.{_≡_, _≤_, _<_, length, getD, drop};
 ghost use Rattle.utf8.specs.Utf8.{isUtf8, leadOf};
 
 // How many bytes the scalar value at the front takes, 0 where none stands there, for a first byte of 80 to DF.

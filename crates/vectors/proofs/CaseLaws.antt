@@ -1,10 +1,7 @@
 -- What the program knows of an example: where its fields lie, that words were read from them, and that no more examples hold than there are.
 -- Assumes nothing.
-use mathlib.Core.Path.{_≡_}
-use mathlib.Core.Bool.{Bool}
-use mathlib.Core.List.{List}
-use Prim.Native.Nat.{ℕ, _+_, _-_, _≤_, _<_}
-use native.Mathlib.Omega.{arith}
+use Rattle.basis.specs.Kit.{_≡_, Bool, List, ℕ, _+_, _-_, _≤_, _<_}
+use Rattle.basis.proofs.Kit.{arith}
 use Rattle.limits.specs.Figures.{mostVarint}
 use Rattle.octets.specs.Octets.{Laid}
 use Rattle.wire.specs.Varint.{varint}

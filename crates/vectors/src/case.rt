@@ -1,5 +1,5 @@
 // The parts of an example, and the line that tells how it went.
-ghost use Prim.Native.Nat.{_≤_};
+ghost use Rattle.basis.specs.Kit.{_≤_};
 use console::output::text;
 use field::Field;
 

@@ -1,5 +1,5 @@
 // The protobuf encoding document: varints, zigzag, and whole records; IEEE 754's rounding.
-ghost use Prim.Native.Nat.{_+_, _≤_};
+ghost use Rattle.basis.specs.Kit.{_+_, _≤_};
 ghost use Rattle.limits.specs.Figures.{mostVarint};
 use crate::case::begins;
 use crate::case::number_of;

@@ -7,7 +7,7 @@ mod lowerings;
 mod names;
 mod replies;
 
-ghost use Prim.Native.Nat.{_≤_};
+ghost use Rattle.basis.specs.Kit.{_≤_};
 use candidates::protobuf_path::candidates;
 use case::part;
 use case::told;

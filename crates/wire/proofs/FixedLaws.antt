@@ -1,11 +1,8 @@
 -- Numbers of a fixed width: what was written is read back, and what was read is written again, at every width.
 -- Assumes nothing.
-use mathlib.Core.Path.{_≡_, refl, ap, _∙_}
-use mathlib.Core.List.{List, [], _∷_, _++_}
-use Prim.Native.Nat.{ℕ, zero, suc, _+_, _*_, _/_, _%_, _^_, _<_}
+use Rattle.basis.specs.Kit.{_≡_, refl, ap, _∙_, List, [], _∷_, _++_, ℕ, zero, suc, _+_, _*_, _/_, _%_, _^_, _<_, length, take}
+use Rattle.basis.proofs.Kit.{arith}
 use native.Mathlib.Nat.{div-lt-iff-lt-mul, pow-suc}
-use native.Mathlib.Omega.{arith}
-use lib.ListN.{length, take}
 use lib.Seq.{take-at}
 use Rattle.wire.specs.Fixed.{littleOf, little}
 use Rattle.octets.proofs.Bytes.{Bytes, bytes-nil, bytes-cons}

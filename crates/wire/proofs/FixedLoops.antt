@@ -1,14 +1,8 @@
 -- The loops of `put_little` and `little_at`: what is known at the head of each, and its laws.
 -- Assumes nothing.
-use mathlib.Core.Path.{_≡_}
-use mathlib.Core.List.{List, [], _∷_}
-use Prim.Native.Nat.{ℕ, suc, _+_, _-_, _*_, _/_, _%_, _^_, _≤_, _<_}
+use Rattle.basis.specs.Kit.{_≡_, List, [], _∷_, ℕ, suc, _+_, _-_, _*_, _/_, _%_, _^_, _≤_, _<_, length, getD, sets}
+use Rattle.basis.proofs.Kit.{arith, w64, Fits}
 use native.Mathlib.Nat.{add-zero, add-assoc, sub-zero, sub-self, sub-eq-zero-of-le, pow-suc, pow-le-pow-right}
-use native.Mathlib.Omega.{arith}
-use lib.ListN.{length, getD}
-use lib.Seq.{sets}
-use mir.Syntax.{w64}
-use mir.Val.{Fits}
 use Rattle.octets.specs.Octets.{part, Laid}
 use Rattle.wire.specs.Fixed.{littleOf, little}
 use Rattle.octets.proofs.Halfway.{Halfway, halfway-start, halfway-next, halfway-end, halfway-length}

@@ -1,10 +1,8 @@
 -- Numbers: closed cases.
 -- Assumes nothing.
-use mathlib.Core.Path.{_≡_, refl}
-use mathlib.Core.List.{List, [], _∷_, map}
-use Prim.Native.Nat.{ℕ}
+use Rattle.basis.specs.Kit.{_≡_, refl, List, [], _∷_, map, ℕ}
+use Rattle.basis.proofs.Kit.{w64}
 use lib.IntN.{ℤ, pos, negsuc}
-use mir.Syntax.{w64}
 use mir.Val.{ofZ}
 use Rattle.wire.specs.Numbers.{zig, zigzagOf, unzigzagOf, low32Of, widen32Of}
 

@@ -1,14 +1,11 @@
 -- Zigzag, the low 32 bits and widening by sign: each undoes its inverse, and what each makes of the bits of a signed number.
 -- Assumes nothing.
-use mathlib.Core.Path.{_≡_, refl, sym, _∙_}
-use mathlib.Core.Bool.{Bool, true, false}
-use Prim.Native.Nat.{ℕ, suc, _+_, _-_, _*_, _/_, _%_, _^_, _≤_, _<_}
-use native.Mathlib.Omega.{arith}
-use lib.Dec.{ltb, eqb}
+use Rattle.basis.specs.Kit.{_≡_, refl, sym, _∙_, Bool, true, false, ℕ, suc, _+_, _-_, _*_, _/_, _%_, _^_, _≤_, _<_, eqb, ltb}
+use Rattle.basis.proofs.Kit.{arith, eq-eqb, ne-eqb, lt-ltb, le-ltb, w64}
 use lib.IntN.{ℤ, pos, negsuc}
-use mir.Syntax.{Width, w8, w16, w32, w64, w128}
+use mir.Syntax.{Width, w8, w16, w32, w128}
 use mir.Val.{SFits, ofZ, bits, hbits}
-use borrow.Author.Tests.{lt-ltb, le-ltb, eq-eqb, ne-eqb, ltb-true, ltb-false, eqb-true, eqb-false}
+use borrow.Author.Tests.{ltb-true, ltb-false, eqb-true, eqb-false}
 use Rattle.wire.specs.Numbers.{zig, zigzagOf, unzigzagOf, low32Of, widen32Of}
 
 -- ---- one law for each way through the code

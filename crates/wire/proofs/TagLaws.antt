@@ -1,12 +1,10 @@
 -- Tags: a number and a wire type are read back from their tag, and a good tag is one of a field number and a wire type that is read.
 -- Assumes nothing.
-use mathlib.Core.Path.{_≡_, sym, _∙_}
-use mathlib.Core.Bool.{true, false, _&&_, false≢true, and-eq-true-iff}
-use Prim.Native.Nat.{ℕ, _≤_, _<_}
+use Rattle.basis.specs.Kit.{_≡_, sym, _∙_, true, false, _&&_, ℕ, _≤_, _<_, eqb, leb}
+use Rattle.basis.proofs.Kit.{arith, ne-eqb}
+use mathlib.Core.Bool.{false≢true, and-eq-true-iff}
 use native.Mathlib.Decide.{decLt}
-use native.Mathlib.Omega.{arith}
-use lib.Dec.{leb, eqb}
-use borrow.Author.Tests.{le-leb, leb-true, ne-eqb}
+use borrow.Author.Tests.{le-leb, leb-true}
 use Rattle.limits.specs.Figures.{mostNumber}
 use Rattle.wire.specs.Tag.{tagOf, numberOf, wireTypeOf, wireRead, tagGood}
 

@@ -1,9 +1,6 @@
 -- Closed cases of specs/: of each rule one that holds, one at the limit and one refused just past it.
 -- Assumes nothing.
-use mathlib.Core.Path.{_≡_, refl}
-use mathlib.Core.Bool.{true, false}
-use mathlib.Core.List.{List, [], _∷_}
-use Prim.Native.Nat.{ℕ, _-_, _^_}
+use Rattle.basis.specs.Kit.{_≡_, refl, true, false, List, [], _∷_, ℕ, _-_, _^_}
 use Rattle.wire.specs.declared.varint.Read.the-variants.{Varint, Bad}
 use Rattle.wire.specs.Varint.{varintWithin, varint, readWithin, readVarint, atPlace, varintAt}
 use Rattle.wire.specs.Tag.{tagOf, numberOf, wireTypeOf, tagGood}

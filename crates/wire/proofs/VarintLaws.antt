@@ -1,13 +1,12 @@
 -- Varints: what was written is read back, the written form is the shortest that reads as its value, and what is read has its bounds.
 -- Assumes nothing.
-use mathlib.Core.Path.{_≡_, refl, sym, subst, _∙_}
-use mathlib.Core.List.{List, [], _∷_, _++_}
-use Prim.Native.Nat.{ℕ, zero, suc, _+_, _-_, _*_, _/_, _%_, _^_, _≤_, _<_}
+use Rattle.basis.specs.Kit.{_≡_, refl, sym, _∙_, List, [], _∷_, _++_, ℕ, zero, suc, _+_, _-_, _*_, _/_, _%_, _^_, _≤_, _<_, length}
+use Rattle.basis.specs.Kit.{drop}
+use Rattle.basis.proofs.Kit.{arith, lt-ltb, le-ltb}
+use mathlib.Core.Path.{subst}
 use native.Mathlib.Nat.{div-lt-iff-lt-mul, pow-suc, one-le-pow, le-trans, min-le-left}
 use native.Mathlib.Decide.{decLt}
-use native.Mathlib.Omega.{arith}
-use lib.ListN.{length, drop, length-take}
-use borrow.Author.Tests.{lt-ltb, le-ltb}
+use lib.ListN.{length-take}
 use Rattle.limits.specs.Figures.{mostVarint}
 use Rattle.octets.specs.Octets.{part}
 use Rattle.wire.specs.declared.varint.Read.{Read}

@@ -1,13 +1,8 @@
 -- The loops of `varint_len` and `put_varint`: what is known at the head of each, and its laws.
 -- Assumes nothing.
-use mathlib.Core.Path.{_≡_, ap, _∙_}
-use mathlib.Core.List.{List, [], _∷_}
-use Prim.Native.Nat.{ℕ, suc, _+_, _-_, _/_, _%_, _^_, _≤_, _<_}
-use native.Mathlib.Omega.{arith}
-use lib.ListN.{length}
-use lib.Seq.{sets, length-sets}
-use mir.Syntax.{w64}
-use mir.Val.{Fits}
+use Rattle.basis.specs.Kit.{_≡_, ap, _∙_, List, [], _∷_, ℕ, suc, _+_, _-_, _/_, _%_, _^_, _≤_, _<_, length, sets}
+use Rattle.basis.proofs.Kit.{arith, w64, Fits}
+use lib.Seq.{length-sets}
 use Rattle.limits.specs.Figures.{mostVarint}
 use Rattle.octets.specs.Octets.{Laid}
 use Rattle.wire.specs.Varint.{varint}

@@ -1,15 +1,11 @@
 -- The loop of `varint_at`: what is known at its head, and its laws.
 -- Assumes nothing.
-use mathlib.Core.Path.{_≡_, refl, ap, ap₂, _∙_}
-use mathlib.Core.List.{List, _∷_}
-use Prim.Native.Nat.{ℕ, zero, suc, _+_, _-_, _*_, _%_, _^_, _≤_, _<_}
+use Rattle.basis.specs.Kit.{_≡_, refl, ap, _∙_, List, _∷_, ℕ, zero, suc, _+_, _-_, _*_, _%_, _^_, _≤_, _<_, length, getD}
+use Rattle.basis.proofs.Kit.{arith, add-one, w64, Fits}
+use mathlib.Core.Path.{ap₂}
 use native.Mathlib.Nat.{mul-assoc, mul-comm, mul-add, pow-suc, one-le-pow, le-mul-of-pos-right, sub-self}
-use native.Mathlib.Numerals.{add-one, sub-one}
-use native.Mathlib.Omega.{arith}
+use native.Mathlib.Numerals.{sub-one}
 use lib.Arith.{digits-lt}
-use lib.ListN.{length, getD}
-use mir.Syntax.{w64}
-use mir.Val.{Fits}
 use Rattle.limits.specs.Figures.{mostVarint}
 use Rattle.octets.specs.Octets.{part}
 use Rattle.wire.specs.declared.varint.Read.{Read}

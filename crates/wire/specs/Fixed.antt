@@ -4,8 +4,7 @@
 --      little bs == the number that bytes are, the lowest first
 --
 -- Assumes nothing.
-use mathlib.Core.List.{List, [], _∷_}
-use Prim.Native.Nat.{ℕ, zero, suc, _+_, _*_, _/_, _%_}
+use Rattle.basis.specs.Kit.{List, [], _∷_, ℕ, zero, suc, _+_, _*_, _/_, _%_}
 
 unfoldable pub littleOf : ℕ → ℕ → List ℕ
 littleOf zero v = []

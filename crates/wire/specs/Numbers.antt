@@ -7,9 +7,7 @@
 --    widen32Of u == 32 bits widened by sign to 64
 --
 -- Assumes nothing.
-use mathlib.Core.Bool.{true, false}
-use Prim.Native.Nat.{ℕ, _+_, _-_, _*_, _/_, _%_, _^_}
-use lib.Dec.{ltb, eqb}
+use Rattle.basis.specs.Kit.{true, false, ℕ, _+_, _-_, _*_, _/_, _%_, _^_, eqb, ltb}
 use lib.IntN.{ℤ, pos, negsuc}
 
 -- Encoding, "Signed Integers": 0, -1, 1, -2 .. become 0, 1, 2, 3 ..: p becomes 2 * p, and -n becomes 2 * n - 1

@@ -7,9 +7,7 @@
 --      tagGood t <=> a tag that 01 takes: a field number in its range, and a wire type that is read
 --
 -- Assumes nothing.
-use mathlib.Core.Bool.{Bool, _&&_, _||_}
-use Prim.Native.Nat.{ℕ, _+_, _*_, _/_, _%_}
-use lib.Dec.{leb, eqb}
+use Rattle.basis.specs.Kit.{Bool, _&&_, _||_, ℕ, _+_, _*_, _/_, _%_, eqb, leb}
 use Rattle.limits.specs.Figures.{mostNumber}
 use Rattle.types.specs.Types.{VARINT, I64, LEN, I32}
 

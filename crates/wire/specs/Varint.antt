@@ -10,10 +10,7 @@
 --   varintAt s at end == the varint of s between two places that starts at the first, with the place after it
 --
 -- Assumes nothing.
-use mathlib.Core.Bool.{true, false}
-use mathlib.Core.List.{List, [], _∷_}
-use Prim.Native.Nat.{ℕ, zero, suc, _+_, _-_, _*_, _/_, _%_}
-use lib.Dec.{ltb}
+use Rattle.basis.specs.Kit.{true, false, List, [], _∷_, ℕ, zero, suc, _+_, _-_, _*_, _/_, _%_, ltb}
 use Rattle.limits.specs.Figures.{mostVarint}
 use Rattle.octets.specs.Octets.{part}
 use Rattle.wire.specs.declared.varint.Read.{Read}

@@ -1,7 +1,5 @@
 // Numbers of a fixed width, the lowest byte first.
-ghost use mathlib.Core.Path.{_≡_};
-ghost use Prim.Native.Nat.{_+_, _^_, _≤_, _<_};
-ghost use lib.ListN.{length};
+ghost use Rattle.basis.specs.Kit.{_≡_, _+_, _^_, _≤_, _<_, length};
 ghost use Rattle.octets.specs.Octets.{part, Laid};
 ghost use Rattle.wire.specs.Fixed.{littleOf, little};
 

@@ -1,6 +1,5 @@
 // Signed numbers as 64-bit patterns.
-ghost use mathlib.Core.Path.{_≡_};
-ghost use Prim.Native.Nat.{_^_, _<_};
+ghost use Rattle.basis.specs.Kit.{_≡_, _^_, _<_};
 ghost use Rattle.wire.specs.Numbers.{zigzagOf, unzigzagOf, low32Of, widen32Of};
 
 // The zigzag form of the number that the bits of u are.

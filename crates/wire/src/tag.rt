@@ -1,6 +1,5 @@
 // Tags: a field number and a wire type.
-ghost use mathlib.Core.Path.{_≡_};
-ghost use Prim.Native.Nat.{_<_};
+ghost use Rattle.basis.specs.Kit.{_≡_, _<_};
 ghost use Rattle.wire.specs.Tag.{tagOf, numberOf, wireTypeOf, tagGood as tagGoodOf};
 use limits::MOST_NUMBER;
 use types::I32;

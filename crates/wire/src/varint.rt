@@ -1,7 +1,5 @@
 // Varints: their length, writing and reading.
-ghost use mathlib.Core.Path.{_≡_};
-ghost use Prim.Native.Nat.{_^_, _≤_, _<_};
-ghost use lib.ListN.{length};
+ghost use Rattle.basis.specs.Kit.{_≡_, _^_, _≤_, _<_, length};
 ghost use Rattle.limits.specs.Figures.{mostVarint};
 ghost use Rattle.octets.specs.Octets.{Laid};
 ghost use Rattle.wire.specs.Varint.{varint as varintOf, varintAt};

@@ -1,7 +1,7 @@
 -- `benchfind::answer_pairs` meets its contract.
 -- Assumes nothing.
+use Rattle.basis.proofs.Kit.{needs}
 use Rattle.benchfind.proofs.CaseLaws.{case-laws}
-use borrow.Author.Needs.{needs}
 use Rattle.benchfind.proofs.answer_pairs.Statement.{statement}
 use Rattle.benchfind.proofs.answer_pairs.Tie as tie
 

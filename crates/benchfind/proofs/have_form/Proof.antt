@@ -1,7 +1,7 @@
 -- `benchfind::have_form` meets its contract.
 -- Assumes nothing.
+use Rattle.basis.proofs.Kit.{needs}
 use Rattle.benchfind.proofs.CaseLaws.{form-laws}
-use borrow.Author.Needs.{needs}
 use Rattle.benchfind.proofs.have_form.Statement.{statement}
 use Rattle.benchfind.proofs.have_form.Tie as tie
 

@@ -1,7 +1,7 @@
 -- `benchfind::look_up` meets its contract.
 -- Assumes nothing.
+use Rattle.basis.proofs.Kit.{needs}
 use Rattle.benchfind.proofs.CaseLaws.{form-laws}
-use borrow.Author.Needs.{needs}
 use Rattle.benchfind.proofs.look_up.Statement.{statement}
 use Rattle.benchfind.proofs.look_up.Tie as tie
 

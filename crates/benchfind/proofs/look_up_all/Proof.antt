@@ -1,8 +1,7 @@
 -- `benchfind::look_up_all` meets its contract.
 -- Assumes nothing.
-use Prim.Native.Nat.{_-_, _≤_}
-use lib.ListN.{length}
-use borrow.Author.Needs.{needs}
+use Rattle.basis.specs.Kit.{_-_, _≤_, length}
+use Rattle.basis.proofs.Kit.{needs}
 use Rattle.benchfind.proofs.look_up_all.Statement.{statement}
 use Rattle.benchfind.proofs.look_up_all.Tie as tie
 

@@ -1,7 +1,7 @@
 -- `benchfind::look_up_often` meets its contract.
 -- Assumes nothing.
-use Prim.Native.Nat.{_-_, _≤_}
-use borrow.Author.Needs.{needs}
+use Rattle.basis.specs.Kit.{_-_, _≤_}
+use Rattle.basis.proofs.Kit.{needs}
 use Rattle.benchfind.proofs.look_up_often.Statement.{statement}
 use Rattle.benchfind.proofs.look_up_often.Tie as tie
 

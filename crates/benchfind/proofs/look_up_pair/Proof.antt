@@ -1,7 +1,7 @@
 -- `benchfind::look_up_pair` meets its contract.
 -- Assumes nothing.
+use Rattle.basis.proofs.Kit.{needs}
 use Rattle.benchfind.proofs.CaseLaws.{case-laws}
-use borrow.Author.Needs.{needs}
 use Rattle.benchfind.proofs.look_up_pair.Statement.{statement}
 use Rattle.benchfind.proofs.look_up_pair.Tie as tie
 

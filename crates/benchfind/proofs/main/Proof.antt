@@ -1,7 +1,7 @@
 -- `benchfind::main` meets its contract.
 -- Assumes nothing.
+use Rattle.basis.proofs.Kit.{needs}
 use Rattle.benchfind.proofs.CaseLaws.{case-laws}
-use borrow.Author.Needs.{needs}
 use Rattle.benchfind.proofs.main.Statement.{statement}
 use Rattle.benchfind.proofs.main.Tie as tie
 

@@ -1,7 +1,7 @@
 -- `benchfind::run` meets its contract.
 -- Assumes nothing.
+use Rattle.basis.proofs.Kit.{needs}
 use Rattle.benchfind.proofs.CaseLaws.{case-laws}
-use borrow.Author.Needs.{needs}
 use Rattle.benchfind.proofs.run.Statement.{statement}
 use Rattle.benchfind.proofs.run.Tie as tie
 

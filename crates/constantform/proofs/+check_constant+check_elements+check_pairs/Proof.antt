@@ -1,8 +1,8 @@
 -- `check_constant`, `check_elements` and `check_pairs` meet their contracts.
 -- Assumes nothing.
+use Rattle.basis.specs.Kit.{ℕ, _+_, _-_, _*_, _<_}
+use Rattle.basis.proofs.Kit.{needs}
 use Rattle.constantform.proofs.ConstantLaws.{constant-laws, element-laws, pairs-laws}
-use borrow.Author.Needs.{needs}
-use Prim.Native.Nat.{ℕ, _+_, _-_, _*_, _<_}
 use Rattle.reply.specs.declared.Refusal.the-variants.{BadRequest}
 use Rattle.form.specs.Each.{each}
 use Rattle.field.proofs.Rest.{Rest}

@@ -1,7 +1,7 @@
 -- `good_field` meets its contract.
 -- Assumes nothing.
+use Rattle.basis.proofs.Kit.{needs}
 use Rattle.declform.proofs.DeclarationLaws.{good-field-is}
-use borrow.Author.Needs.{needs}
 use Rattle.declform.proofs.good_field.Statement.{statement}
 use Rattle.declform.proofs.good_field.Tie as tie
 

@@ -1,7 +1,7 @@
 -- `good_shape` meets its contract.
 -- Assumes nothing.
+use Rattle.basis.proofs.Kit.{needs}
 use Rattle.declform.proofs.DeclarationLaws.{shape-is}
-use borrow.Author.Needs.{needs}
 use Rattle.declform.proofs.good_shape.Statement.{statement}
 use Rattle.declform.proofs.good_shape.Tie as tie
 

@@ -1,7 +1,7 @@
 -- `good_type_path` meets its contract.
 -- Assumes nothing.
+use Rattle.basis.proofs.Kit.{needs}
 use Rattle.declform.proofs.DeclarationLaws.{type-path-laws}
-use borrow.Author.Needs.{needs}
 use Rattle.declform.proofs.good_type_path.Statement.{statement}
 use Rattle.declform.proofs.good_type_path.Tie as tie
 

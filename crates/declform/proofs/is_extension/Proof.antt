@@ -1,7 +1,7 @@
 -- `is_extension` meets its contract.
 -- Assumes nothing.
+use Rattle.basis.proofs.Kit.{needs}
 use Rattle.declform.proofs.DeclarationLaws.{is-extension-laws}
-use borrow.Author.Needs.{needs}
 use Rattle.declform.proofs.is_extension.Statement.{statement}
 use Rattle.declform.proofs.is_extension.Tie as tie
 

@@ -1,7 +1,7 @@
 -- `is_field` meets its contract.
 -- Assumes nothing.
+use Rattle.basis.proofs.Kit.{needs}
 use Rattle.declform.proofs.DeclarationLaws.{is-field-laws}
-use borrow.Author.Needs.{needs}
 use Rattle.declform.proofs.is_field.Statement.{statement}
 use Rattle.declform.proofs.is_field.Tie as tie
 

@@ -1,7 +1,7 @@
 -- `is_value` meets its contract.
 -- Assumes nothing.
+use Rattle.basis.proofs.Kit.{needs}
 use Rattle.declform.proofs.DeclarationLaws.{is-value-laws}
-use borrow.Author.Needs.{needs}
 use Rattle.declform.proofs.is_value.Statement.{statement}
 use Rattle.declform.proofs.is_value.Tie as tie
 

@@ -1,9 +1,8 @@
 -- `emit::give_words` meets its contract, by its loop's invariant and laws.
 -- Assumes nothing.
-use Prim.Native.Nat.{_-_}
-use lib.ListN.{length}
+use Rattle.basis.specs.Kit.{_-_, length}
+use Rattle.basis.proofs.Kit.{needs}
 use Rattle.emit.proofs.Copying.{Copying, copying-laws}
-use borrow.Author.Needs.{needs}
 use Rattle.emit.proofs.give_words.Statement.{statement}
 use Rattle.emit.proofs.give_words.Tie as tie
 

@@ -1,7 +1,7 @@
 -- `emit::put_word` meets its contract.
 -- Assumes nothing.
+use Rattle.basis.proofs.Kit.{needs}
 use Rattle.octets.proofs.Overlay.{put-out}
-use borrow.Author.Needs.{needs}
 use Rattle.emit.proofs.put_word.Statement.{statement}
 use Rattle.emit.proofs.put_word.Tie as tie
 

@@ -1,7 +1,7 @@
 -- `field::field_at` meets its contract.
 -- Assumes nothing.
+use Rattle.basis.proofs.Kit.{needs}
 use Rattle.field.proofs.FieldLaws.{field-laws}
-use borrow.Author.Needs.{needs}
 use Rattle.field.proofs.field_at.Statement.{statement}
 use Rattle.field.proofs.field_at.Tie as tie
 

@@ -1,7 +1,7 @@
 -- `field::leaf_at` meets its contract.
 -- Assumes nothing.
+use Rattle.basis.proofs.Kit.{needs}
 use Rattle.field.proofs.LeafLaws.{leaf-any-laws}
-use borrow.Author.Needs.{needs}
 use Rattle.field.proofs.leaf_at.Statement.{statement}
 use Rattle.field.proofs.leaf_at.Tie as tie
 

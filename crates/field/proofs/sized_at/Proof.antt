@@ -1,7 +1,7 @@
 -- `field::sized_at` meets its contract.
 -- Assumes nothing.
+use Rattle.basis.proofs.Kit.{needs}
 use Rattle.field.proofs.LeafLaws.{sized-laws}
-use borrow.Author.Needs.{needs}
 use Rattle.field.proofs.sized_at.Statement.{statement}
 use Rattle.field.proofs.sized_at.Tie as tie
 

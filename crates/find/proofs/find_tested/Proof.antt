@@ -1,7 +1,7 @@
 -- `find::find_tested` meets its contract.
 -- Assumes nothing.
+use Rattle.basis.proofs.Kit.{needs}
 use Rattle.find.proofs.FindLaws.{find-tested-laws}
-use borrow.Author.Needs.{needs}
 use Rattle.find.proofs.find_tested.Statement.{statement}
 use Rattle.find.proofs.find_tested.Tie as tie
 

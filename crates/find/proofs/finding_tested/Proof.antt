@@ -1,7 +1,7 @@
 -- `find::finding_tested` meets its contract.
 -- Assumes nothing.
+use Rattle.basis.proofs.Kit.{needs}
 use Rattle.find.proofs.FindingLaws.{finding-laws}
-use borrow.Author.Needs.{needs}
 use Rattle.find.proofs.finding_tested.Statement.{statement}
 use Rattle.find.proofs.finding_tested.Tie as tie
 

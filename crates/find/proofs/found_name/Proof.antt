@@ -1,7 +1,7 @@
 -- `find::found_name` meets its contract.
 -- Assumes nothing.
+use Rattle.basis.proofs.Kit.{needs}
 use Rattle.find.proofs.FindLaws.{found-name-laws}
-use borrow.Author.Needs.{needs}
 use Rattle.find.proofs.found_name.Statement.{statement}
 use Rattle.find.proofs.found_name.Tie as tie
 

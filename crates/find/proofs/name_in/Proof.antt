@@ -1,7 +1,7 @@
 -- `find::name_in` meets its contract.
 -- Assumes nothing.
+use Rattle.basis.proofs.Kit.{needs}
 use Rattle.find.proofs.FindLaws.{name-in-laws}
-use borrow.Author.Needs.{needs}
 use Rattle.find.proofs.name_in.Statement.{statement}
 use Rattle.find.proofs.name_in.Tie as tie
 

@@ -1,6 +1,6 @@
 -- `find::none_of` meets its contract.
 -- Assumes nothing.
-use borrow.Author.Needs.{needs}
+use Rattle.basis.proofs.Kit.{needs}
 use Rattle.find.proofs.none_of.Statement.{statement}
 use Rattle.find.proofs.none_of.Tie as tie
 

@@ -1,7 +1,7 @@
 -- `find::put_found` meets its contract.
 -- Assumes nothing.
+use Rattle.basis.proofs.Kit.{needs}
 use Rattle.find.proofs.FindLaws.{put-found-laws}
-use borrow.Author.Needs.{needs}
 use Rattle.find.proofs.put_found.Statement.{statement}
 use Rattle.find.proofs.put_found.Tie as tie
 

@@ -1,7 +1,7 @@
 -- `find::span_in` meets its contract.
 -- Assumes nothing.
+use Rattle.basis.proofs.Kit.{needs}
 use Rattle.find.proofs.FindLaws.{span-in-laws}
-use borrow.Author.Needs.{needs}
 use Rattle.find.proofs.span_in.Statement.{statement}
 use Rattle.find.proofs.span_in.Tie as tie
 

@@ -1,7 +1,7 @@
 -- `leaf::ident_at` meets its contract.
 -- Assumes nothing.
+use Rattle.basis.proofs.Kit.{needs}
 use Rattle.form.proofs.NameLaws.{name-laws}
-use borrow.Author.Needs.{needs}
 use Rattle.form.proofs.ident_at.Statement.{statement}
 use Rattle.form.proofs.ident_at.Tie as tie
 

@@ -1,7 +1,7 @@
 -- `leaf::rel_or_empty_at` meets its contract.
 -- Assumes nothing.
+use Rattle.basis.proofs.Kit.{needs}
 use Rattle.form.proofs.NameLaws.{name-laws}
-use borrow.Author.Needs.{needs}
 use Rattle.form.proofs.rel_or_empty_at.Statement.{statement}
 use Rattle.form.proofs.rel_or_empty_at.Tie as tie
 

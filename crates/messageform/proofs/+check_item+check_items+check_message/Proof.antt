@@ -1,10 +1,10 @@
 -- `check_item`, `check_items` and `check_message`, a cycle of calls, meet their contracts.
 -- Assumes nothing.
+use Rattle.basis.specs.Kit.{ℕ, _+_, _-_, _*_, _<_}
+use Rattle.basis.proofs.Kit.{needs}
 use Rattle.field.proofs.Rest.{Rest}
 use Rattle.messageform.specs.Form.{judgeItems}
 use Rattle.messageform.proofs.MessageLaws.{item-laws, items, items-laws, message-laws}
-use borrow.Author.Needs.{needs}
-use Prim.Native.Nat.{ℕ, _+_, _*_, _-_, _<_}
 use borrow.Fn.Kinds.{In}
 use borrow.Fn.PlainCycle.{Measures, is, falls, and}
 use Rattle.messageform.proofs.check_item.Reads as check-item

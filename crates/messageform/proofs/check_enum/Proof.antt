@@ -1,10 +1,10 @@
 -- `check_enum` meets its contract.
 -- Assumes nothing.
-use Prim.Native.Nat.{_-_}
+use Rattle.basis.specs.Kit.{_-_}
+use Rattle.basis.proofs.Kit.{needs}
 use Rattle.field.proofs.Rest.{Rest}
 use Rattle.messageform.specs.Form.{judgeEnum}
 use Rattle.messageform.proofs.MessageLaws.{values, enum-laws}
-use borrow.Author.Needs.{needs}
 use Rattle.messageform.proofs.check_enum.Statement.{statement}
 use Rattle.messageform.proofs.check_enum.Tie as tie
 

@@ -1,7 +1,7 @@
 -- `check_value` meets its contract.
 -- Assumes nothing.
+use Rattle.basis.proofs.Kit.{needs}
 use Rattle.messageform.proofs.MessageLaws.{value-laws}
-use borrow.Author.Needs.{needs}
 use Rattle.messageform.proofs.check_value.Statement.{statement}
 use Rattle.messageform.proofs.check_value.Tie as tie
 

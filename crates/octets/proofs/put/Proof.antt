@@ -1,7 +1,7 @@
 -- `octets::put` meets its contract.
 -- Assumes nothing.
+use Rattle.basis.proofs.Kit.{needs}
 use Rattle.octets.proofs.Overlay.{put-out}
-use borrow.Author.Needs.{needs}
 use Rattle.octets.proofs.put.Statement.{statement}
 use Rattle.octets.proofs.put.Tie as tie
 

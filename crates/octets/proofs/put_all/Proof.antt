@@ -1,10 +1,9 @@
 -- `octets::put_all` meets its contract, by its loop's invariant and laws.
 -- Assumes nothing.
-use Prim.Native.Nat.{_-_}
-use lib.ListN.{length}
+use Rattle.basis.specs.Kit.{_-_, length}
+use Rattle.basis.proofs.Kit.{needs}
 use Rattle.octets.proofs.Halfway.{Laying}
 use Rattle.octets.proofs.Halfway.{laying-laws}
-use borrow.Author.Needs.{needs}
 use Rattle.octets.proofs.put_all.Statement.{statement}
 use Rattle.octets.proofs.put_all.Tie as tie
 

@@ -1,10 +1,9 @@
 -- `octets::same` meets its contract, by its loop's invariant and laws.
 -- Assumes nothing.
-use Prim.Native.Nat.{_-_}
-use lib.ListN.{length}
+use Rattle.basis.specs.Kit.{_-_, length}
+use Rattle.basis.proofs.Kit.{needs}
 use Rattle.octets.proofs.Alike.{Like}
 use Rattle.octets.proofs.Alike.{same-laws}
-use borrow.Author.Needs.{needs}
 use Rattle.octets.proofs.same.Statement.{statement}
 use Rattle.octets.proofs.same.Tie as tie
 

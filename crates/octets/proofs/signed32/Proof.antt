@@ -1,7 +1,7 @@
 -- `octets::signed32` meets its contract.
 -- Assumes nothing.
+use Rattle.basis.proofs.Kit.{needs}
 use Rattle.octets.proofs.Signs.{sign-laws}
-use borrow.Author.Needs.{needs}
 use Rattle.octets.proofs.signed32.Statement.{statement}
 use Rattle.octets.proofs.signed32.Tie as tie
 

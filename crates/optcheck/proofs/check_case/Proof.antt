@@ -1,7 +1,7 @@
 -- `optcheck::check_case` meets its contract.
 -- Assumes nothing.
+use Rattle.basis.proofs.Kit.{needs}
 use Rattle.optcheck.proofs.CaseLaws.{case-laws}
-use borrow.Author.Needs.{needs}
 use Rattle.optcheck.proofs.check_case.Statement.{statement}
 use Rattle.optcheck.proofs.check_case.Tie as tie
 

@@ -1,7 +1,7 @@
 -- `optcheck::run_over` meets its contract.
 -- Assumes nothing.
+use Rattle.basis.proofs.Kit.{needs}
 use Rattle.optcheck.proofs.CaseLaws.{case-laws}
-use borrow.Author.Needs.{needs}
 use Rattle.optcheck.proofs.run_over.Statement.{statement}
 use Rattle.optcheck.proofs.run_over.Tie as tie
 

@@ -1,7 +1,7 @@
 -- `optfind::find_case` meets its contract.
 -- Assumes nothing.
+use Rattle.basis.proofs.Kit.{needs}
 use Rattle.optfind.proofs.CaseLaws.{case-laws}
-use borrow.Author.Needs.{needs}
 use Rattle.optfind.proofs.find_case.Statement.{statement}
 use Rattle.optfind.proofs.find_case.Tie as tie
 

@@ -1,7 +1,7 @@
 -- `optfind::main` meets its contract.
 -- Assumes nothing.
+use Rattle.basis.proofs.Kit.{needs}
 use Rattle.optfind.proofs.CaseLaws.{case-laws}
-use borrow.Author.Needs.{needs}
 use Rattle.optfind.proofs.main.Statement.{statement}
 use Rattle.optfind.proofs.main.Tie as tie
 

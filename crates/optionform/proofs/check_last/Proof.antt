@@ -1,7 +1,7 @@
 -- `check_last` meets its contract.
 -- Assumes nothing.
+use Rattle.basis.proofs.Kit.{needs}
 use Rattle.optionform.proofs.OptionLaws.{last-laws}
-use borrow.Author.Needs.{needs}
 use Rattle.optionform.proofs.check_last.Statement.{statement}
 use Rattle.optionform.proofs.check_last.Tie as tie
 

@@ -1,7 +1,7 @@
 -- `check_option` meets its contract.
 -- Assumes nothing.
+use Rattle.basis.proofs.Kit.{needs}
 use Rattle.optionform.proofs.OptionLaws.{option-laws}
-use borrow.Author.Needs.{needs}
 use Rattle.optionform.proofs.check_option.Statement.{statement}
 use Rattle.optionform.proofs.check_option.Tie as tie
 

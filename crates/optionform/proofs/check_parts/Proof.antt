@@ -1,11 +1,11 @@
 -- `check_parts` meets its contract.
 -- Assumes nothing.
-use Prim.Native.Nat.{_-_}
+use Rattle.basis.specs.Kit.{_-_}
+use Rattle.basis.proofs.Kit.{needs}
 use Rattle.field.specs.Walk.{walk}
 use Rattle.field.proofs.Rest.{Rest}
 use Rattle.optionform.specs.Form.{partsFrom}
 use Rattle.optionform.proofs.OptionLaws.{parts-laws}
-use borrow.Author.Needs.{needs}
 use Rattle.optionform.proofs.check_parts.Statement.{statement}
 use Rattle.optionform.proofs.check_parts.Tie as tie
 

@@ -6,10 +6,7 @@
 --         NameParts s at end <-> so it is, and the parts are followed by nothing
 --
 -- Assumes nothing.
-use mathlib.Core.Path.{_≡_}
-use mathlib.Core.Bool.{true}
-use mathlib.Core.List.{List}
-use Prim.Native.Nat.{ℕ}
+use Rattle.basis.specs.Kit.{_≡_, true, List, ℕ}
 use Rattle.limits.specs.Figures.{mostConstants}
 use Rattle.reply.specs.declared.Verdict.the-variants.{Fine}
 use Rattle.field.specs.declared.Field.the-variants.{Whole}

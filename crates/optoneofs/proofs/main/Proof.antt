@@ -1,7 +1,7 @@
 -- `optoneofs::main` meets its contract.
 -- Assumes nothing.
+use Rattle.basis.proofs.Kit.{needs}
 use Rattle.console.proofs.InputLaws.{input-laws}
-use borrow.Author.Needs.{needs}
 use Rattle.optoneofs.proofs.main.Statement.{statement}
 use Rattle.optoneofs.proofs.main.Tie as tie
 

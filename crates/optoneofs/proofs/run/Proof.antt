@@ -1,7 +1,7 @@
 -- `optoneofs::run` meets its contract.
 -- Assumes nothing.
+use Rattle.basis.proofs.Kit.{needs}
 use Rattle.console.proofs.InputLaws.{input-laws}
-use borrow.Author.Needs.{needs}
 use Rattle.optoneofs.proofs.run.Statement.{statement}
 use Rattle.optoneofs.proofs.run.Tie as tie
 

@@ -1,7 +1,7 @@
 -- `optranges::lower` meets its contract.
 -- Assumes nothing.
+use Rattle.basis.proofs.Kit.{needs}
 use Rattle.console.proofs.InputLaws.{input-laws}
-use borrow.Author.Needs.{needs}
 use Rattle.optranges.proofs.lower.Statement.{statement}
 use Rattle.optranges.proofs.lower.Tie as tie
 

@@ -1,7 +1,7 @@
 -- `optranges::main` meets its contract.
 -- Assumes nothing.
+use Rattle.basis.proofs.Kit.{needs}
 use Rattle.console.proofs.InputLaws.{input-laws}
-use borrow.Author.Needs.{needs}
 use Rattle.optranges.proofs.main.Statement.{statement}
 use Rattle.optranges.proofs.main.Tie as tie
 

@@ -3,10 +3,7 @@
 --   LastAt t r <-> the last component of t starts at r, and the components before it are those of the text up to the dot before r
 --
 -- Assumes nothing.
-use mathlib.Core.Path.{_≡_}
-use mathlib.Core.List.{List}
-use Prim.Native.Nat.{ℕ, _-_, _≤_}
-use lib.ListN.{length, take, drop}
+use Rattle.basis.specs.Kit.{_≡_, List, ℕ, _-_, _≤_, length, take, drop}
 use Rattle.path.specs.Path.{components, parent, last}
 use Rattle.path.specs.inner.Places.{namesFrom}
 

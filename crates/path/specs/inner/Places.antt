@@ -4,11 +4,7 @@
 --   namesFrom t at == the pieces of t from the place `at` on; none where that is past the end
 --
 -- Assumes nothing.
-use mathlib.Core.Bool.{true, false}
-use mathlib.Core.List.{List, [], _∷_}
-use Prim.Native.Nat.{ℕ}
-use lib.Dec.{leb, eqb}
-use lib.ListN.{length, drop}
+use Rattle.basis.specs.Kit.{true, false, List, [], _∷_, ℕ, eqb, leb, length, drop}
 use Rattle.path.specs.Path.{Name, Path, dot, split}
 
 unfoldable pub untilDot : (text : List ℕ) → Name

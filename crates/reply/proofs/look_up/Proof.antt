@@ -1,9 +1,8 @@
 -- `reply::look_up` meets its contract, by its loop's invariant and laws.
 -- Assumes nothing.
-use Prim.Native.Nat.{_-_}
-use lib.ListN.{length}
+use Rattle.basis.specs.Kit.{_-_, length}
+use Rattle.basis.proofs.Kit.{needs}
 use Rattle.reply.proofs.Names.{Passed, look-up-laws}
-use borrow.Author.Needs.{needs}
 use Rattle.reply.proofs.look_up.Statement.{statement}
 use Rattle.reply.proofs.look_up.Tie as tie
 

@@ -1,7 +1,7 @@
 -- `reply::name_of` meets its contract: the table passes the test of all its rows.
 -- Assumes nothing.
+use Rattle.basis.proofs.Kit.{needs}
 use Rattle.reply.proofs.Names.{rows-tabled}
-use borrow.Author.Needs.{needs}
 use Rattle.reply.proofs.name_of.Statement.{statement}
 use Rattle.reply.proofs.name_of.Tie as tie
 

@@ -1,7 +1,7 @@
 -- `reply::refused` meets its contract.
 -- Assumes nothing.
+use Rattle.basis.proofs.Kit.{needs}
 use Rattle.reply.proofs.Rows.{row-laws}
-use borrow.Author.Needs.{needs}
 use Rattle.reply.proofs.refused.Statement.{statement}
 use Rattle.reply.proofs.refused.Tie as tie
 

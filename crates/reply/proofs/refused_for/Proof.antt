@@ -1,7 +1,7 @@
 -- `reply::refused_for` meets its contract.
 -- Assumes nothing.
+use Rattle.basis.proofs.Kit.{needs}
 use Rattle.reply.proofs.Rows.{row-laws}
-use borrow.Author.Needs.{needs}
 use Rattle.reply.proofs.refused_for.Statement.{statement}
 use Rattle.reply.proofs.refused_for.Tie as tie
 

@@ -1,7 +1,7 @@
 -- `check_name` meets its contract.
 -- Assumes nothing.
+use Rattle.basis.proofs.Kit.{needs}
 use Rattle.requestform.proofs.RequestLaws.{name-laws}
-use borrow.Author.Needs.{needs}
 use Rattle.requestform.proofs.check_name.Statement.{statement}
 use Rattle.requestform.proofs.check_name.Tie as tie
 

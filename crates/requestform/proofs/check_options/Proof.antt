@@ -1,13 +1,13 @@
 -- `check_options` meets its contract.
 -- Assumes nothing.
-use Prim.Native.Nat.{_-_, _≤_}
+use Rattle.basis.specs.Kit.{_-_, _≤_}
+use Rattle.basis.proofs.Kit.{needs}
 use Rattle.reply.specs.declared.Refusal.the-variants.{BadRequest}
 use Rattle.form.specs.Each.{eachFrom}
 use Rattle.field.proofs.Rest.{Rest}
 use Rattle.optionform.specs.Form.{judgeOption}
 use Rattle.requestform.specs.Form.{judgeOptions}
 use Rattle.requestform.proofs.RequestLaws.{options-laws}
-use borrow.Author.Needs.{needs}
 use Rattle.requestform.proofs.check_options.Statement.{statement}
 use Rattle.requestform.proofs.check_options.Tie as tie
 

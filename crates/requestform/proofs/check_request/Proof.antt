@@ -1,7 +1,7 @@
 -- `check_request` meets its contract.
 -- Assumes nothing.
+use Rattle.basis.proofs.Kit.{needs}
 use Rattle.requestform.proofs.RequestLaws.{request-laws}
-use borrow.Author.Needs.{needs}
 use Rattle.requestform.proofs.check_request.Statement.{statement}
 use Rattle.requestform.proofs.check_request.Tie as tie
 

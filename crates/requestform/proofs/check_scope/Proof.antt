@@ -1,7 +1,7 @@
 -- `check_scope` meets its contract.
 -- Assumes nothing.
+use Rattle.basis.proofs.Kit.{needs}
 use Rattle.requestform.proofs.RequestLaws.{alone-laws}
-use borrow.Author.Needs.{needs}
 use Rattle.requestform.proofs.check_scope.Statement.{statement}
 use Rattle.requestform.proofs.check_scope.Tie as tie
 

@@ -1,6 +1,6 @@
 -- `finite` meets its contract, by laws of `Narrowing`. Assumes nothing.
+use Rattle.basis.proofs.Kit.{needs}
 use Rattle.round.proofs.Narrowing.{finite-laws}
-use borrow.Author.Needs.{needs}
 use Rattle.round.proofs.finite.Statement.{statement}
 use Rattle.round.proofs.finite.Tie as tie
 

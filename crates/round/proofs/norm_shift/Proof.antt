@@ -1,6 +1,6 @@
 -- `norm_shift` meets its contract, by laws of `Integers`. Assumes nothing.
+use Rattle.basis.proofs.Kit.{needs}
 use Rattle.round.proofs.Integers.{norm-laws}
-use borrow.Author.Needs.{needs}
 use Rattle.round.proofs.norm_shift.Statement.{statement}
 use Rattle.round.proofs.norm_shift.Tie as tie
 

@@ -1,6 +1,6 @@
 -- `round_shift` meets its contract, by laws of `Closest`. Assumes nothing.
+use Rattle.basis.proofs.Kit.{needs}
 use Rattle.round.proofs.Closest.{shift-laws}
-use borrow.Author.Needs.{needs}
 use Rattle.round.proofs.round_shift.Statement.{statement}
 use Rattle.round.proofs.round_shift.Tie as tie
 

@@ -12,12 +12,8 @@
 --                          fileAt s t a e == the file that a field of a sheet is
 --
 -- Assumes nothing.
-use mathlib.Core.Bool.{Bool, true, false}
-use mathlib.Core.List.{List, []}
-use mathlib.Core.Option.{Option, some}
+use Rattle.basis.specs.Kit.{Bool, true, false, List, [], Option, some, ℕ, eqb}
 use mathlib.Core.Option as option
-use Prim.Native.Nat.{ℕ}
-use lib.Dec.{eqb}
 use Rattle.basis.specs.First.{onlyIf, told}
 use Rattle.octets.specs.Octets.{sameBytes}
 use Rattle.field.specs.declared.Leaf.{Leaf}

@@ -6,10 +6,7 @@
 --   declaresEnum s n c <=> the scope declares an enum of the name n
 --
 -- Assumes nothing.
-use mathlib.Core.Bool.{Bool, true, false}
-use mathlib.Core.List.{List}
-use mathlib.Core.Option.{Option, none, some}
-use Prim.Native.Nat.{ℕ}
+use Rattle.basis.specs.Kit.{Bool, true, false, List, Option, none, some, ℕ}
 use Rattle.path.specs.Path.{Name}
 use Rattle.basis.specs.First.{onlyIf, told, collect}
 use Rattle.scope.specs.Scope.{Scope, enumNamed}

@@ -13,13 +13,7 @@
 --          Nexts L s t c r <-> r is the next of L, or that there is none
 --
 -- Assumes nothing.
-use mathlib.Core.Path.{_≡_}
-use mathlib.Core.Bool.{Bool, true, false}
-use mathlib.Core.List.{List, [], _∷_, _++_}
-use mathlib.Core.Option.{Option, none}
-use Prim.Native.Nat.{ℕ, suc, _-_, _≤_, _<_}
-use lib.Dec.{eqb}
-use lib.ListN.{length, getD, take}
+use Rattle.basis.specs.Kit.{_≡_, Bool, true, false, List, [], _∷_, _++_, Option, none, ℕ, suc, _-_, _≤_, _<_, eqb, length, getD, take}
 use Rattle.limits.specs.Figures.{mostMessages}
 use Rattle.field.specs.declared.Leaf.{Leaf}
 use Rattle.field.specs.declared.Leaf.the-variants.{At as LeafAt, Not}

@@ -1,7 +1,7 @@
 -- `check_file` meets its contract.
 -- Assumes nothing.
+use Rattle.basis.proofs.Kit.{needs}
 use Rattle.sheetform.proofs.SheetLaws.{file-laws}
-use borrow.Author.Needs.{needs}
 use Rattle.sheetform.proofs.check_file.Statement.{statement}
 use Rattle.sheetform.proofs.check_file.Tie as tie
 

@@ -1,10 +1,10 @@
 -- `check_files` meets its contract.
 -- Assumes nothing.
-use Prim.Native.Nat.{_-_}
+use Rattle.basis.specs.Kit.{_-_}
+use Rattle.basis.proofs.Kit.{needs}
 use Rattle.field.proofs.Rest.{Rest}
 use Rattle.sheetform.specs.Form.{judgeFiles}
 use Rattle.sheetform.proofs.SheetLaws.{files, files-laws}
-use borrow.Author.Needs.{needs}
 use Rattle.sheetform.proofs.check_files.Statement.{statement}
 use Rattle.sheetform.proofs.check_files.Tie as tie
 

@@ -1,7 +1,7 @@
 -- `check_sheet` meets its contract.
 -- Assumes nothing.
+use Rattle.basis.proofs.Kit.{needs}
 use Rattle.sheetform.proofs.SheetLaws.{sheet-laws}
-use borrow.Author.Needs.{needs}
 use Rattle.sheetform.proofs.check_sheet.Statement.{statement}
 use Rattle.sheetform.proofs.check_sheet.Tie as tie
 

@@ -1,8 +1,8 @@
 -- `types::wire_of` meets its contract.
 -- Assumes nothing.
+use Rattle.basis.proofs.Kit.{needs}
 use Rattle.types.specs.Types.{wireOf}
 use Rattle.types.proofs.TypeLaws.{wire-laws}
-use borrow.Author.Needs.{needs}
 use Rattle.types.proofs.wire_of.Statement.{statement}
 use Rattle.types.proofs.wire_of.Tie as tie
 

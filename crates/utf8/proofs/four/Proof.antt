@@ -1,7 +1,7 @@
 -- `wire::utf8::four` meets its contract.
 -- Assumes nothing.
+use Rattle.basis.proofs.Kit.{needs}
 use Rattle.utf8.proofs.Lead.{four-laws}
-use borrow.Author.Needs.{needs}
 use Rattle.utf8.proofs.four.Statement.{statement}
 use Rattle.utf8.proofs.four.Tie as tie
 

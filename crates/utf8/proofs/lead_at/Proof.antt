@@ -1,7 +1,7 @@
 -- `wire::utf8::lead_at` meets its contract.
 -- Assumes nothing.
+use Rattle.basis.proofs.Kit.{needs}
 use Rattle.utf8.proofs.Lead.{lead-laws}
-use borrow.Author.Needs.{needs}
 use Rattle.utf8.proofs.lead_at.Statement.{statement}
 use Rattle.utf8.proofs.lead_at.Tie as tie
 

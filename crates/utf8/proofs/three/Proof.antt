@@ -1,7 +1,7 @@
 -- `wire::utf8::three` meets its contract.
 -- Assumes nothing.
+use Rattle.basis.proofs.Kit.{needs}
 use Rattle.utf8.proofs.Lead.{three-laws}
-use borrow.Author.Needs.{needs}
 use Rattle.utf8.proofs.three.Statement.{statement}
 use Rattle.utf8.proofs.three.Tie as tie
 

@@ -1,7 +1,7 @@
 -- `wire::utf8::two` meets its contract.
 -- Assumes nothing.
+use Rattle.basis.proofs.Kit.{needs}
 use Rattle.utf8.proofs.Lead.{two-laws}
-use borrow.Author.Needs.{needs}
 use Rattle.utf8.proofs.two.Statement.{statement}
 use Rattle.utf8.proofs.two.Tie as tie
 

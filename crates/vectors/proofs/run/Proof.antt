@@ -1,9 +1,8 @@
 -- `vectors::run` meets its contract, by its loop's invariant and laws.
 -- Assumes nothing.
-use Prim.Native.Nat.{_-_, _≤_}
-use lib.ListN.{length}
+use Rattle.basis.specs.Kit.{_-_, _≤_, length}
+use Rattle.basis.proofs.Kit.{needs}
 use Rattle.vectors.proofs.CaseLaws.{run-laws}
-use borrow.Author.Needs.{needs}
 use Rattle.vectors.proofs.run.Statement.{statement}
 use Rattle.vectors.proofs.run.Tie as tie
 

@@ -1,8 +1,8 @@
 -- `protobuf_path::ancestor` meets its contract.
 -- Assumes nothing.
-use Prim.Native.Nat.{_-_}
+use Rattle.basis.specs.Kit.{_-_}
+use Rattle.basis.proofs.Kit.{needs}
 use Rattle.candidates.proofs.CandidateLaws.{Climbed, climbed-laws}
-use borrow.Author.Needs.{needs}
 use Rattle.candidates.proofs.protobuf_path.ancestor.Statement.{statement}
 use Rattle.candidates.proofs.protobuf_path.ancestor.Tie as tie
 

@@ -1,7 +1,7 @@
 -- `protobuf_path::candidate` meets its contract.
 -- Assumes nothing.
+use Rattle.basis.proofs.Kit.{needs}
 use Rattle.candidates.proofs.CandidateLaws.{candidate-laws}
-use borrow.Author.Needs.{needs}
 use Rattle.candidates.proofs.protobuf_path.candidate.Statement.{statement}
 use Rattle.candidates.proofs.protobuf_path.candidate.Tie as tie
 

@@ -1,7 +1,7 @@
 -- `protobuf_path::candidates` meets its contract.
 -- Assumes nothing.
+use Rattle.basis.proofs.Kit.{needs}
 use Rattle.candidates.proofs.CandidateLaws.{candidates-laws}
-use borrow.Author.Needs.{needs}
 use Rattle.candidates.proofs.protobuf_path.candidates.Statement.{statement}
 use Rattle.candidates.proofs.protobuf_path.candidates.Tie as tie
 

@@ -1,7 +1,7 @@
 -- `console::input::ends` meets its contract.
 -- Assumes nothing.
+use Rattle.basis.proofs.Kit.{needs}
 use Rattle.console.proofs.InputLaws.{size-told-laws}
-use borrow.Author.Needs.{needs}
 use Rattle.console.proofs.input.ends.Statement.{statement}
 use Rattle.console.proofs.input.ends.Tie as tie
 

@@ -1,7 +1,7 @@
 -- `console::input::field_of` meets its contract.
 -- Assumes nothing.
+use Rattle.basis.proofs.Kit.{needs}
 use Rattle.console.proofs.InputLaws.{leaf-due}
-use borrow.Author.Needs.{needs}
 use Rattle.console.proofs.input.field_of.Statement.{statement}
 use Rattle.console.proofs.input.field_of.Tie as tie
 

@@ -1,7 +1,7 @@
 -- `console::input::has_size` meets its contract.
 -- Assumes nothing.
+use Rattle.basis.proofs.Kit.{needs}
 use Rattle.console.proofs.InputLaws.{size-told-laws}
-use borrow.Author.Needs.{needs}
 use Rattle.console.proofs.input.has_size.Statement.{statement}
 use Rattle.console.proofs.input.has_size.Tie as tie
 

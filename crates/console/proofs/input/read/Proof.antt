@@ -1,7 +1,6 @@
 -- `console::input::read` meets its contract. The buffer's length is a law and not computed: its half a million bytes take antt seconds.
 -- Assumes nothing.
-use mathlib.Core.Path.{sym}
-use Prim.Native.Nat.{ℕ}
+use Rattle.basis.specs.Kit.{sym, ℕ}
 use lib.ListN.{length-replicate}
 use Rattle.console.proofs.input.read.Statement.{statement}
 use Rattle.console.proofs.input.read.Tie as tie

@@ -1,7 +1,7 @@
 -- `console::output::answer` meets its contract.
 -- Assumes nothing.
+use Rattle.basis.proofs.Kit.{needs}
 use Rattle.console.proofs.OutputLaws.{front-laws}
-use borrow.Author.Needs.{needs}
 use Rattle.console.proofs.output.answer.Statement.{statement}
 use Rattle.console.proofs.output.answer.Tie as tie
 

@@ -1,8 +1,7 @@
 -- `console::output::hex` meets its contract, by its loop's invariant and laws.
 -- Assumes nothing.
-use Prim.Native.Nat.{_-_}
-use lib.ListN.{length}
-use borrow.Author.Needs.{needs}
+use Rattle.basis.specs.Kit.{_-_, length}
+use Rattle.basis.proofs.Kit.{needs}
 use Rattle.console.proofs.output.hex.Statement.{statement}
 use Rattle.console.proofs.output.hex.Tie as tie
 

@@ -1,7 +1,7 @@
 -- `console::output::size` meets its contract.
 -- Assumes nothing.
+use Rattle.basis.proofs.Kit.{needs}
 use Rattle.console.proofs.OutputLaws.{size-laws}
-use borrow.Author.Needs.{needs}
 use Rattle.console.proofs.output.size.Statement.{statement}
 use Rattle.console.proofs.output.size.Tie as tie
 

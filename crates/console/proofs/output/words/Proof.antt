@@ -1,7 +1,7 @@
 -- `console::output::words` meets its contract, by its loop's invariant and laws.
 -- Assumes nothing.
-use Prim.Native.Nat.{_-_}
-use borrow.Author.Needs.{needs}
+use Rattle.basis.specs.Kit.{_-_}
+use Rattle.basis.proofs.Kit.{needs}
 use Rattle.console.proofs.output.words.Statement.{statement}
 use Rattle.console.proofs.output.words.Tie as tie
 

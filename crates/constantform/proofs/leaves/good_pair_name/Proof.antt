@@ -1,7 +1,7 @@
 -- `leaves::good_pair_name` meets its contract.
 -- Assumes nothing.
+use Rattle.basis.proofs.Kit.{needs}
 use Rattle.constantform.proofs.LeafLaws.{pair-name-laws}
-use borrow.Author.Needs.{needs}
 use Rattle.constantform.proofs.leaves.good_pair_name.Statement.{statement}
 use Rattle.constantform.proofs.leaves.good_pair_name.Tie as tie
 

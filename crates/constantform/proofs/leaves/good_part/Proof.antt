@@ -1,7 +1,7 @@
 -- `leaves::good_part` meets its contract.
 -- Assumes nothing.
+use Rattle.basis.proofs.Kit.{needs}
 use Rattle.constantform.proofs.LeafLaws.{part-leaf-laws}
-use borrow.Author.Needs.{needs}
 use Rattle.constantform.proofs.leaves.good_part.Statement.{statement}
 use Rattle.constantform.proofs.leaves.good_part.Tie as tie
 

@@ -1,7 +1,7 @@
 -- `leaves::good_scalar` meets its contract.
 -- Assumes nothing.
+use Rattle.basis.proofs.Kit.{needs}
 use Rattle.constantform.proofs.LeafLaws.{scalar-laws}
-use borrow.Author.Needs.{needs}
 use Rattle.constantform.proofs.leaves.good_scalar.Statement.{statement}
 use Rattle.constantform.proofs.leaves.good_scalar.Tie as tie
 

@@ -1,7 +1,7 @@
 -- `leaves::is_bool` meets its contract.
 -- Assumes nothing.
+use Rattle.basis.proofs.Kit.{needs}
 use Rattle.constantform.proofs.LeafLaws.{bool-laws}
-use borrow.Author.Needs.{needs}
 use Rattle.constantform.proofs.leaves.is_bool.Statement.{statement}
 use Rattle.constantform.proofs.leaves.is_bool.Tie as tie
 

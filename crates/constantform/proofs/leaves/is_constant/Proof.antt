@@ -1,7 +1,7 @@
 -- `leaves::is_constant` meets its contract.
 -- Assumes nothing.
+use Rattle.basis.proofs.Kit.{needs}
 use Rattle.constantform.proofs.LeafLaws.{constant-tag}
-use borrow.Author.Needs.{needs}
 use Rattle.constantform.proofs.leaves.is_constant.Statement.{statement}
 use Rattle.constantform.proofs.leaves.is_constant.Tie as tie
 

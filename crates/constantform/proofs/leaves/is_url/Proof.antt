@@ -1,7 +1,7 @@
 -- `leaves::is_url` meets its contract.
 -- Assumes nothing.
+use Rattle.basis.proofs.Kit.{needs}
 use Rattle.constantform.proofs.LeafLaws.{url-size}
-use borrow.Author.Needs.{needs}
 use Rattle.constantform.proofs.leaves.is_url.Statement.{statement}
 use Rattle.constantform.proofs.leaves.is_url.Tie as tie
 

@@ -1,12 +1,12 @@
 -- `count::count_item`, `count::count_message` and `count::count_items` meet their contracts. Each call is nearer to the last level.
 -- Assumes nothing.
-use Prim.Native.Nat.{_+_, _*_, _-_, ℕ, _<_}
+use Rattle.basis.specs.Kit.{ℕ, _+_, _-_, _*_, _<_}
+use Rattle.basis.proofs.Kit.{needs}
 use Rattle.field.specs.Walk.{walk}
 use Rattle.sheet.specs.Tree.{itemsIn}
 use Rattle.counts.specs.Declarations.{inItems, itemCount}
 use Rattle.field.proofs.Tally.{Tally, total}
 use Rattle.counts.proofs.DeclarationLaws.{item-count-laws, items-count-laws, message-count-laws}
-use borrow.Author.Needs.{needs}
 use borrow.Fn.Kinds.{In}
 use borrow.Fn.PlainCycle.{Measures, is, falls, and}
 use Rattle.counts.proofs.declarations.count_item.Reads as count-item

@@ -1,11 +1,11 @@
 -- `count::count` meets its contract.
 -- Assumes nothing.
-use Prim.Native.Nat.{_-_}
+use Rattle.basis.specs.Kit.{_-_}
+use Rattle.basis.proofs.Kit.{needs}
 use Rattle.sheet.specs.Tree.{treeOf}
 use Rattle.counts.specs.Declarations.{inSheet, fileCount}
 use Rattle.field.proofs.Tally.{Tally, total}
 use Rattle.counts.proofs.DeclarationLaws.{files-count-laws}
-use borrow.Author.Needs.{needs}
 use Rattle.counts.proofs.declarations.count.Statement.{statement}
 use Rattle.counts.proofs.declarations.count.Tie as tie
 

@@ -1,7 +1,7 @@
 -- `count::count_declared` meets its contract.
 -- Assumes nothing.
+use Rattle.basis.proofs.Kit.{needs}
 use Rattle.counts.proofs.DeclarationLaws.{declared-count-laws}
-use borrow.Author.Needs.{needs}
 use Rattle.counts.proofs.declarations.count_declared.Statement.{statement}
 use Rattle.counts.proofs.declarations.count_declared.Tie as tie
 

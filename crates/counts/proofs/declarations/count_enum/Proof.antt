@@ -1,7 +1,7 @@
 -- `count::count_enum` meets its contract.
 -- Assumes nothing.
+use Rattle.basis.proofs.Kit.{needs}
 use Rattle.counts.proofs.DeclarationLaws.{enum-count-laws}
-use borrow.Author.Needs.{needs}
 use Rattle.counts.proofs.declarations.count_enum.Statement.{statement}
 use Rattle.counts.proofs.declarations.count_enum.Tie as tie
 

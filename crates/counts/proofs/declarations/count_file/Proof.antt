@@ -1,7 +1,7 @@
 -- `count::count_file` meets its contract.
 -- Assumes nothing.
+use Rattle.basis.proofs.Kit.{needs}
 use Rattle.counts.proofs.DeclarationLaws.{file-count-laws}
-use borrow.Author.Needs.{needs}
 use Rattle.counts.proofs.declarations.count_file.Statement.{statement}
 use Rattle.counts.proofs.declarations.count_file.Tie as tie
 

@@ -1,7 +1,7 @@
 -- `count::count_value` meets its contract.
 -- Assumes nothing.
+use Rattle.basis.proofs.Kit.{needs}
 use Rattle.counts.proofs.DeclarationLaws.{value-count-laws}
-use borrow.Author.Needs.{needs}
 use Rattle.counts.proofs.declarations.count_value.Statement.{statement}
 use Rattle.counts.proofs.declarations.count_value.Tie as tie
 

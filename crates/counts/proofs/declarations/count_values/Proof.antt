@@ -1,13 +1,12 @@
 -- `count::count_values` meets its contract.
 -- Assumes nothing.
-use Prim.Native.Nat.{_-_}
-use lib.ListN.{length}
+use Rattle.basis.specs.Kit.{_-_, length}
+use Rattle.basis.proofs.Kit.{needs}
 use Rattle.field.specs.Walk.{walk}
 use Rattle.sheet.specs.Tree.{valuesIn}
 use Rattle.field.proofs.Tally.{Tally, total}
 use Rattle.counts.specs.Declarations.{valueCount}
 use Rattle.counts.proofs.DeclarationLaws.{values-count-laws}
-use borrow.Author.Needs.{needs}
 use Rattle.counts.proofs.declarations.count_values.Statement.{statement}
 use Rattle.counts.proofs.declarations.count_values.Tie as tie
 

@@ -1,7 +1,7 @@
 -- `count::one` meets its contract.
 -- Assumes nothing.
+use Rattle.basis.proofs.Kit.{needs}
 use Rattle.counts.proofs.DeclarationLaws.{one-laws}
-use borrow.Author.Needs.{needs}
 use Rattle.counts.proofs.declarations.one.Statement.{statement}
 use Rattle.counts.proofs.declarations.one.Tie as tie
 

@@ -1,11 +1,10 @@
 -- `counts::options::count_options` meets its contract.
 -- Assumes nothing.
-use Prim.Native.Nat.{_-_}
-use lib.ListN.{length}
+use Rattle.basis.specs.Kit.{_-_, length}
+use Rattle.basis.proofs.Kit.{needs}
 use Rattle.request.specs.Request.{requestOf}
 use Rattle.field.proofs.Tally.{Tally}
 use Rattle.counts.proofs.OptionLaws.{optionCount, options-laws}
-use borrow.Author.Needs.{needs}
 use Rattle.counts.proofs.options.count_options.Statement.{statement}
 use Rattle.counts.proofs.options.count_options.Tie as tie
 

@@ -1,11 +1,11 @@
 -- `counts::options::count_parts` meets its contract.
 -- Assumes nothing.
-use Prim.Native.Nat.{_-_}
+use Rattle.basis.specs.Kit.{_-_}
+use Rattle.basis.proofs.Kit.{needs}
 use Rattle.request.specs.Request.{requestOf}
 use Rattle.counts.specs.Options.{partsOf}
 use Rattle.field.proofs.Tally.{Tally}
 use Rattle.counts.proofs.OptionLaws.{nameCount, names-laws}
-use borrow.Author.Needs.{needs}
 use Rattle.counts.proofs.options.count_parts.Statement.{statement}
 use Rattle.counts.proofs.options.count_parts.Tie as tie
 

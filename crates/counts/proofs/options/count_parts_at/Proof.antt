@@ -1,10 +1,10 @@
 -- `counts::options::count_parts_at` meets its contract.
 -- Assumes nothing.
-use Prim.Native.Nat.{_-_}
+use Rattle.basis.specs.Kit.{_-_}
+use Rattle.basis.proofs.Kit.{needs}
 use Rattle.field.specs.Walk.{walk}
 use Rattle.field.proofs.Tally.{Tally}
 use Rattle.counts.proofs.OptionLaws.{partCount, parts-laws}
-use borrow.Author.Needs.{needs}
 use Rattle.counts.proofs.options.count_parts_at.Statement.{statement}
 use Rattle.counts.proofs.options.count_parts_at.Tie as tie
 

@@ -1,9 +1,8 @@
 -- `hex::digits::decode` meets its contract, by its loop's invariant and laws.
 -- Assumes nothing.
-use Prim.Native.Nat.{_-_}
-use lib.ListN.{length}
+use Rattle.basis.specs.Kit.{_-_, length}
+use Rattle.basis.proofs.Kit.{needs}
 use Rattle.hex.proofs.SpellingLaws.{Spelling, spelling-laws}
-use borrow.Author.Needs.{needs}
 use Rattle.hex.proofs.digits.decode.Statement.{statement}
 use Rattle.hex.proofs.digits.decode.Tie as tie
 

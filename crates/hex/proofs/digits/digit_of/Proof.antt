@@ -1,7 +1,7 @@
 -- `hex::digits::digit_of` meets its contract.
 -- Assumes nothing.
+use Rattle.basis.proofs.Kit.{needs}
 use Rattle.hex.proofs.DigitLaws.{digit-laws}
-use borrow.Author.Needs.{needs}
 use Rattle.hex.proofs.digits.digit_of.Statement.{statement}
 use Rattle.hex.proofs.digits.digit_of.Tie as tie
 

@@ -1,7 +1,7 @@
 -- `hex::digits::glyph` meets its contract.
 -- Assumes nothing.
+use Rattle.basis.proofs.Kit.{needs}
 use Rattle.hex.proofs.GlyphLaws.{glyph-laws}
-use borrow.Author.Needs.{needs}
 use Rattle.hex.proofs.digits.glyph.Statement.{statement}
 use Rattle.hex.proofs.digits.glyph.Tie as tie
 

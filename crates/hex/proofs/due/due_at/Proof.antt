@@ -1,7 +1,7 @@
 -- `hex::due::due_at` meets its contract.
 -- Assumes nothing.
+use Rattle.basis.proofs.Kit.{needs}
 use Rattle.hex.proofs.DueLaws.{due-laws}
-use borrow.Author.Needs.{needs}
 use Rattle.hex.proofs.due.due_at.Statement.{statement}
 use Rattle.hex.proofs.due.due_at.Tie as tie
 

@@ -1,7 +1,7 @@
 -- `hex::due::leaf_of` meets its contract.
 -- Assumes nothing.
+use Rattle.basis.proofs.Kit.{needs}
 use Rattle.hex.proofs.DueLaws.{due-leaf-laws}
-use borrow.Author.Needs.{needs}
 use Rattle.hex.proofs.due.leaf_of.Statement.{statement}
 use Rattle.hex.proofs.due.leaf_of.Tie as tie
 

@@ -1,13 +1,12 @@
 -- `hex::words::signed_words_of` meets its contract, by its loop's invariant and laws.
 -- Assumes nothing.
-use Prim.Native.Nat.{ℕ, _-_, _*_}
+use Rattle.basis.specs.Kit.{ℕ, _-_, _*_, length}
+use Rattle.basis.proofs.Kit.{needs}
 use lib.IntN.{pos}
-use lib.ListN.{length}
 use mir.Syntax.{w32}
 use mir.Val.{toZ}
 use Rattle.octets.specs.Octets.{bigAt}
 use Rattle.hex.proofs.WordLaws.{Filling, filling-laws}
-use borrow.Author.Needs.{needs}
 use Rattle.hex.proofs.words.signed_words_of.Statement.{statement}
 use Rattle.hex.proofs.words.signed_words_of.Tie as tie
 

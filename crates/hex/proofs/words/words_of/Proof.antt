@@ -1,10 +1,9 @@
 -- `hex::words::words_of` meets its contract, by its loop's invariant and laws.
 -- Assumes nothing.
-use Prim.Native.Nat.{ℕ, _-_, _*_}
-use lib.ListN.{length}
+use Rattle.basis.specs.Kit.{ℕ, _-_, _*_, length}
+use Rattle.basis.proofs.Kit.{needs}
 use Rattle.octets.specs.Octets.{bigAt}
 use Rattle.hex.proofs.WordLaws.{Filling, filling-laws}
-use borrow.Author.Needs.{needs}
 use Rattle.hex.proofs.words.words_of.Statement.{statement}
 use Rattle.hex.proofs.words.words_of.Tie as tie
 

@@ -1,7 +1,7 @@
 -- `lowering::fields::lower_fields` meets its contract.
 -- Assumes nothing.
+use Rattle.basis.proofs.Kit.{needs}
 use Rattle.lowering.proofs.FieldLaws.{fields-laws}
-use borrow.Author.Needs.{needs}
 use Rattle.lowering.proofs.fields.lower_fields.Statement.{statement}
 use Rattle.lowering.proofs.fields.lower_fields.Tie as tie
 

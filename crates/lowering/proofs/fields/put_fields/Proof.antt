@@ -1,9 +1,8 @@
 -- `lowering::fields::put_fields` meets its contract, by its loop's invariant and laws.
 -- Assumes nothing.
-use Prim.Native.Nat.{_-_}
-use lib.ListN.{length}
+use Rattle.basis.specs.Kit.{_-_, length}
+use Rattle.basis.proofs.Kit.{needs}
 use Rattle.lowering.proofs.FieldLaws.{Numbering, numbering-laws, numbering-optional}
-use borrow.Author.Needs.{needs}
 use Rattle.lowering.proofs.fields.put_fields.Statement.{statement}
 use Rattle.lowering.proofs.fields.put_fields.Tie as tie
 

@@ -1,7 +1,7 @@
 -- `lowering::ranges::end_of` meets its contract.
 -- Assumes nothing.
+use Rattle.basis.proofs.Kit.{needs}
 use Rattle.lowering.proofs.EndLaws.{end-laws}
-use borrow.Author.Needs.{needs}
 use Rattle.lowering.proofs.ranges.end_of.Statement.{statement}
 use Rattle.lowering.proofs.ranges.end_of.Tie as tie
 

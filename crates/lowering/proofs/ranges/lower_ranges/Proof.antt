@@ -1,7 +1,7 @@
 -- `lowering::ranges::lower_ranges` meets its contract.
 -- Assumes nothing.
+use Rattle.basis.proofs.Kit.{needs}
 use Rattle.lowering.proofs.RangeLaws.{ranges-laws}
-use borrow.Author.Needs.{needs}
 use Rattle.lowering.proofs.ranges.lower_ranges.Statement.{statement}
 use Rattle.lowering.proofs.ranges.lower_ranges.Tie as tie
 

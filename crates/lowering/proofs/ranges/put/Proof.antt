@@ -1,7 +1,7 @@
 -- `lowering::ranges::put` meets its contract.
 -- Assumes nothing.
+use Rattle.basis.proofs.Kit.{needs}
 use Rattle.octets.proofs.Overlay.{put-out}
-use borrow.Author.Needs.{needs}
 use Rattle.lowering.proofs.ranges.put.Statement.{statement}
 use Rattle.lowering.proofs.ranges.put.Tie as tie
 

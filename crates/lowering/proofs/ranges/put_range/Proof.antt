@@ -1,7 +1,7 @@
 -- `lowering::ranges::put_range` meets its contract.
 -- Assumes nothing.
+use Rattle.basis.proofs.Kit.{needs}
 use Rattle.lowering.proofs.RangeLaws.{range-put}
-use borrow.Author.Needs.{needs}
 use Rattle.lowering.proofs.ranges.put_range.Statement.{statement}
 use Rattle.lowering.proofs.ranges.put_range.Tie as tie
 

@@ -1,9 +1,8 @@
 -- `lowering::ranges::put_ranges` meets its contract, by its loop's invariant and laws.
 -- Assumes nothing.
-use Prim.Native.Nat.{_-_}
-use lib.ListN.{length}
+use Rattle.basis.specs.Kit.{_-_, length}
+use Rattle.basis.proofs.Kit.{needs}
 use Rattle.lowering.proofs.RangeLaws.{Ranging, ranging-laws}
-use borrow.Author.Needs.{needs}
 use Rattle.lowering.proofs.ranges.put_ranges.Statement.{statement}
 use Rattle.lowering.proofs.ranges.put_ranges.Tie as tie
 

@@ -1,7 +1,7 @@
 -- `protobuf_abs_path::is_abs` meets its contract.
 -- Assumes nothing.
+use Rattle.basis.proofs.Kit.{needs}
 use Rattle.path.proofs.AbsLaws.{abs-laws}
-use borrow.Author.Needs.{needs}
 use Rattle.path.proofs.protobuf_abs_path.is_abs.Statement.{statement}
 use Rattle.path.proofs.protobuf_abs_path.is_abs.Tie as tie
 

@@ -1,7 +1,7 @@
 -- `protobuf_abs_path::without_root` meets its contract.
 -- Assumes nothing.
+use Rattle.basis.proofs.Kit.{needs}
 use Rattle.path.proofs.AbsLaws.{abs-laws}
-use borrow.Author.Needs.{needs}
 use Rattle.path.proofs.protobuf_abs_path.without_root.Statement.{statement}
 use Rattle.path.proofs.protobuf_abs_path.without_root.Tie as tie
 

@@ -1,9 +1,8 @@
 -- `protobuf_ident::all_word` meets its contract.
 -- Assumes nothing.
-use Prim.Native.Nat.{_-_}
-use lib.ListN.{length}
+use Rattle.basis.specs.Kit.{_-_, length}
+use Rattle.basis.proofs.Kit.{needs}
 use Rattle.path.proofs.IdentLaws.{Words, words-laws}
-use borrow.Author.Needs.{needs}
 use Rattle.path.proofs.protobuf_ident.all_word.Statement.{statement}
 use Rattle.path.proofs.protobuf_ident.all_word.Tie as tie
 

@@ -1,7 +1,7 @@
 -- `protobuf_ident::is_ident` meets its contract.
 -- Assumes nothing.
+use Rattle.basis.proofs.Kit.{needs}
 use Rattle.path.proofs.IdentLaws.{ident-laws}
-use borrow.Author.Needs.{needs}
 use Rattle.path.proofs.protobuf_ident.is_ident.Statement.{statement}
 use Rattle.path.proofs.protobuf_ident.is_ident.Tie as tie
 

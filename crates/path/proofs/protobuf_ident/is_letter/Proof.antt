@@ -1,7 +1,7 @@
 -- `protobuf_ident::is_letter` meets its contract.
 -- Assumes nothing.
+use Rattle.basis.proofs.Kit.{needs}
 use Rattle.path.proofs.IdentLaws.{letter-is}
-use borrow.Author.Needs.{needs}
 use Rattle.path.proofs.protobuf_ident.is_letter.Statement.{statement}
 use Rattle.path.proofs.protobuf_ident.is_letter.Tie as tie
 

@@ -1,7 +1,7 @@
 -- `protobuf_ident::is_word` meets its contract.
 -- Assumes nothing.
+use Rattle.basis.proofs.Kit.{needs}
 use Rattle.path.proofs.IdentLaws.{word-is}
-use borrow.Author.Needs.{needs}
 use Rattle.path.proofs.protobuf_ident.is_word.Statement.{statement}
 use Rattle.path.proofs.protobuf_ident.is_word.Tie as tie
 

@@ -1,7 +1,7 @@
 -- `protobuf_rel_path::before` meets its contract.
 -- Assumes nothing.
+use Rattle.basis.proofs.Kit.{needs}
 use Rattle.path.proofs.Scans.{before-laws}
-use borrow.Author.Needs.{needs}
 use Rattle.path.proofs.protobuf_rel_path.before.Statement.{statement}
 use Rattle.path.proofs.protobuf_rel_path.before.Tie as tie
 

@@ -1,7 +1,7 @@
 -- `protobuf_rel_path::last_at` meets its contract.
 -- Assumes nothing.
+use Rattle.basis.proofs.Kit.{needs}
 use Rattle.path.proofs.Scans.{Tail, tail-laws}
-use borrow.Author.Needs.{needs}
 use Rattle.path.proofs.protobuf_rel_path.last_at.Statement.{statement}
 use Rattle.path.proofs.protobuf_rel_path.last_at.Tie as tie
 

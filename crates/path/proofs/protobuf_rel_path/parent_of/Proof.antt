@@ -1,7 +1,7 @@
 -- `protobuf_rel_path::parent_of` meets its contract.
 -- Assumes nothing.
+use Rattle.basis.proofs.Kit.{needs}
 use Rattle.path.proofs.Scans.{parent-laws}
-use borrow.Author.Needs.{needs}
 use Rattle.path.proofs.protobuf_rel_path.parent_of.Statement.{statement}
 use Rattle.path.proofs.protobuf_rel_path.parent_of.Tie as tie
 

@@ -1,7 +1,7 @@
 -- `constant::bool_of` meets its contract.
 -- Assumes nothing.
+use Rattle.basis.proofs.Kit.{needs}
 use Rattle.request.proofs.ConstantLaws.{bool-laws}
-use borrow.Author.Needs.{needs}
 use Rattle.request.proofs.constant.bool_of.Statement.{statement}
 use Rattle.request.proofs.constant.bool_of.Tie as tie
 

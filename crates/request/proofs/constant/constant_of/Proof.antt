@@ -1,7 +1,7 @@
 -- `constant::constant_of` meets its contract.
 -- Assumes nothing.
+use Rattle.basis.proofs.Kit.{needs}
 use Rattle.request.proofs.ConstantLaws.{constant-laws}
-use borrow.Author.Needs.{needs}
 use Rattle.request.proofs.constant.constant_of.Statement.{statement}
 use Rattle.request.proofs.constant.constant_of.Tie as tie
 

@@ -1,7 +1,7 @@
 -- `constant::float_of` meets its contract.
 -- Assumes nothing.
+use Rattle.basis.proofs.Kit.{needs}
 use Rattle.request.proofs.ConstantLaws.{float-laws}
-use borrow.Author.Needs.{needs}
 use Rattle.request.proofs.constant.float_of.Statement.{statement}
 use Rattle.request.proofs.constant.float_of.Tie as tie
 

@@ -1,7 +1,7 @@
 -- `constant::integer_of` meets its contract.
 -- Assumes nothing.
+use Rattle.basis.proofs.Kit.{needs}
 use Rattle.request.proofs.ConstantLaws.{signed-laws}
-use borrow.Author.Needs.{needs}
 use Rattle.request.proofs.constant.integer_of.Statement.{statement}
 use Rattle.request.proofs.constant.integer_of.Tie as tie
 

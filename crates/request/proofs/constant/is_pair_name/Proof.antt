@@ -1,7 +1,7 @@
 -- `constant::is_pair_name` meets its contract.
 -- Assumes nothing.
+use Rattle.basis.proofs.Kit.{needs}
 use Rattle.request.proofs.PairLaws.{pair-name-is}
-use borrow.Author.Needs.{needs}
 use Rattle.request.proofs.constant.is_pair_name.Statement.{statement}
 use Rattle.request.proofs.constant.is_pair_name.Tie as tie
 

@@ -1,7 +1,7 @@
 -- `constant::numeric_of` meets its contract.
 -- Assumes nothing.
+use Rattle.basis.proofs.Kit.{needs}
 use Rattle.request.proofs.ConstantLaws.{number-laws}
-use borrow.Author.Needs.{needs}
 use Rattle.request.proofs.constant.numeric_of.Statement.{statement}
 use Rattle.request.proofs.constant.numeric_of.Tie as tie
 

@@ -1,7 +1,7 @@
 -- `constant::pair_at` meets its contract.
 -- Assumes nothing.
+use Rattle.basis.proofs.Kit.{needs}
 use Rattle.request.proofs.PairLaws.{pair-laws}
-use borrow.Author.Needs.{needs}
 use Rattle.request.proofs.constant.pair_at.Statement.{statement}
 use Rattle.request.proofs.constant.pair_at.Tie as tie
 

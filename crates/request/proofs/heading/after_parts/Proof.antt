@@ -1,11 +1,11 @@
 -- `request::after_parts` meets its contract.
 -- Assumes nothing.
-use Prim.Native.Nat.{_-_}
+use Rattle.basis.specs.Kit.{_-_}
+use Rattle.basis.proofs.Kit.{needs}
 use Rattle.field.specs.Walk.{walk}
 use Rattle.field.proofs.Rest.{Rest}
 use Rattle.request.specs.Name.{afterParts}
 use Rattle.request.proofs.RequestLaws.{after-laws}
-use borrow.Author.Needs.{needs}
 use Rattle.request.proofs.heading.after_parts.Statement.{statement}
 use Rattle.request.proofs.heading.after_parts.Tie as tie
 

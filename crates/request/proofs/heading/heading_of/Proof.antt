@@ -1,7 +1,7 @@
 -- `request::heading_of` meets its contract.
 -- Assumes nothing.
+use Rattle.basis.proofs.Kit.{needs}
 use Rattle.request.proofs.RequestLaws.{heading-laws}
-use borrow.Author.Needs.{needs}
 use Rattle.request.proofs.heading.heading_of.Statement.{statement}
 use Rattle.request.proofs.heading.heading_of.Tie as tie
 

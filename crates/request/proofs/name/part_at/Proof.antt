@@ -1,7 +1,7 @@
 -- `name::part_at` meets its contract.
 -- Assumes nothing.
+use Rattle.basis.proofs.Kit.{needs}
 use Rattle.request.proofs.PartLaws.{part-laws}
-use borrow.Author.Needs.{needs}
 use Rattle.request.proofs.name.part_at.Statement.{statement}
 use Rattle.request.proofs.name.part_at.Tie as tie
 

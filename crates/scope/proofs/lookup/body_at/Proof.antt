@@ -1,7 +1,7 @@
 -- `lookup::body_at` meets its contract.
 -- Assumes nothing.
+use Rattle.basis.proofs.Kit.{needs}
 use Rattle.scope.proofs.LookupLaws.{body-at-laws}
-use borrow.Author.Needs.{needs}
 use Rattle.scope.proofs.lookup.body_at.Statement.{statement}
 use Rattle.scope.proofs.lookup.body_at.Tie as tie
 

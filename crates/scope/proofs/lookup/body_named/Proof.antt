@@ -1,11 +1,11 @@
 -- `lookup::body_named` meets its contract.
 -- Assumes nothing.
-use Prim.Native.Nat.{_-_}
+use Rattle.basis.specs.Kit.{_-_}
+use Rattle.basis.proofs.Kit.{needs}
 use Rattle.field.specs.declared.Leaf.the-variants.{Not}
 use Rattle.scope.specs.inner.Steps.{tellsLeaf, firstOf, bodyAt}
 use Rattle.field.proofs.Seek.{Seeking}
 use Rattle.scope.proofs.LookupLaws.{body-named-laws}
-use borrow.Author.Needs.{needs}
 use Rattle.scope.proofs.lookup.body_named.Statement.{statement}
 use Rattle.scope.proofs.lookup.body_named.Tie as tie
 

@@ -1,7 +1,7 @@
 -- `lookup::down` meets its contract.
 -- Assumes nothing.
+use Rattle.basis.proofs.Kit.{needs}
 use Rattle.scope.proofs.LookupLaws.{down-laws}
-use borrow.Author.Needs.{needs}
 use Rattle.scope.proofs.lookup.down.Statement.{statement}
 use Rattle.scope.proofs.lookup.down.Tie as tie
 

@@ -1,7 +1,7 @@
 -- `lookup::enum_named` meets its contract.
 -- Assumes nothing.
+use Rattle.basis.proofs.Kit.{needs}
 use Rattle.scope.proofs.LookupLaws.{enum-named-is}
-use borrow.Author.Needs.{needs}
 use Rattle.scope.proofs.lookup.enum_named.Statement.{statement}
 use Rattle.scope.proofs.lookup.enum_named.Tie as tie
 

@@ -1,7 +1,7 @@
 -- `lookup::named_at` meets its contract.
 -- Assumes nothing.
+use Rattle.basis.proofs.Kit.{needs}
 use Rattle.scope.proofs.LookupLaws.{named-at-laws}
-use borrow.Author.Needs.{needs}
 use Rattle.scope.proofs.lookup.named_at.Statement.{statement}
 use Rattle.scope.proofs.lookup.named_at.Tie as tie
 

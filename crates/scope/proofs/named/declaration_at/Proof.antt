@@ -1,7 +1,7 @@
 -- `named::declaration_at` meets its contract.
 -- Assumes nothing.
+use Rattle.basis.proofs.Kit.{needs}
 use Rattle.scope.proofs.NamedLaws.{declaration-at-laws}
-use borrow.Author.Needs.{needs}
 use Rattle.scope.proofs.named.declaration_at.Statement.{statement}
 use Rattle.scope.proofs.named.declaration_at.Tie as tie
 

@@ -1,12 +1,12 @@
 -- `named::declaration_named` meets its contract.
 -- Assumes nothing.
-use Prim.Native.Nat.{_-_}
+use Rattle.basis.specs.Kit.{_-_}
+use Rattle.basis.proofs.Kit.{needs}
 use Rattle.sheet.specs.declared.declaration.Declared.the-variants.{NoDeclaration}
 use Rattle.field.proofs.Seek.{Seeking}
 use Rattle.field.specs.Leaf.{isText}
 use Rattle.scope.specs.inner.Steps.{tellsDeclared, firstOf}
 use Rattle.scope.proofs.NamedLaws.{declarationWhere, declaration-named-laws}
-use borrow.Author.Needs.{needs}
 use Rattle.scope.proofs.named.declaration_named.Statement.{statement}
 use Rattle.scope.proofs.named.declaration_named.Tie as tie
 

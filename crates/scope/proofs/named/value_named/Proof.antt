@@ -1,11 +1,11 @@
 -- `named::value_named` meets its contract.
 -- Assumes nothing.
-use Prim.Native.Nat.{_-_}
+use Rattle.basis.specs.Kit.{_-_}
+use Rattle.basis.proofs.Kit.{needs}
 use Rattle.sheet.specs.declared.declaration.Valued.the-variants.{NoValue}
 use Rattle.scope.specs.inner.Steps.{tellsValued, firstOf, valueNamedAt}
 use Rattle.field.proofs.Seek.{Seeking}
 use Rattle.scope.proofs.NamedLaws.{value-named-laws}
-use borrow.Author.Needs.{needs}
 use Rattle.scope.proofs.named.value_named.Statement.{statement}
 use Rattle.scope.proofs.named.value_named.Tie as tie
 

@@ -1,7 +1,7 @@
 -- `extension::ext_resolve_field_ext` meets its contract.
 -- Assumes nothing.
+use Rattle.basis.proofs.Kit.{needs}
 use Rattle.search.proofs.ExtensionLaws.{resolve-laws}
-use borrow.Author.Needs.{needs}
 use Rattle.search.proofs.extension.ext_resolve_field_ext.Statement.{statement}
 use Rattle.search.proofs.extension.ext_resolve_field_ext.Tie as tie
 

@@ -1,7 +1,7 @@
 -- `extension::find_extension_by_path` meets its contract.
 -- Assumes nothing.
+use Rattle.basis.proofs.Kit.{needs}
 use Rattle.search.proofs.ExtensionLaws.{extension-by-path-laws}
-use borrow.Author.Needs.{needs}
 use Rattle.search.proofs.extension.find_extension_by_path.Statement.{statement}
 use Rattle.search.proofs.extension.find_extension_by_path.Tie as tie
 

@@ -1,10 +1,10 @@
 -- `extension::first_extension` meets its contract.
 -- Assumes nothing.
-use lib.ListN.{length}
+use Rattle.basis.specs.Kit.{length}
+use Rattle.basis.proofs.Kit.{needs}
 use Rattle.search.specs.inner.Cursor.{ahead}
 use Rattle.search.proofs.Left.{Left}
 use Rattle.search.proofs.ExtensionLaws.{namedIn, first-extension-laws}
-use borrow.Author.Needs.{needs}
 use Rattle.search.proofs.extension.first_extension.Statement.{statement}
 use Rattle.search.proofs.extension.first_extension.Tie as tie
 

@@ -1,10 +1,10 @@
 -- `extension::try_candidates` meets its contract.
 -- Assumes nothing.
-use Prim.Native.Nat.{_-_}
+use Rattle.basis.specs.Kit.{_-_}
+use Rattle.basis.proofs.Kit.{needs}
 use Rattle.candidates.specs.Candidates.{candidates}
 use Rattle.search.specs.Lookup.{tried}
 use Rattle.search.proofs.ExtensionLaws.{Trying, try-candidates-laws}
-use borrow.Author.Needs.{needs}
 use Rattle.search.proofs.extension.try_candidates.Statement.{statement}
 use Rattle.search.proofs.extension.try_candidates.Tie as tie
 

@@ -1,7 +1,7 @@
 -- `full_name::enum_in` meets its contract.
 -- Assumes nothing.
+use Rattle.basis.proofs.Kit.{needs}
 use Rattle.search.proofs.FullNameLaws.{enum-in-laws}
-use borrow.Author.Needs.{needs}
 use Rattle.search.proofs.full_name.enum_in.Statement.{statement}
 use Rattle.search.proofs.full_name.enum_in.Tie as tie
 

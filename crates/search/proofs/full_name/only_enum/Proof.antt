@@ -1,7 +1,7 @@
 -- `full_name::only_enum` meets its contract.
 -- Assumes nothing.
+use Rattle.basis.proofs.Kit.{needs}
 use Rattle.search.proofs.FullNameLaws.{only-enum-laws}
-use borrow.Author.Needs.{needs}
 use Rattle.search.proofs.full_name.only_enum.Statement.{statement}
 use Rattle.search.proofs.full_name.only_enum.Tie as tie
 

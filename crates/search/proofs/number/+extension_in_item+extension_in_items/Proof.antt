@@ -1,12 +1,12 @@
 -- `number::extension_in_item` and `number::extension_in_items` meet their contracts. Each call is nearer to the last level.
 -- Assumes nothing.
-use Prim.Native.Nat.{_+_, _*_, _-_, ℕ, _<_}
+use Rattle.basis.specs.Kit.{ℕ, _+_, _-_, _*_, _<_}
+use Rattle.basis.proofs.Kit.{needs}
 use Rattle.field.proofs.Seek.{Seeking}
 use Rattle.sheet.specs.declared.declaration.Declared.the-variants.{NoDeclaration}
 use Rattle.scope.specs.inner.Steps.{tellsDeclared, firstOf}
 use Rattle.search.specs.Number.{isExtensionOf}
 use Rattle.search.proofs.NumberLaws.{itemWhere, in-item-laws, in-items-laws}
-use borrow.Author.Needs.{needs}
 use borrow.Fn.Kinds.{In}
 use borrow.Fn.PlainCycle.{Measures, is, falls, and}
 use Rattle.search.proofs.number.extension_in_item.Reads as in-item

@@ -1,7 +1,7 @@
 -- `number::declaration_of` meets its contract.
 -- Assumes nothing.
+use Rattle.basis.proofs.Kit.{needs}
 use Rattle.search.proofs.NumberLaws.{declaration-of-laws}
-use borrow.Author.Needs.{needs}
 use Rattle.search.proofs.number.declaration_of.Statement.{statement}
 use Rattle.search.proofs.number.declaration_of.Tie as tie
 

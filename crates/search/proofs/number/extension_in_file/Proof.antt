@@ -1,7 +1,7 @@
 -- `number::extension_in_file` meets its contract.
 -- Assumes nothing.
+use Rattle.basis.proofs.Kit.{needs}
 use Rattle.search.proofs.NumberLaws.{in-file-laws}
-use borrow.Author.Needs.{needs}
 use Rattle.search.proofs.number.extension_in_file.Statement.{statement}
 use Rattle.search.proofs.number.extension_in_file.Tie as tie
 

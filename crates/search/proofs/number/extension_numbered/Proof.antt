@@ -1,12 +1,12 @@
 -- `number::extension_numbered` meets its contract.
 -- Assumes nothing.
-use Prim.Native.Nat.{_-_}
+use Rattle.basis.specs.Kit.{_-_}
+use Rattle.basis.proofs.Kit.{needs}
 use Rattle.field.proofs.Seek.{Seeking}
 use Rattle.sheet.specs.declared.declaration.Declared.the-variants.{NoDeclaration}
 use Rattle.search.specs.Number.{isExtensionOf}
 use Rattle.scope.specs.inner.Steps.{tellsDeclared, firstOf}
 use Rattle.search.proofs.NumberLaws.{fileWhere, extension-numbered-laws}
-use borrow.Author.Needs.{needs}
 use Rattle.search.proofs.number.extension_numbered.Statement.{statement}
 use Rattle.search.proofs.number.extension_numbered.Tie as tie
 

@@ -1,14 +1,14 @@
 -- `number::field_numbered` meets its contract.
 -- Assumes nothing.
+use Rattle.basis.specs.Kit.{_-_}
+use Rattle.basis.proofs.Kit.{needs}
 use Rattle.sheet.specs.Table.{fieldTag}
-use Prim.Native.Nat.{_-_}
 use Rattle.field.proofs.Seek.{Seeking}
 use Rattle.sheet.specs.declared.declaration.Declared.the-variants.{NoDeclaration}
 use Rattle.search.specs.Number.{hasNumber}
 use Rattle.scope.specs.inner.Steps.{tellsDeclared, firstOf}
 use Rattle.scope.proofs.NamedLaws.{declarationWhere}
 use Rattle.search.proofs.NumberLaws.{field-numbered-laws}
-use borrow.Author.Needs.{needs}
 use Rattle.search.proofs.number.field_numbered.Statement.{statement}
 use Rattle.search.proofs.number.field_numbered.Tie as tie
 

@@ -1,12 +1,11 @@
 -- `scopes::follow` meets its contract.
 -- Assumes nothing.
-use Prim.Native.Nat.{suc, _-_}
-use lib.ListN.{length}
+use Rattle.basis.specs.Kit.{suc, _-_, length}
+use Rattle.basis.proofs.Kit.{needs}
 use Rattle.path.specs.inner.Places.{namesFrom}
 use Rattle.scope.specs.Scope.{holding}
 use Rattle.search.specs.Scopes.{follow}
 use Rattle.search.proofs.ScopesLaws.{Following, follow-laws}
-use borrow.Author.Needs.{needs}
 use Rattle.search.proofs.scopes.follow.Statement.{statement}
 use Rattle.search.proofs.scopes.follow.Tie as tie
 

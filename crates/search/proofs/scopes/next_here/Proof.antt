@@ -1,9 +1,9 @@
 -- `scopes::next_here` meets its contract.
 -- Assumes nothing.
-use Prim.Native.Nat.{_-_}
+use Rattle.basis.specs.Kit.{_-_}
+use Rattle.basis.proofs.Kit.{needs}
 use Rattle.search.specs.inner.Cursor.{here}
 use Rattle.search.proofs.CursorLaws.{Onward, here-laws}
-use borrow.Author.Needs.{needs}
 use Rattle.search.proofs.scopes.next_here.Statement.{statement}
 use Rattle.search.proofs.scopes.next_here.Tie as tie
 

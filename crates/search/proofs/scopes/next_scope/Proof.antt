@@ -1,10 +1,9 @@
 -- `scopes::next_scope` meets its contract.
 -- Assumes nothing.
-use Prim.Native.Nat.{suc, _-_}
-use lib.ListN.{length}
+use Rattle.basis.specs.Kit.{suc, _-_, length}
+use Rattle.basis.proofs.Kit.{needs}
 use Rattle.search.specs.inner.Cursor.{ahead}
 use Rattle.search.proofs.CursorLaws.{Onward, scopes-laws}
-use borrow.Author.Needs.{needs}
 use Rattle.search.proofs.scopes.next_scope.Statement.{statement}
 use Rattle.search.proofs.scopes.next_scope.Tie as tie
 

@@ -1,7 +1,7 @@
 -- `scopes::package_at` meets its contract.
 -- Assumes nothing.
+use Rattle.basis.proofs.Kit.{needs}
 use Rattle.search.proofs.ScopesLaws.{package-laws}
-use borrow.Author.Needs.{needs}
 use Rattle.search.proofs.scopes.package_at.Statement.{statement}
 use Rattle.search.proofs.scopes.package_at.Tie as tie
 

@@ -1,7 +1,7 @@
 -- `scopes::scope_at` meets its contract.
 -- Assumes nothing.
+use Rattle.basis.proofs.Kit.{needs}
 use Rattle.search.proofs.ScopesLaws.{scope-laws}
-use borrow.Author.Needs.{needs}
 use Rattle.search.proofs.scopes.scope_at.Statement.{statement}
 use Rattle.search.proofs.scopes.scope_at.Tie as tie
 

@@ -1,7 +1,7 @@
 -- `scopes::start` meets its contract.
 -- Assumes nothing.
+use Rattle.basis.proofs.Kit.{needs}
 use Rattle.search.proofs.ScopesLaws.{start-laws}
-use borrow.Author.Needs.{needs}
 use Rattle.search.proofs.scopes.start.Statement.{statement}
 use Rattle.search.proofs.scopes.start.Tie as tie
 

@@ -1,7 +1,7 @@
 -- `declaration::extension_at` meets its contract.
 -- Assumes nothing.
+use Rattle.basis.proofs.Kit.{needs}
 use Rattle.sheet.proofs.DeclarationLaws.{extension-laws}
-use borrow.Author.Needs.{needs}
 use Rattle.sheet.proofs.declaration.extension_at.Statement.{statement}
 use Rattle.sheet.proofs.declaration.extension_at.Tie as tie
 

@@ -1,7 +1,7 @@
 -- `declaration::has_type_path` meets its contract.
 -- Assumes nothing.
+use Rattle.basis.proofs.Kit.{needs}
 use Rattle.sheet.proofs.ShapeLaws.{has-type-path}
-use borrow.Author.Needs.{needs}
 use Rattle.sheet.proofs.declaration.has_type_path.Statement.{statement}
 use Rattle.sheet.proofs.declaration.has_type_path.Tie as tie
 

@@ -1,7 +1,7 @@
 -- `declaration::message_field_at` meets its contract.
 -- Assumes nothing.
+use Rattle.basis.proofs.Kit.{needs}
 use Rattle.sheet.proofs.DeclarationLaws.{field-laws}
-use borrow.Author.Needs.{needs}
 use Rattle.sheet.proofs.declaration.message_field_at.Statement.{statement}
 use Rattle.sheet.proofs.declaration.message_field_at.Tie as tie
 

@@ -1,8 +1,8 @@
 -- `declaration::shape_at` meets its contract.
 -- Assumes nothing.
+use Rattle.basis.proofs.Kit.{needs}
 use Rattle.sheet.proofs.ShapeLaws.{shape-laws}
 use Rattle.field.proofs.LeafLaws.{size-laws}
-use borrow.Author.Needs.{needs}
 use Rattle.sheet.proofs.declaration.shape_at.Statement.{statement}
 use Rattle.sheet.proofs.declaration.shape_at.Tie as tie
 

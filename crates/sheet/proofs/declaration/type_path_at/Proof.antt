@@ -1,7 +1,7 @@
 -- `declaration::type_path_at` meets its contract.
 -- Assumes nothing.
+use Rattle.basis.proofs.Kit.{needs}
 use Rattle.sheet.proofs.ShapeLaws.{type-path-laws}
-use borrow.Author.Needs.{needs}
 use Rattle.sheet.proofs.declaration.type_path_at.Statement.{statement}
 use Rattle.sheet.proofs.declaration.type_path_at.Tie as tie
 

@@ -1,7 +1,7 @@
 -- `declaration::value_at` meets its contract.
 -- Assumes nothing.
+use Rattle.basis.proofs.Kit.{needs}
 use Rattle.sheet.proofs.DeclarationLaws.{value-laws}
-use borrow.Author.Needs.{needs}
 use Rattle.sheet.proofs.declaration.value_at.Statement.{statement}
 use Rattle.sheet.proofs.declaration.value_at.Tie as tie
 

@@ -1,7 +1,7 @@
 -- `vectors::case::begins` meets its contract.
 -- Assumes nothing.
+use Rattle.basis.proofs.Kit.{needs}
 use Rattle.console.proofs.OutputLaws.{front-laws}
-use borrow.Author.Needs.{needs}
 use Rattle.vectors.proofs.case.begins.Statement.{statement}
 use Rattle.vectors.proofs.case.begins.Tie as tie
 

@@ -1,7 +1,7 @@
 -- `vectors::encoding::put` meets its contract.
 -- Assumes nothing.
+use Rattle.basis.proofs.Kit.{needs}
 use Rattle.vectors.proofs.CaseLaws.{varint-end}
-use borrow.Author.Needs.{needs}
 use Rattle.vectors.proofs.encoding.put.Statement.{statement}
 use Rattle.vectors.proofs.encoding.put.Tie as tie
 

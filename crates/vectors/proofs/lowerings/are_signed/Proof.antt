@@ -1,9 +1,8 @@
 -- `vectors::lowerings::are_signed` meets its contract, by its loop's invariant and laws.
 -- Assumes nothing.
-use Prim.Native.Nat.{_-_}
-use lib.ListN.{length}
+use Rattle.basis.specs.Kit.{_-_, length}
+use Rattle.basis.proofs.Kit.{needs}
 use Rattle.vectors.proofs.CaseLaws.{case-laws}
-use borrow.Author.Needs.{needs}
 use Rattle.vectors.proofs.lowerings.are_signed.Statement.{statement}
 use Rattle.vectors.proofs.lowerings.are_signed.Tie as tie
 

@@ -1,7 +1,7 @@
 -- `vectors::lowerings::ranges` meets its contract.
 -- Assumes nothing.
+use Rattle.basis.proofs.Kit.{needs}
 use Rattle.vectors.proofs.CaseLaws.{case-laws}
-use borrow.Author.Needs.{needs}
 use Rattle.vectors.proofs.lowerings.ranges.Statement.{statement}
 use Rattle.vectors.proofs.lowerings.ranges.Tie as tie
 

@@ -1,7 +1,7 @@
 -- `vectors::lowerings::ranges_over` meets its contract.
 -- Assumes nothing.
+use Rattle.basis.proofs.Kit.{needs}
 use Rattle.vectors.proofs.CaseLaws.{case-laws}
-use borrow.Author.Needs.{needs}
 use Rattle.vectors.proofs.lowerings.ranges_over.Statement.{statement}
 use Rattle.vectors.proofs.lowerings.ranges_over.Tie as tie
 

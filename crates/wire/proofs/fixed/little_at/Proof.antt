@@ -1,7 +1,7 @@
 -- `wire::fixed::little_at` meets its contract, by its loop's invariant and laws.
 -- Assumes nothing.
+use Rattle.basis.proofs.Kit.{needs}
 use Rattle.wire.proofs.FixedLoops.{Summing, summing-laws}
-use borrow.Author.Needs.{needs}
 use Rattle.wire.proofs.fixed.little_at.Statement.{statement}
 use Rattle.wire.proofs.fixed.little_at.Tie as tie
 

@@ -1,8 +1,8 @@
 -- `wire::fixed::put_little` meets its contract, by its loop's invariant and laws.
 -- Assumes nothing.
-use Prim.Native.Nat.{_-_}
+use Rattle.basis.specs.Kit.{_-_}
+use Rattle.basis.proofs.Kit.{needs}
 use Rattle.wire.proofs.FixedLoops.{Filling, filling-laws}
-use borrow.Author.Needs.{needs}
 use Rattle.wire.proofs.fixed.put_little.Statement.{statement}
 use Rattle.wire.proofs.fixed.put_little.Tie as tie
 

@@ -1,7 +1,7 @@
 -- `wire::numbers::unzigzag` meets its contract.
 -- Assumes nothing.
+use Rattle.basis.proofs.Kit.{needs}
 use Rattle.wire.proofs.NumberLaws.{number-laws}
-use borrow.Author.Needs.{needs}
 use Rattle.wire.proofs.numbers.unzigzag.Statement.{statement}
 use Rattle.wire.proofs.numbers.unzigzag.Tie as tie
 

@@ -1,7 +1,7 @@
 -- `wire::numbers::widen32` meets its contract.
 -- Assumes nothing.
+use Rattle.basis.proofs.Kit.{needs}
 use Rattle.wire.proofs.NumberLaws.{number-laws}
-use borrow.Author.Needs.{needs}
 use Rattle.wire.proofs.numbers.widen32.Statement.{statement}
 use Rattle.wire.proofs.numbers.widen32.Tie as tie
 

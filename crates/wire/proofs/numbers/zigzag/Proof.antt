@@ -1,7 +1,7 @@
 -- `wire::numbers::zigzag` meets its contract.
 -- Assumes nothing.
+use Rattle.basis.proofs.Kit.{needs}
 use Rattle.wire.proofs.NumberLaws.{number-laws}
-use borrow.Author.Needs.{needs}
 use Rattle.wire.proofs.numbers.zigzag.Statement.{statement}
 use Rattle.wire.proofs.numbers.zigzag.Tie as tie
 

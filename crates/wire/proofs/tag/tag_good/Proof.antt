@@ -1,7 +1,7 @@
 -- `wire::tag::tag_good` meets its contract.
 -- Assumes nothing.
+use Rattle.basis.proofs.Kit.{needs}
 use Rattle.wire.proofs.TagLaws.{tag-good-is}
-use borrow.Author.Needs.{needs}
 use Rattle.wire.proofs.tag.tag_good.Statement.{statement}
 use Rattle.wire.proofs.tag.tag_good.Tie as tie
 

@@ -1,7 +1,7 @@
 -- `wire::varint::put_varint` meets its contract, by its loop's invariant and laws.
 -- Assumes nothing.
+use Rattle.basis.proofs.Kit.{needs}
 use Rattle.wire.proofs.VarintLoops.{Writing, writing-laws}
-use borrow.Author.Needs.{needs}
 use Rattle.wire.proofs.varint.put_varint.Statement.{statement}
 use Rattle.wire.proofs.varint.put_varint.Tie as tie
 

@@ -1,8 +1,8 @@
 -- `wire::varint::varint_at` meets its contract, by its loop's invariant and laws.
 -- Assumes nothing.
-use Prim.Native.Nat.{_-_}
+use Rattle.basis.specs.Kit.{_-_}
+use Rattle.basis.proofs.Kit.{needs}
 use Rattle.wire.proofs.VarintReading.{Reading, reading-laws}
-use borrow.Author.Needs.{needs}
 use Rattle.wire.proofs.varint.varint_at.Statement.{statement}
 use Rattle.wire.proofs.varint.varint_at.Tie as tie
 

@@ -1,7 +1,7 @@
 -- `wire::varint::varint_len` meets its contract, by its loop's invariant and laws.
 -- Assumes nothing.
+use Rattle.basis.proofs.Kit.{needs}
 use Rattle.wire.proofs.VarintLoops.{Counting, counting-laws}
-use borrow.Author.Needs.{needs}
 use Rattle.wire.proofs.varint.varint_len.Statement.{statement}
 use Rattle.wire.proofs.varint.varint_len.Tie as tie
 
