@@ -163,6 +163,10 @@ module _ (t : List ℕ) (p : Span) (r : Leaf) (q : r ≡ spanIn t p) (a e : ℕ)
   pub span-within : e ≤ length t
   span-within = span-inside t p a e (sym g ∙ q) .within
 
+-- ---- none_of: no bytes, wherever they start
+pub empty-part : (s : List ℕ) (a : ℕ) → part s a a ≡ []
+empty-part s a = let none : a - a ≡ 0 = omega arith in rw none
+
 -- ---- found_name
 module _ (s t : List ℕ) (c p : Span) (b o : ℕ) (x : List ℕ) (b′ o′ : ℕ) (r : Leaf) (q : r ≡ spanIn t c) where
   pub name-no-scope : r ≡ Not → PartOf noBytes s b o x b′ o′ → PartOf (nameSpanFor s t c p) s b o x b′ o′

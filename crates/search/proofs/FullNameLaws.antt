@@ -23,8 +23,8 @@ use Rattle.search.specs.declared.full_name.LookedUpEnum.the-variants.{Va
 use Rattle.basis.specs.First.{onlyIf, told, onto, collect}
 use Rattle.scope.specs.Scope.{Scope, holding, enumNamed, bodied}
 use Rattle.search.specs.Scopes.{scopes}
-use Rattle.search.specs.inner.Cursor.{ahead, startOf, Stands, Nexts}
-use Rattle.search.specs.Lookup.{messageOf, messagesAt, enumsAt, lookedUp, lookedUpEnum}
+use Rattle.search.specs.inner.Cursor.{ahead, startOf, Nexts}
+use Rattle.search.specs.Lookup.{messagesAt, enumsAt, lookedUp, lookedUpEnum}
 use Rattle.search.specs.inner.Ahead.{kept, passing, isMessage, declaresEnum}
 use Rattle.scope.proofs.Held.{enum-at, enum-not}
 use Rattle.search.proofs.CursorLaws.{nexts-no-more, nexts-at, nexts-stands, nexts-lies}

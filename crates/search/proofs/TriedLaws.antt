@@ -1,6 +1,9 @@
 -- What a look-up of an extension answers against what there is: back from the answer, and the search with its positions left out.
 -- Assumes nothing.
-use Rattle.basis.specs.Kit.{_≡_, refl, sym, ap, _∙_, List, [], _∷_, Option, none, some, ℕ, _+_}
+use mathlib.Core.Path.{_≡_, refl, ap, _∙_}
+use mathlib.Core.List.{List, [], _∷_}
+use mathlib.Core.Option.{Option, none, some}
+use Prim.Native.Nat.{ℕ, _+_}
 use Rattle.basis.proofs.Never.{never}
 use Rattle.basis.specs.First.{given, orElse, firstSome}
 use Rattle.reply.specs.declared.Refusal.{Refusal}
@@ -9,11 +12,10 @@ use Rattle.path.specs.Path.{Path}
 use Rattle.candidates.specs.Candidates.{candidates}
 use Rattle.search.specs.declared.extension.Found.{Found}
 use Rattle.search.specs.declared.extension.Candidate.{Candidate}
-use Rattle.search.specs.declared.extension.Tried.{Tried}
 use Rattle.search.specs.declared.extension.Tried.the-variants as attempt
 use Rattle.search.specs.declared.extension.Resolved.{Resolved}
 use Rattle.search.specs.declared.extension.Resolved.the-variants.{Field, Refused}
-use Rattle.search.specs.Lookup.{foundAt, foundAmong, orNotFound, findExtensionByAbsPath, tried, resolved, findExtensionByPath}
+use Rattle.search.specs.Lookup.{foundAt, foundAmong, orNotFound, tried, resolved, findExtensionByPath}
 
 -- ---- back from an answer
 module _ (o : Option Found) (r : Resolved) (q : r ≡ orNotFound Field Refused o) where
