@@ -2,7 +2,7 @@
 ghost use mathlib.Core.Path.{_≡_};
 ghost use Prim.Native.Nat.{_≤_};
 ghost use lib.ListN.{length};
-ghost use Rattle.hex.specs.Due.{dueAt, leafOf};
+ghost use Rattle.hex.specs.Due.{dueAt, dueLeaf};
 use field::Field;
 use field::Leaf;
 
@@ -40,8 +40,8 @@ pub fn due_at(s: &[u8], at: usize, tag: u8) -> Due
 }
 
 // The field that was due, where it is there.
-pub fn leaf_of(due: Due) -> Leaf
-    ensures { λ r. ⌜ r ≡ leafOf due ⌝ }
+pub fn due_leaf(due: Due) -> Leaf
+    ensures { λ r. ⌜ r ≡ dueLeaf due ⌝ }
 {
     match due {
         Due::Here { from, to } => Leaf::At { from: from, to: to },

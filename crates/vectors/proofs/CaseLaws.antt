@@ -1,4 +1,4 @@
--- What the program knows of an example: where its fields lie, that words were read from them, and that no more examples hold than there are.
+-- What the program knows of an example: where its fields lie, and that words were read from them; no more examples hold than there are.
 -- Assumes nothing.
 use mathlib.Core.Path.{_≡_}
 use mathlib.Core.Bool.{Bool}
