@@ -3,8 +3,8 @@
 
 usage: vectors.py > crates/vectors/stdin
 
-An example is a field 60 that holds 61 what is run, 62 its label, 63 to 65 what is given, 66 and 67 what is wanted; what a kind does not take
-is left out. Every expected value is written here by hand from its document. crates/vectors/src says what is done with each kind.
+An example is a field 60 that holds 61 what is run, 62 its label, 63 to 65 what is given, 66 and 67 what is wanted; what a kind has
+no use for is left out. Every expected value is written here by hand from its document. crates/vectors/src says what is done with each kind.
 """
 import struct
 

@@ -8,7 +8,7 @@ use Rattle.field.specs.declared.Leaf.the-variants.{At}
 use Rattle.field.specs.Leaf.{anyBytes, leafAt}
 use Rattle.field.proofs.LeafLaws.{leaf-ordered, leaf-inside}
 use Rattle.hex.specs.declared.due.Due.{Due}
-use Rattle.hex.specs.Due.{dueAt, leafOf}
+use Rattle.hex.specs.Due.{dueAt, dueLeaf}
 use Rattle.hex.proofs.DueLaws.{due-leaf}
 use Rattle.hex.proofs.WordLaws.{words-count}
 use Rattle.console.specs.declared.input.Input.{Input}
@@ -26,9 +26,9 @@ size-no n size e = sym (ne-eqb n size e)
 pub ruleset size-told-laws = (size-yes, size-no)
 
 -- ---- `field_of`
-pub leaf-due : (k : ℕ) (s : List ℕ) (at : ℕ) (d : Due) → d ≡ dueAt k s at → (r : Leaf) → r ≡ leafOf d
+pub leaf-due : (k : ℕ) (s : List ℕ) (at : ℕ) (d : Due) → d ≡ dueAt k s at → (r : Leaf) → r ≡ dueLeaf d
     → r ≡ leafAt k anyBytes s at (length s)
-leaf-due k s at d q r p = p ∙ ap leafOf q ∙ due-leaf k s at
+leaf-due k s at d q r p = p ∙ ap dueLeaf q ∙ due-leaf k s at
 
 -- ---- for the programs: a payload of so many bytes
 pub payload-holds : (k : ℕ) (s : List ℕ) (at end : ℕ) (r : Leaf) → r ≡ leafAt k anyBytes s at end → (from to : ℕ) → r ≡ At from to

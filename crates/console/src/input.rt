@@ -11,7 +11,7 @@ use hex::digits::Decoded;
 use hex::digits::decode;
 use hex::due::Due;
 use hex::due::due_at;
-use hex::due::leaf_of;
+use hex::due::due_leaf;
 
 // A program's input has at most so many bytes: a sheet and a request, each a field of 65,535 bytes with its header of 3.
 pub const MOST_BYTES: usize = 131_076;
@@ -84,7 +84,7 @@ pub fn field_of(s: &[u8], at: usize, tag: u8) -> Leaf
 {
     let due = due_at(s, at, tag);
     tell(due, at, tag);
-    leaf_of(due)
+    due_leaf(due)
 }
 
 // What stands at a place instead of the field that is due, if it does.

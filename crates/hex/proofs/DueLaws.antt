@@ -1,4 +1,4 @@
--- The ways through `due_at` and `leaf_of`, and that the field which is due is the leaf of its tag.
+-- The ways through `due_at` and `due_leaf`, and that the field which is due is the leaf of its tag.
 -- Assumes nothing.
 use Rattle.basis.specs.Kit.{_≡_, refl, sym, ap, _∙_, Bool, true, false, _&&_, List, ℕ, eqb, length}
 use Rattle.basis.proofs.Kit.{arith, eq-eqb, ne-eqb}
@@ -7,11 +7,12 @@ use Rattle.field.specs.declared.Field.{Field}
 use Rattle.field.specs.declared.Field.the-variants.{Whole, Cut}
 use Rattle.field.specs.declared.Leaf.the-variants.{At, Not}
 use Rattle.field.specs.Field.{fieldAt}
+use Rattle.basis.specs.First.{onlyIf}
 use Rattle.field.specs.Leaf as leaf
 use Rattle.field.proofs.FieldLaws.{field-short}
 use Rattle.hex.specs.declared.due.Due.{Due}
 use Rattle.hex.specs.declared.due.Due.the-variants.{Here, Other, CutShort, Ended}
-use Rattle.hex.specs.Due.{dueOf, dueAt, leafOf}
+use Rattle.hex.specs.Due.{dueOf, dueAt, dueLeaf}
 
 module _ (k : ℕ) (s : List ℕ) (at : ℕ) where
   pub due-ended : at ≡ length s → Ended ≡ dueAt k s at
@@ -34,38 +35,39 @@ module _ (k : ℕ) (s : List ℕ) (at : ℕ) where
 
 pub ruleset due-laws = (due-ended, due-cut, due-other, due-here)
 
--- ---- the ways through `leaf_of`
+-- ---- the ways through `due_leaf`
 module _ (d : Due) where
-  pub leaf-here : (a e : ℕ) → d ≡ Here a e → At a e ≡ leafOf d
-  leaf-here a e g = rw g
+  pub due-leaf-here : (a e : ℕ) → d ≡ Here a e → At a e ≡ dueLeaf d
+  due-leaf-here a e g = rw g
 
-  pub leaf-other : (t : ℕ) → d ≡ Other t → Not ≡ leafOf d
-  leaf-other t g = rw g
+  pub due-leaf-other : (t : ℕ) → d ≡ Other t → Not ≡ dueLeaf d
+  due-leaf-other t g = rw g
 
-  pub leaf-cut : d ≡ CutShort → Not ≡ leafOf d
-  leaf-cut g = rw g
+  pub due-leaf-cut : d ≡ CutShort → Not ≡ dueLeaf d
+  due-leaf-cut g = rw g
 
-  pub leaf-ended : d ≡ Ended → Not ≡ leafOf d
-  leaf-ended g = rw g
+  pub due-leaf-ended : d ≡ Ended → Not ≡ dueLeaf d
+  due-leaf-ended g = rw g
 
-pub ruleset due-leaf-laws = (leaf-here, leaf-other, leaf-cut, leaf-ended)
+pub ruleset due-leaf-laws = (due-leaf-here, due-leaf-other, due-leaf-cut, due-leaf-ended)
 
 -- ---- what is due is the leaf of its tag
 module _ (k : ℕ) (s : List ℕ) where
-  of-field : (f : Field) → leafOf (dueOf k f) ≡ leaf.leafOf k leaf.anyBytes s f
+  of-field : (f : Field) → dueLeaf (dueOf k f) ≡ leaf.leafOf k leaf.anyBytes s f
   of-field Cut = refl
   of-field (Whole t a e) = go (eqb t k)
     where
-      go : (b : Bool) → leafOf (elim b [ true ↦ Here a e | false ↦ Other t ]) ≡ leaf.onlyIf (b && true) (At a e)
+      go : (b : Bool) → dueLeaf (elim b [ true ↦ Here a e | false ↦ Other t ]) ≡ onlyIf (b && true) (At a e) Not
       go true = refl
       go false = refl
 
-  pub due-leaf : (at : ℕ) → leafOf (dueAt k s at) ≡ leaf.leafAt k leaf.anyBytes s at (length s)
+  pub due-leaf : (at : ℕ) → dueLeaf (dueAt k s at) ≡ leaf.leafAt k leaf.anyBytes s at (length s)
   unfolding dueAt leaf.leafAt
   due-leaf at = go (eqb at (length s)) refl
     where
       go : (b : Bool) → eqb at (length s) ≡ b
-          → leafOf (elim b [ true ↦ Ended | false ↦ dueOf k (fieldAt s at (length s)) ]) ≡ leaf.leafOf k leaf.anyBytes s (fieldAt s at (length s))
+          → dueLeaf (elim b [ true ↦ Ended | false ↦ dueOf k (fieldAt s at (length s)) ])
+          ≡ leaf.leafOf k leaf.anyBytes s (fieldAt s at (length s))
       go true p =
           let e : at ≡ length s = eqb-true at (length s) p in
           ap (leaf.leafOf k leaf.anyBytes s) (field-short s at (length s) (omega arith) (omega arith))

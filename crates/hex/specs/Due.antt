@@ -2,7 +2,7 @@
 --
 --      dueOf tag f ==  what the field f is, where one of this tag is due
 --   dueAt tag s at ==  what stands at a place of s, where a field of this tag is due
---         leafOf d ==  the leaf that was due, where it is there
+--        dueLeaf d ==  the leaf that was due, where it is there
 --
 -- Assumes nothing.
 use Rattle.basis.specs.Kit.{true, false, List, ℕ, eqb, length}
@@ -21,8 +21,8 @@ dueOf tag (Whole t a e) = elim (eqb t tag) [ true ↦ Here a e | false ↦ Other
 unfoldable pub dueAt : (tag : ℕ) (s : List ℕ) (at : ℕ) → Due
 dueAt tag s at = elim (eqb at (length s)) [ true ↦ Ended | false ↦ dueOf tag (fieldAt s at (length s)) ]
 
-abbrev pub leafOf : Due → Leaf
-leafOf (Here a e) = At a e
-leafOf (Other t) = Not
-leafOf CutShort = Not
-leafOf Ended = Not
+abbrev pub dueLeaf : Due → Leaf
+dueLeaf (Here a e) = At a e
+dueLeaf (Other t) = Not
+dueLeaf CutShort = Not
+dueLeaf Ended = Not

@@ -1,6 +1,6 @@
 // The field that is due at a place of the input, or why it is not there.
 ghost use Rattle.basis.specs.Kit.{_≡_, _≤_, length};
-ghost use Rattle.hex.specs.Due.{dueAt, leafOf};
+ghost use Rattle.hex.specs.Due.{dueAt, dueLeaf};
 use field::Field;
 use field::Leaf;
 
@@ -38,8 +38,8 @@ pub fn due_at(s: &[u8], at: usize, tag: u8) -> Due
 }
 
 // The field that was due, where it is there.
-pub fn leaf_of(due: Due) -> Leaf
-    ensures { λ r. ⌜ r ≡ leafOf due ⌝ }
+pub fn due_leaf(due: Due) -> Leaf
+    ensures { λ r. ⌜ r ≡ dueLeaf due ⌝ }
 {
     match due {
         Due::Here { from, to } => Leaf::At { from: from, to: to },

@@ -1,9 +1,6 @@
 -- What a look-up of an extension answers against what there is: back from the answer, and the search with its positions left out.
 -- Assumes nothing.
-use mathlib.Core.Path.{_≡_, refl, ap, _∙_}
-use mathlib.Core.List.{List, [], _∷_}
-use mathlib.Core.Option.{Option, none, some}
-use Prim.Native.Nat.{ℕ, _+_}
+use Rattle.basis.specs.Kit.{_≡_, refl, ap, _∙_, List, [], _∷_, Option, none, some, ℕ, _+_}
 use Rattle.basis.proofs.Never.{never}
 use Rattle.basis.specs.First.{given, orElse, firstSome}
 use Rattle.reply.specs.declared.Refusal.{Refusal}

@@ -1,4 +1,4 @@
--- What the program knows of an example: where its fields lie, that words were read from them, and that no more examples hold than there are.
+-- What the program knows of an example: where its fields lie, and that words were read from them; no more examples hold than there are.
 -- Assumes nothing.
 use Rattle.basis.specs.Kit.{_≡_, Bool, List, ℕ, _+_, _-_, _≤_, _<_}
 use Rattle.basis.proofs.Kit.{arith}

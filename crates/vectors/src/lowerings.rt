@@ -5,12 +5,42 @@ use hex::words::signed_words_of;
 use hex::words::words_of;
 use reply::Answer;
 
-// No example has more words.
-const MOST: usize = 8;
+// Words of the lent memory in each example of fields; no list is longer.
+const FIELDS: usize = 6;
 
 // Whether an answer has this reply and this length.
 fn answers(a: Answer, want: &[u8]) -> bool {
     (a.reply == word_at(want, 0)) & (a.length == word_at(want, 4))
+}
+
+// Whether one range is lowered so, the lent memory holding what `before` says.
+pub fn ranges(given: &[u8], kind: &[u8], before: &[u8], want: &[u8], after: &[u8]) -> bool {
+    let mut words = [0i32; 2];
+    signed_words_of(given, &mut words);
+    let mut out = [0i32; 2];
+    signed_words_of(before, &mut out);
+    let a = lowering::lower_ranges(word_of(kind), &words, &mut out);
+    answers(a, want) & are_signed(out, after)
+}
+
+fn are_signed(words: [i32; 2], want: &[u8]) -> bool {
+    let mut left = [0i32; 2];
+    signed_words_of(want, &mut left);
+    (words[0] == left[0]) & (words[1] == left[1])
+}
+
+// Whether a list of fields is.
+pub fn fields(given: &[u8], before: &[u8], want: &[u8], after: &[u8]) -> bool {
+    let mut words = [0u32; FIELDS];
+    let n = words_of(given, &mut words);
+    fields_over(&words[..n], before, want, after)
+}
+
+fn fields_over(words: &[u32], before: &[u8], want: &[u8], after: &[u8]) -> bool {
+    let mut out = [0u32; FIELDS];
+    words_of(before, &mut out);
+    let a = lowering::lower_fields(words, &mut out);
+    answers(a, want) & are_words(&out, after)
 }
 
 // Whether words are those of a payload.
@@ -26,55 +56,4 @@ fn are_words(words: &[u32], want: &[u8]) -> bool {
         i += 1;
     }
     true
-}
-
-fn are_signed(words: &[i32], want: &[u8]) -> bool {
-    if want.len() / 4 != words.len() {
-        return false;
-    }
-    let mut i = 0;
-    while i < words.len() {
-        let word = words[i];
-        if word != octets::signed32(octets::u32_at(want, i * 4)) {
-            return false;
-        }
-        i += 1;
-    }
-    true
-}
-
-// Whether ranges are lowered so, the lent memory holding what `before` says.
-pub fn ranges(given: &[u8], kind: &[u8], before: &[u8], want: &[u8], after: &[u8]) -> bool {
-    let mut words = [0i32; MOST];
-    let n = signed_words_of(given, &mut words);
-    ranges_over(&words[..n], kind, before, want, after)
-}
-
-fn ranges_over(words: &[i32], kind: &[u8], before: &[u8], want: &[u8], after: &[u8]) -> bool {
-    let mut out = [0i32; MOST];
-    let n = signed_words_of(before, &mut out);
-    ranges_into(words, kind, &mut out[..n], want, after)
-}
-
-fn ranges_into(words: &[i32], kind: &[u8], out: &mut [i32], want: &[u8], after: &[u8]) -> bool {
-    let a = lowering::lower_ranges(word_of(kind), words, out);
-    answers(a, want) & are_signed(out, after)
-}
-
-// The same of fields.
-pub fn fields(given: &[u8], before: &[u8], want: &[u8], after: &[u8]) -> bool {
-    let mut words = [0u32; MOST];
-    let n = words_of(given, &mut words);
-    fields_over(&words[..n], before, want, after)
-}
-
-fn fields_over(words: &[u32], before: &[u8], want: &[u8], after: &[u8]) -> bool {
-    let mut out = [0u32; MOST];
-    let n = words_of(before, &mut out);
-    fields_into(words, &mut out[..n], want, after)
-}
-
-fn fields_into(words: &[u32], out: &mut [u32], want: &[u8], after: &[u8]) -> bool {
-    let a = lowering::lower_fields(words, out);
-    answers(a, want) & are_words(out, after)
 }

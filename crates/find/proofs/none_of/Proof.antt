@@ -1,7 +1,7 @@
 -- `find::none_of` meets its contract.
 -- Assumes nothing.
+use Rattle.basis.proofs.Kit.{needs}
 use Rattle.find.proofs.FindLaws.{empty-part}
-use borrow.Author.Needs.{needs}
 use Rattle.find.proofs.none_of.Statement.{statement}
 use Rattle.find.proofs.none_of.Tie as tie
 
