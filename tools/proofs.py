@@ -97,7 +97,7 @@ def written(path, text, crate, laws, old):
     opening = re.match(r"(?:--.*\n)*", old).group(0).split("\n")[:-1] or heading(path.parent, crate, "Inv-" in text)
     body = "\n\n".join(kept + [closing])
     taken = lambda text: [(module, name) for module, names in re.findall(r"(?m)^use (\S+)\.\{(.*)\}$", text) for name in names.split(", ")]
-    uses, own = {}, [(module_of(crate, law), law) for law in laws] + [("borrow.Author.Needs", "needs")]
+    uses, own = {}, [(module_of(crate, law), law) for law in laws] + [("Rattle.basis.proofs.Kit", "needs")]
     for module, name in taken(old) + own + taken("\n".join(lines)):
         cited = re.search(r"(?<![^\W_])(?<!-)%s(?![^\W_]|-)" % re.escape(name.strip("_")), body)
         if cited and name not in uses.setdefault(module, []):

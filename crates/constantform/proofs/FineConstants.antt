@@ -27,7 +27,7 @@ use Rattle.request.specs.declared.constant.Held.the-variants.{Holds}
 use Rattle.request.specs.Table.{boolTag, unsignedTag, signedTag, floatTag, stringTag, identTag, messageConstantTag, listTag}
 use Rattle.request.specs.Table.{pairFieldTag, pairExtensionTag, pairUrlTag}
 use Rattle.request.specs.Constant.{integerOf, floatOf, isPairName, constantOf}
-use Rattle.request.specs.Tree.{PairName, unnamed, Constants, none, scalar, Reader, pairNameOf, elementsIn, pairsIn}
+use Rattle.request.specs.Tree.{PairName, unnamed, Constants, none, scalar, ConstantReader, pairNameOf, elementsIn, pairsIn}
 use Rattle.request.specs.Tree.{grown, ifHeld, constantIn}
 use Rattle.request.proofs.ConstantLaws.{bool-is, number-unsigned, number-signed, number-float}
 use Rattle.constantform.specs.Leaves.{isConstant, isBool, goodScalar, goodPairName}
@@ -50,7 +50,7 @@ walk-within s end h =
 record Plain (s : List ℕ) (t : ℕ) (c : Constant) : Type 0 where
   good : goodValue s c ≡ true
   tag : constantTag c ≡ kindOf t
-  alone : (inner : Reader) (l : PairName) (rest : Constants) → grown inner s l rest c ≡ scalar l c rest
+  alone : (inner : ConstantReader) (l : PairName) (rest : Constants) → grown inner s l rest c ≡ scalar l c rest
 
 record PlainAt (s : List ℕ) (t : ℕ) (r : Held) : Type 0 where
   value : Constant
@@ -166,7 +166,7 @@ pub record FineConstant (s : List ℕ) (l : PairName) (t : ℕ) (rest c : Consta
   pub whole : countOf c ≡ 1 + countOf rest
   pub tags : constantTags c ≡ withName l (kindOf t ∷ constantTags rest)
 
-module _ (s : List ℕ) (l : PairName) (named : goodName s l ≡ true) (rest : Constants) (inner : Reader) where
+module _ (s : List ℕ) (l : PairName) (named : goodName s l ≡ true) (rest : Constants) (inner : ConstantReader) where
   plain-fine : (t : ℕ) (r : Held) → PlainAt s t r → FineConstant s l t rest (ifHeld inner s l rest r)
   plain-fine t r x =
       rw (x .held, x .plain .alone inner l rest)
@@ -216,7 +216,7 @@ pair-named s t a e =
     (λ p. record { is = refl; good = p; tag = λ r. refl })
     (λ f x u p. absurd (false≢true (pair-name-other t (part s a e) f x u ∙ p)))
 
-pair-first : (inner : Reader) (t a e k b f : ℕ) (w : Walk) → isPairName t ≡ true
+pair-first : (inner : ConstantReader) (t a e k b f : ℕ) (w : Walk) → isPairName t ≡ true
     → pairsIn inner (step t a e (step k b f w)) ≡ inner (pairNameOf t (span a e)) k b f (pairsIn inner w)
 pair-first inner t a e k b f w = go (isPairName t)
   where

@@ -15,10 +15,10 @@ use Rattle.sheet.specs.declared.declaration.Declared.the-variants.{Declares, No
 use Rattle.sheet.specs.Table.{fileTag, messageTag, extensionTag, enumTag, fieldTag, valueTag}
 use Rattle.sheet.specs.Tree.{Items, none, message, extension, enumeration, field, File, valueIn, itemIn, messageIn, fileIn}
 
-abbrev pub one : ℕ → ℕ → ℕ
+abbrev pub one : (want tag : ℕ) → ℕ
 one k t = elim (eqb k t) [ true ↦ 1 | false ↦ 0 ]
 
-abbrev pub declaredCount : Declared → ℕ → ℕ → ℕ
+abbrev pub declaredCount : Declared → (want tag : ℕ) → ℕ
 declaredCount NoDeclaration k t = 0
 declaredCount (Declares d) k t = one k t
 
@@ -33,11 +33,11 @@ abbrev pub inSheet : ℕ → List File → ℕ
 inSheet k [] = 0
 inSheet k (f ∷ fs) = one k fileTag + inItems k (f .items) + inSheet k fs
 
-abbrev pub valueCount : List ℕ → ℕ → ℕ → ℕ → ℕ
+abbrev pub valueCount : (s : List ℕ) (tag from to : ℕ) → ℕ
 valueCount s t a e = length (valueIn s t a e [])
 
-abbrev pub itemCount : ℕ → ℕ → List ℕ → ℕ → ℕ → ℕ → ℕ
+abbrev pub itemCount : (want left : ℕ) (s : List ℕ) (tag from to : ℕ) → ℕ
 itemCount k d s t a e = inItems k (itemIn (messageIn d s) s t a e none)
 
-abbrev pub fileCount : ℕ → List ℕ → ℕ → ℕ → ℕ → ℕ
+abbrev pub fileCount : (want : ℕ) (s : List ℕ) (tag from to : ℕ) → ℕ
 fileCount k s t a e = inSheet k (fileIn s t a e [])

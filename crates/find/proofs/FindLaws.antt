@@ -21,16 +21,17 @@ use Rattle.field.specs.declared.Leaf.{Leaf}
 use Rattle.field.specs.declared.Leaf.the-variants.{At, Not}
 use Rattle.field.specs.declared.Span.{Span}
 use Rattle.field.specs.Part.{PartOf}
-use Rattle.sheetform.specs.Form.{judgeSheet}
+use Rattle.sheetform.specs.Form.{judgeLength, judgeSheet}
 use Rattle.search.specs.declared.extension.Found.{Found}
 use Rattle.search.specs.declared.extension.Resolved.{Resolved}
 use Rattle.search.specs.declared.extension.Resolved.the-variants.{Field, Refused}
 use Rattle.search.specs.Lookup.{findExtensionByPath}
 use Rattle.search.proofs.LiesLaws.{FoundLies, found-lies}
-use Rattle.find.specs.Find.{judgeLength, judgeAll, unless, findingBy, finding, findingTested, wordsOf, worded, findWords, findTested}
+use Rattle.find.specs.Find.{judgeAll, unless, findingBy, finding, findingTested, wordsOf, worded, findWords, findTested}
 use Rattle.find.specs.Find.{noBytes, nameSpan, spanIn, nameSpanFor}
 use Rattle.find.specs.inner.Small.{wordBound, SmallSpan, Small}
-use Rattle.find.proofs.FindingLaws.{fine-length, finding-tested, words-tested}
+use Rattle.find.proofs.FindingLaws.{finding-tested, words-tested}
+use Rattle.sheetform.proofs.SheetLaws.{fine-length}
 
 -- ---- what was found
 record Finds (v : Verdict) (s c p : List ℕ) (f : Found) : Type 0 where

@@ -1,6 +1,5 @@
 -- The call `find`: an extension by its path in a scope, of any sheet; and `find_tested`, of a sheet whose form was tested before.
 --
---          judgeLength s == what the length of the sheet s is judged
 --         judgeAll v c p == the first fault of the sheet, which is judged v, the scope c and the path p, in this order
 --             unless v r == r, or the refusal of the verdict v
 --      findingBy v s c p == the extension that the path p finds in the scope c of the sheet s, which is judged v, or why there is none
@@ -17,28 +16,23 @@
 --                           sheet's start where they are not
 --
 -- Assumes nothing.
-use Rattle.basis.specs.Kit.{_&&_, List, [], _∷_, ℕ, _-_, ltb, leb, length}
+use Rattle.basis.specs.Kit.{_&&_, List, [], _∷_, ℕ, _-_, leb, length}
 use Rattle.basis.specs.First.{onlyIf}
-use Rattle.limits.specs.Figures.{mostSheet}
 use Rattle.octets.specs.Octets.{part}
 use Rattle.reply.specs.declared.Verdict.{Verdict}
 use Rattle.reply.specs.declared.Verdict.the-variants.{Fine, Refused as Bad}
-use Rattle.reply.specs.Verdicts.{firstFault, beyond}
+use Rattle.reply.specs.Verdicts.{firstFault}
 use Rattle.reply.specs.Outcome.{Outcome, refuse, give}
 use Rattle.field.specs.declared.Span.{Span}
 use Rattle.field.specs.declared.Leaf.{Leaf}
 use Rattle.field.specs.declared.Leaf.the-variants.{At, Not}
 use Rattle.field.specs.Leaf.{span, onLeaf}
-use Rattle.sheetform.specs.Form.{judgeSheet}
+use Rattle.sheetform.specs.Form.{judgeLength, judgeSheet}
 use Rattle.requestform.specs.Form.{judgeScope, judgePath}
 use Rattle.search.specs.declared.extension.Found.{Found}
 use Rattle.search.specs.declared.extension.Resolved.{Resolved}
 use Rattle.search.specs.declared.extension.Resolved.the-variants.{Field, Refused}
 use Rattle.search.specs.Lookup.{findExtensionByPath}
-
--- 01, Most allowed: "sheet 32,768 bytes"; Replies: "each by over-length, then .. the first fault from the front"
-unfoldable pub judgeLength : (s : List ℕ) → Verdict
-judgeLength s = onlyIf (ltb mostSheet (length s)) beyond Fine
 
 -- 01, Replies: "Inputs in the order a call names them, the sheet first"
 unfoldable pub judgeAll : (v : Verdict) (c p : List ℕ) → Verdict

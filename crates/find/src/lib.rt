@@ -9,7 +9,6 @@ ghost use Rattle.find.specs.inner.Small.{SmallSpan, Small};
 use field::Leaf;
 use field::Span;
 use limits::MOST_CANDIDATE;
-use limits::MOST_SHEET;
 use reply::Answer;
 use reply::Refusal;
 use reply::Verdict;
@@ -30,8 +29,8 @@ fn found_in(sheet: &[u8], scope: &[u8], path: &[u8]) -> Resolved
 fn finding_tested(sheet: &[u8], scope: &[u8], path: &[u8]) -> Resolved
     ensures { λ r. ⌜ r ≡ findingTested (now (sheet .entry)) (now (scope .entry)) (now (path .entry)) ⌝ }
 {
-    if MOST_SHEET < sheet.len() {
-        return Resolved::Refused(Refusal::BeyondLimit);
+    if let Verdict::Refused(why) = sheetform::check_length(sheet) {
+        return Resolved::Refused(why);
     }
     if let Verdict::Refused(why) = requestform::check_scope(scope) {
         return Resolved::Refused(why);

@@ -49,7 +49,7 @@ front b (bytes bs) = bytes (b ∷ bs)
 front b (noDigit at) = noDigit at
 front b halfByte = halfByte
 
-unfoldable pub unhex : ℕ → ℕ → List ℕ → Spelled
+unfoldable pub unhex : (at half : ℕ) (cs : List ℕ) → Spelled
 unhex at half [] = elim (eqb half blank) [ true ↦ bytes [] | false ↦ halfByte ]
 unhex at half (c ∷ cs) =
     elim (eqb (digitOf c) other) [

@@ -8,17 +8,17 @@
 -- Assumes nothing.
 use Rattle.basis.specs.Kit.{_≡_, Bool, true, false, List, [], _∷_, ℕ, zero, suc, _+_, _-_, _*_, eqb, length, getD, take, drop, sets}
 
-abbrev pub part : List ℕ → ℕ → ℕ → List ℕ
+abbrev pub part : (s : List ℕ) (from to : ℕ) → List ℕ
 part s a e = take (e - a) (drop a s)
 
-unfoldable pub sameBytes : List ℕ → List ℕ → Bool
+unfoldable pub sameBytes : (xs ys : List ℕ) → Bool
 sameBytes [] [] = true
 sameBytes [] (y ∷ ys) = false
 sameBytes (x ∷ xs) [] = false
 sameBytes (x ∷ xs) (y ∷ ys) = elim (eqb x y) [ true ↦ sameBytes xs ys | false ↦ false ]
 
 -- 01, Sheet and request: "numbers big-endian"
-unfoldable pub bigAt : ℕ → List ℕ → ℕ → ℕ
+unfoldable pub bigAt : (width : ℕ) (s : List ℕ) (at : ℕ) → ℕ
 bigAt zero s at = 0
 bigAt (suc k) s at = bigAt k s at * 256 + getD s (at + k) 0
 

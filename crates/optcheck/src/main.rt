@@ -97,7 +97,7 @@ fn check_case(s: &[u8], at: usize) -> usize
 }
 
 // All cases, of which there has to be one.
-fn run(s: &[u8]) {
+fn check_cases(s: &[u8]) {
     let mut at = 0;
     loop {
         let next = check_case(s, at);
@@ -116,7 +116,7 @@ fn run_over(buffer: &mut [u8]) {
     let Input::Bytes(n) = console::input::read(buffer) else {
         return;
     };
-    run(&buffer[..n]);
+    check_cases(&buffer[..n]);
 }
 
 fn main() {

@@ -104,7 +104,7 @@ fn find_case(s: &[u8], at: usize) -> usize
 }
 
 // All cases, of which there has to be one.
-fn run(s: &[u8]) {
+fn find_cases(s: &[u8]) {
     let mut at = 0;
     loop {
         let next = find_case(s, at);
@@ -118,10 +118,15 @@ fn run(s: &[u8]) {
     }
 }
 
-fn main() {
-    let mut bytes = [0u8; MOST_BYTES];
-    let Input::Bytes(n) = console::input::read(&mut bytes) else {
+// Standard input, read into a lent buffer.
+fn run_over(buffer: &mut [u8]) {
+    let Input::Bytes(n) = console::input::read(buffer) else {
         return;
     };
-    run(&bytes[..n]);
+    find_cases(&buffer[..n]);
+}
+
+fn main() {
+    let mut buffer = [0u8; MOST_BYTES];
+    run_over(&mut buffer);
 }

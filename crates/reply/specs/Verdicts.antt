@@ -15,7 +15,7 @@ use Rattle.reply.specs.declared.Verdict.{Verdict}
 use Rattle.reply.specs.declared.Verdict.the-variants.{Fine, Refused}
 use Rattle.reply.specs.Reply.{number, second}
 
-abbrev pub firstFault : Verdict → Verdict → Verdict
+abbrev pub firstFault : (u v : Verdict) → Verdict
 firstFault Fine v = v
 firstFault (Refused w) v = Refused w
 

@@ -3,7 +3,7 @@
 --
 --                      PairName == the name of a pair; elements of a list and an option's own constant have none
 --                     Constants == constants in order: the first one, and what follows it
---                        Reader == what reads a constant and puts it before what follows it
+--                ConstantReader == what reads a constant and puts it before what follows it
 --                pairNameOf t p == the name of the tag t that stands at p
 --            elementsIn inner w == the elements of a list among the fields w, `inner` reading a constant
 --               pairsIn inner w == the pairs of a message among the fields w
@@ -38,8 +38,8 @@ pub data Constants : Type 0 where
   list : PairName → (inside rest : Constants) → Constants
 
 -- what reads a constant: its name, its tag and the places of its payload, and what follows it
-abbrev pub Reader : Type 0
-Reader = (name : PairName) (tag from to : ℕ) (rest : Constants) → Constants
+abbrev pub ConstantReader : Type 0
+ConstantReader = (name : PairName) (tag from to : ℕ) (rest : Constants) → Constants
 
 abbrev pub pairNameOf : (tag : ℕ) (place : Span) → PairName
 pairNameOf t p = elim (eqb t pairFieldTag) [
@@ -47,12 +47,12 @@ pairNameOf t p = elim (eqb t pairFieldTag) [
   | false ↦ elim (eqb t pairExtensionTag) [ true ↦ byExtension p | false ↦ byUrl p ]
 ]
 
-abbrev pub elementsIn : (inner : Reader) → Walk → Constants
+abbrev pub elementsIn : (inner : ConstantReader) → Walk → Constants
 elementsIn inner done = none
 elementsIn inner cut = none
 elementsIn inner (step t a e w) = inner unnamed t a e (elementsIn inner w)
 
-abbrev pub pairsIn : (inner : Reader) → Walk → Constants
+abbrev pub pairsIn : (inner : ConstantReader) → Walk → Constants
 pairsIn inner done = none
 pairsIn inner cut = none
 pairsIn inner (step t a e done) = none
@@ -60,7 +60,7 @@ pairsIn inner (step t a e cut) = none
 pairsIn inner (step t a e (step k b f w)) =
     elim (isPairName t) [ true ↦ inner (pairNameOf t (span a e)) k b f (pairsIn inner w) | false ↦ none ]
 
-abbrev pub grown : (inner : Reader) (s : List ℕ) (name : PairName) (rest : Constants) → Constant → Constants
+abbrev pub grown : (inner : ConstantReader) (s : List ℕ) (name : PairName) (rest : Constants) → Constant → Constants
 grown inner s l rest (BoolOf b) = scalar l (BoolOf b) rest
 grown inner s l rest (Integer m n) = scalar l (Integer m n) rest
 grown inner s l rest (Float x) = scalar l (Float x) rest
@@ -70,11 +70,11 @@ grown inner s l rest (Ident p) = scalar l (Ident p) rest
 grown inner s l rest (Message p) = message l (pairsIn inner (walk s (p .from) (p .to))) rest
 grown inner s l rest (ListOf p) = list l (elementsIn inner (walk s (p .from) (p .to))) rest
 
-abbrev pub ifHeld : (inner : Reader) (s : List ℕ) (name : PairName) (rest : Constants) → Held → Constants
+abbrev pub ifHeld : (inner : ConstantReader) (s : List ℕ) (name : PairName) (rest : Constants) → Held → Constants
 ifHeld inner s l rest NoConstant = rest
 ifHeld inner s l rest (Holds c) = grown inner s l rest c
 
 -- "constants of any kind nested 16 deep"; "The outermost .. constant is depth 1"
-abbrev pub constantIn : (left : ℕ) (s : List ℕ) → Reader
+abbrev pub constantIn : (left : ℕ) (s : List ℕ) → ConstantReader
 constantIn zero s l t a e rest = rest
 constantIn (suc d) s l t a e rest = ifHeld (constantIn d s) s l rest (constantOf s t a e)

@@ -37,17 +37,17 @@ abbrev pub lastAt : ℕ → Leaf → Leaf
 lastAt end Not = Not
 lastAt end (At a e) = onlyIf (eqb e end) (At a e) Not
 
-unfoldable pub typePathAt : ℕ → List ℕ → ℕ → ℕ → Leaf
+unfoldable pub typePathAt : (typ : ℕ) (s : List ℕ) (at end : ℕ) → Leaf
 typePathAt t s at end = elim (hasTypePath t) [
   | true ↦ lastAt end (leafAt typePathTag anyBytes s at end)
   | false ↦ onlyIf (eqb at end) (At 0 0) Not
 ]
 
-abbrev pub shape : ℕ → ℕ → ℕ → ℕ → ℕ → Shape
+abbrev pub shape : (number typ label from to : ℕ) → Shape
 shape number typ label a e = record { number = number; typ = typ; label = label; path = span a e }
 
 -- "13 number (4 bytes), 14 type, 15 label, 16 type path"; types and labels are one byte
-unfoldable pub shapeAt : List ℕ → ℕ → ℕ → Shaped
+unfoldable pub shapeAt : (s : List ℕ) (at end : ℕ) → Shaped
 shapeAt s at end =
     onLeaf NoShape (leafAt numberTag (ofSize 4) s at end) λ n types.
     onLeaf NoShape (leafAt typeTag (ofSize 1) s types end) λ t labels.
@@ -55,25 +55,25 @@ shapeAt s at end =
     onLeaf NoShape (typePathAt (getD s t 0) s paths end) λ a e.
     Shapes (shape (bigAt 4 s n) (getD s t 0) (getD s l 0) a e)
 
-abbrev pub declaredWith : Span → Span → Shaped → Declared
+abbrev pub declaredWith : (name extendee : Span) → Shaped → Declared
 declaredWith name extendee NoShape = NoDeclaration
 declaredWith name extendee (Shapes h) = Declares (record { name = name; extendee = extendee; shape = h })
 
 -- tag 03: "11, 12 extendee path, 13 number ..": name and extendee, then the shape
-unfoldable pub extensionAt : List ℕ → ℕ → ℕ → Declared
+unfoldable pub extensionAt : (s : List ℕ) (from to : ℕ) → Declared
 extensionAt s a e =
     onLeaf NoDeclaration (leafAt nameTag anyBytes s a e) λ n extendees.
     onLeaf NoDeclaration (leafAt extendeeTag anyBytes s extendees e) λ x shapes.
     declaredWith (span n extendees) (span x shapes) (shapeAt s shapes e)
 
 -- tag 05: "as 03 without 12"
-unfoldable pub messageFieldAt : List ℕ → ℕ → ℕ → Declared
+unfoldable pub messageFieldAt : (s : List ℕ) (from to : ℕ) → Declared
 messageFieldAt s a e =
     onLeaf NoDeclaration (leafAt nameTag anyBytes s a e) λ n shapes.
     declaredWith (span n shapes) (span 0 0) (shapeAt s shapes e)
 
 -- tag 06: "11, 17 signed number (4 bytes)"
-unfoldable pub valueAt : List ℕ → ℕ → ℕ → Valued
+unfoldable pub valueAt : (s : List ℕ) (from to : ℕ) → Valued
 valueAt s a e =
     onLeaf NoValue (leafAt nameTag anyBytes s a e) λ n numbers.
     onLeaf NoValue (lastAt e (leafAt signedNumberTag (ofSize 4) s numbers e)) λ k end.

@@ -52,7 +52,7 @@ abbrev pub valueOnto : Valued → List Value → List Value
 valueOnto NoValue rest = rest
 valueOnto (Values v) rest = v ∷ rest
 
-unfoldable pub valueIn : List ℕ → ℕ → ℕ → ℕ → List Value → List Value
+unfoldable pub valueIn : (s : List ℕ) (tag from to : ℕ) (rest : List Value) → List Value
 valueIn s t a e rest = elim (eqb t valueTag) [ true ↦ valueOnto (valueAt s a e) rest | false ↦ rest ]
 
 abbrev pub valuesIn : List ℕ → Walk → List Value
@@ -61,7 +61,7 @@ valuesIn s cut = []
 valuesIn s (step t a e w) = valueIn s t a e (valuesIn s w)
 
 -- tag 04: "11, then 06 values"
-abbrev pub enumIn : List ℕ → ℕ → ℕ → Items → Items
+abbrev pub enumIn : (s : List ℕ) (from to : ℕ) (rest : Items) → Items
 enumIn s a e rest = onLeaf rest (leafAt nameTag anyBytes s a e) λ n m. enumeration (span n m) (span m e) (valuesIn s (walk s m e)) rest
 
 abbrev pub extensionIn : Declared → Items → Items
@@ -73,7 +73,7 @@ fieldIn NoDeclaration rest = rest
 fieldIn (Declares d) rest = field d rest
 
 -- one field of a file or a message, where `inner` reads a message
-unfoldable pub itemIn : (ℕ → ℕ → Items → Items) → List ℕ → ℕ → ℕ → ℕ → Items → Items
+unfoldable pub itemIn : (inner : (from to : ℕ) → Items → Items) (s : List ℕ) (tag from to : ℕ) (rest : Items) → Items
 itemIn inner s t a e rest = elim (eqb t messageTag) [
   | true ↦ inner a e rest
   | false ↦ elim (eqb t extensionTag) [
@@ -85,25 +85,25 @@ itemIn inner s t a e rest = elim (eqb t messageTag) [
   ]
 ]
 
-abbrev pub itemsWith : (ℕ → ℕ → Items → Items) → List ℕ → Walk → Items
+abbrev pub itemsWith : (inner : (from to : ℕ) → Items → Items) (s : List ℕ) → Walk → Items
 itemsWith inner s done = none
 itemsWith inner s cut = none
 itemsWith inner s (step t a e w) = itemIn inner s t a e (itemsWith inner s w)
 
 -- tag 02: "11 name, then any of 02, 03, 04, 05"; "The outermost message .. is depth 1"
-abbrev pub messageIn : ℕ → List ℕ → ℕ → ℕ → Items → Items
+abbrev pub messageIn : (left : ℕ) (s : List ℕ) (from to : ℕ) (rest : Items) → Items
 messageIn zero s a e rest = rest
 messageIn (suc d) s a e rest =
     onLeaf rest (leafAt nameTag anyBytes s a e) λ n m. message (span n m) (span m e) (itemsWith (messageIn d s) s (walk s m e)) rest
 
-unfoldable pub itemsIn : ℕ → List ℕ → Walk → Items
+unfoldable pub itemsIn : (left : ℕ) (s : List ℕ) → Walk → Items
 itemsIn d s w = itemsWith (messageIn d s) s w
 
-abbrev pub fileWith : Span → Span → Items → File
+abbrev pub fileWith : (packageName body : Span) → Items → File
 fileWith p b i = record { packageName = p; body = b; items = i }
 
 -- tag 01: "10 package, then any of 02, 03, 04"
-unfoldable pub fileIn : List ℕ → ℕ → ℕ → ℕ → List File → List File
+unfoldable pub fileIn : (s : List ℕ) (tag from to : ℕ) (rest : List File) → List File
 fileIn s t a e rest = elim (eqb t fileTag) [
   | true ↦ onLeaf rest (leafAt packageTag anyBytes s a e) λ n m. fileWith (span n m) (span m e) (itemsIn mostMessages s (walk s m e)) ∷ rest
   | false ↦ rest

@@ -16,11 +16,11 @@ use Rattle.sheet.specs.Declaration.{hasTypePath, typePathAt, shapeAt, extension
 use Rattle.declform.specs.Declarations.{goodTypePath, goodShape, goodField, isField, isExtension, isValue}
 use Rattle.reply.specs.Verdicts.{beyond}
 use Rattle.messageform.specs.Form.{badSheet, judgeValue, judgeEnum, judgeItem, judgeItems}
-use Rattle.sheetform.specs.Form.{judgeFile, judgeFiles, judgeSheet}
+use Rattle.sheetform.specs.Form.{judgeFile, judgeFiles, judgeLength, judgeSheet}
 
 -- a sheet's verdict, with all that it is computed by
 verdict : List ℕ → Verdict
-unfolding judgeSheet judgeFiles judgeFile judgeItems judgeItem judgeEnum judgeValue isExtension isField isValue goodField goodShape
+unfolding judgeSheet judgeLength judgeFiles judgeFile judgeItems judgeItem judgeEnum judgeValue isExtension isField isValue goodField goodShape
     goodTypePath extensionAt messageFieldAt valueAt shapeAt typePathAt hasTypePath leafAt walkBy fieldAt bigAt isRelOrEmpty isRelPath
     allIdent components split onFirst isIdent isLetter isDigit allWord
 verdict = judgeSheet

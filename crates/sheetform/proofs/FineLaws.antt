@@ -4,7 +4,7 @@
 use Rattle.basis.specs.Kit.{_≡_, refl, sym, ap, _∙_, Bool, true, false, List, ℕ, suc, _+_, _≤_, _<_, ltb, length}
 use Rattle.basis.proofs.Kit.{arith}
 use native.Mathlib.Decide.{ℕ-discrete}
-use Rattle.limits.specs.Figures.{mostSheet, mostFiles, mostMessages}
+use Rattle.limits.specs.Figures.{mostFiles, mostMessages}
 use Rattle.path.specs.Path.{isRelOrEmpty}
 use Rattle.reply.specs.declared.Refusal.the-variants.{BadSheet, BeyondLimit}
 use Rattle.reply.specs.declared.Verdict.the-variants.{Fine}
@@ -20,7 +20,7 @@ use Rattle.sheet.specs.Table.{fileTag, packageTag}
 use Rattle.sheet.specs.Tree.{File, fileIn, filesIn, treeOf}
 use Rattle.reply.specs.Verdicts.{beyond}
 use Rattle.messageform.specs.Form.{badSheet, judgeItems}
-use Rattle.sheetform.specs.Form.{judgeFile, judgeFiles, judgeSheet}
+use Rattle.sheetform.specs.Form.{judgeFile, judgeFiles, judgeLength, judgeSheet}
 use Rattle.sheetform.specs.Fine.{goodFiles}
 use Rattle.sheetform.proofs.SheetLaws.{file-other, file-early}
 use Rattle.messageform.proofs.FineLaws.{level-fine}
@@ -87,12 +87,7 @@ files-few s n (step t a e w) h p =
 -- Where a sheet is fine, so are its files.
 pub fine-sheet : (s : List ℕ) → judgeSheet s ≡ Fine → eachFrom BadSheet (judgeFile s) 0 (walk s 0 (length s)) ≡ Fine
 unfolding judgeSheet judgeFiles
-fine-sheet s = go (ltb mostSheet (length s))
-  where
-    go : (b : Bool) → elim b [ true ↦ beyond | false ↦ eachFrom BadSheet (judgeFile s) 0 (walk s 0 (length s)) ] ≡ Fine
-        → eachFrom BadSheet (judgeFile s) 0 (walk s 0 (length s)) ≡ Fine
-    go true p = absurd (refused-fine BeyondLimit p)
-    go false p = p
+fine-sheet s = first-fine-rest (judgeLength s) (judgeFiles s)
 
 -- Every name, path, number, type and label in the tree of a fine sheet is what 01 allows.
 pub fine-good : (s : List ℕ) → judgeSheet s ≡ Fine → goodFiles s (treeOf s) ≡ true

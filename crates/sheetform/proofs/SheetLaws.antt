@@ -1,15 +1,17 @@
--- The laws of files and sheets: the ways through `check_file`, `check_files` and `check_sheet`.
+-- The laws of files and sheets: the ways through `check_file`, `check_files`, `check_length` and `check_sheet`.
 -- Assumes nothing.
-use Rattle.basis.specs.Kit.{_≡_, refl, sym, _∙_, Bool, true, false, List, ℕ, _+_, _^_, _≤_, _<_, eqb, ltb, length}
+use Rattle.basis.specs.Kit.{_≡_, refl, sym, _∙_, Bool, true, false, List, ℕ, _+_, _^_, _≤_, _<_, eqb, ltb, leb, length}
 use Rattle.basis.proofs.Kit.{arith, eq-eqb, ne-eqb, lt-ltb, le-ltb}
-use borrow.Author.Tests.{ltb-true}
+use borrow.Author.Tests.{ltb-true, ltb-false, leb-true, leb-false}
 use Rattle.basis.proofs.Never.{never}
+use Rattle.basis.specs.First.{onlyIf}
 use Rattle.limits.specs.Figures.{mostSheet, mostFiles, mostMessages}
 use Rattle.path.specs.Path.{isRelOrEmpty}
-use Rattle.reply.specs.declared.Refusal.the-variants.{BadSheet}
+use Rattle.reply.specs.declared.Refusal.{Refusal}
+use Rattle.reply.specs.declared.Refusal.the-variants.{BadSheet, BeyondLimit}
 use Rattle.reply.specs.declared.Verdict.{Verdict}
-use Rattle.reply.specs.declared.Verdict.the-variants.{Fine}
-use Rattle.reply.proofs.VerdictLaws.{says}
+use Rattle.reply.specs.declared.Verdict.the-variants.{Fine, Refused}
+use Rattle.reply.proofs.VerdictLaws.{says, first-fine-front}
 use Rattle.field.specs.declared.Leaf.{Leaf}
 use Rattle.field.specs.declared.Leaf.the-variants.{At, Not}
 use Rattle.field.specs.Walk.{Walk}
@@ -20,9 +22,9 @@ use Rattle.field.proofs.LeafLaws.{leaf-inside}
 use Rattle.field.proofs.Rest.{Rest, rest-start}
 use Rattle.form.proofs.EachLaws.{each-from-laws}
 use Rattle.sheet.specs.Table.{fileTag, packageTag}
-use Rattle.reply.specs.Verdicts.{beyond}
+use Rattle.reply.specs.Verdicts.{judged, beyond}
 use Rattle.messageform.specs.Form.{badSheet, judgeItems}
-use Rattle.sheetform.specs.Form.{judgeFile, judgeFiles, judgeSheet}
+use Rattle.sheetform.specs.Form.{judgeFile, judgeFiles, judgeLength, judgeSheet}
 
 -- ---- check_file
 module _ (s : List ℕ) (i t a e : ℕ) where
@@ -70,14 +72,36 @@ file-counted s i t a e u q g = omega (arith, file-early s i t a e (sym g ∙ q))
 
 pub ruleset files-laws = (files-start, file-counted, field-ordered, each-from-laws)
 
--- ---- check_sheet
+-- ---- check_length
 module _ (s : List ℕ) where
-  pub sheet-long : mostSheet < length s → beyond ≡ judgeSheet s
-  unfolding judgeSheet
-  sheet-long h = simp (judgeSheet, lt-ltb mostSheet (length s) h)
+  pub length-is : (b : Bool) (r : Verdict) → b ≡ leb (length s) mostSheet → r ≡ judged BeyondLimit b → r ≡ judgeLength s
+  unfolding judgeLength
+  length-is true r p q = q ∙ rw (le-ltb mostSheet (length s) (leb-true (length s) mostSheet (sym p)))
+  length-is false r p q = q ∙ rw (lt-ltb mostSheet (length s) (leb-false (length s) mostSheet (sym p)))
 
-  pub sheet-files : length s ≤ mostSheet → (v : Verdict) → v ≡ judgeFiles s → v ≡ judgeSheet s
+  -- what is fine is short enough
+  pub fine-length : judgeLength s ≡ Fine → length s ≤ mostSheet
+  unfolding judgeLength
+  fine-length h = go (ltb mostSheet (length s)) refl h
+    where
+      go : (b : Bool) → ltb mostSheet (length s) ≡ b → onlyIf b beyond Fine ≡ Fine → length s ≤ mostSheet
+      go false p q = ltb-false mostSheet (length s) p
+      go true p q = never cc
+
+  pub sheet-length : judgeSheet s ≡ Fine → judgeLength s ≡ Fine
   unfolding judgeSheet
-  sheet-files h v q = simp (judgeSheet, le-ltb mostSheet (length s) h) q
+  sheet-length h = first-fine-front (judgeLength s) (judgeFiles s) h
+
+pub ruleset length-laws = (says, length-is)
+
+-- ---- check_sheet
+module _ (s : List ℕ) (u : Verdict) (q : u ≡ judgeLength s) where
+  pub sheet-long : (w : Refusal) → u ≡ Refused w → Refused w ≡ judgeSheet s
+  unfolding judgeSheet
+  sheet-long w g = rw (← q, g)
+
+  pub sheet-files : u ≡ Fine → (v : Verdict) → v ≡ judgeFiles s → v ≡ judgeSheet s
+  unfolding judgeSheet
+  sheet-files g v p = rw (← q, g) p
 
 pub ruleset sheet-laws = (says, sheet-long, sheet-files)

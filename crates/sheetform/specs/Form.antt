@@ -3,15 +3,18 @@
 --
 --   judgeFile s i t a e == one field of a sheet, the i-th, counted from 0
 --          judgeFiles s == the files of a sheet
+--         judgeLength s == the length of a sheet
 --          judgeSheet s == a sheet
 --
 -- Assumes nothing.
 use Rattle.basis.specs.Kit.{true, false, List, ℕ, eqb, ltb, length}
+use Rattle.basis.specs.First.{onlyIf}
 use Rattle.limits.specs.Figures.{mostSheet, mostFiles, mostMessages}
 use Rattle.path.specs.Path.{isRelOrEmpty}
 use Rattle.reply.specs.declared.Refusal.the-variants.{BadSheet}
 use Rattle.reply.specs.declared.Verdict.{Verdict}
-use Rattle.reply.specs.Verdicts.{beyond}
+use Rattle.reply.specs.declared.Verdict.the-variants.{Fine}
+use Rattle.reply.specs.Verdicts.{firstFault, beyond}
 use Rattle.field.specs.Walk.{walk}
 use Rattle.field.specs.Leaf.{onLeaf, leafAt}
 use Rattle.form.specs.Each.{eachFrom}
@@ -33,5 +36,9 @@ unfoldable pub judgeFiles : (s : List ℕ) → Verdict
 judgeFiles s = eachFrom BadSheet (judgeFile s) 0 (walk s 0 (length s))
 
 -- "sheet 32,768 bytes"
+unfoldable pub judgeLength : (s : List ℕ) → Verdict
+judgeLength s = onlyIf (ltb mostSheet (length s)) beyond Fine
+
+-- "each by over-length, then .. the first fault from the front"
 unfoldable pub judgeSheet : (s : List ℕ) → Verdict
-judgeSheet s = elim (ltb mostSheet (length s)) [ true ↦ beyond | false ↦ judgeFiles s ]
+judgeSheet s = firstFault (judgeLength s) (judgeFiles s)

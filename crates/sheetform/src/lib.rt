@@ -1,7 +1,7 @@
 // The form of a sheet: every byte string is fine, or has a first fault from the front.
 ghost use Rattle.basis.specs.Kit.{_≡_, _≤_, length};
 ghost use Rattle.reply.specs.Verdicts.{Says};
-ghost use Rattle.sheetform.specs.Form.{judgeFile, judgeFiles, judgeSheet};
+ghost use Rattle.sheetform.specs.Form.{judgeFile, judgeFiles, judgeLength, judgeSheet};
 use field::Field;
 use field::Leaf;
 use limits::MOST_FILES;
@@ -49,12 +49,19 @@ fn check_files(s: &[u8]) -> Verdict
     Verdict::Fine
 }
 
+// Whether a sheet is short enough.
+pub fn check_length(s: &[u8]) -> Verdict
+    ensures { λ r. ⌜ Says (judgeLength (now (s .entry))) r ⌝ }
+{
+    reply::judge(s.len() <= MOST_SHEET, Refusal::BeyondLimit)
+}
+
 // Whether a sheet is fine, or its first fault.
 pub fn check_sheet(s: &[u8]) -> Verdict
     ensures { λ r. ⌜ Says (judgeSheet (now (s .entry))) r ⌝ }
 {
-    if MOST_SHEET < s.len() {
-        return Verdict::Refused(Refusal::BeyondLimit);
+    if let Verdict::Refused(why) = check_length(s) {
+        return Verdict::Refused(why);
     }
     check_files(s)
 }

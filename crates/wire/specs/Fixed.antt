@@ -6,7 +6,7 @@
 -- Assumes nothing.
 use Rattle.basis.specs.Kit.{List, [], _∷_, ℕ, zero, suc, _+_, _*_, _/_, _%_}
 
-unfoldable pub littleOf : ℕ → ℕ → List ℕ
+unfoldable pub littleOf : (width v : ℕ) → List ℕ
 littleOf zero v = []
 littleOf (suc k) v = (v % 256) ∷ littleOf k (v / 256)
 

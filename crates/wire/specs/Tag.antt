@@ -11,7 +11,7 @@ use Rattle.basis.specs.Kit.{Bool, _&&_, _||_, ℕ, _+_, _*_, _/_, _%_, eqb, leb
 use Rattle.limits.specs.Figures.{mostNumber}
 use Rattle.types.specs.Types.{VARINT, I64, LEN, I32}
 
-abbrev pub tagOf : ℕ → ℕ → ℕ
+abbrev pub tagOf : (number wire : ℕ) → ℕ
 tagOf n w = n * 8 + w
 
 abbrev pub numberOf : ℕ → ℕ

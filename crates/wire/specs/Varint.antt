@@ -16,7 +16,7 @@ use Rattle.octets.specs.Octets.{part}
 use Rattle.wire.specs.declared.varint.Read.{Read}
 use Rattle.wire.specs.declared.varint.Read.the-variants.{Varint, Bad}
 
-unfoldable pub varintWithin : ℕ → ℕ → List ℕ
+unfoldable pub varintWithin : (most v : ℕ) → List ℕ
 varintWithin zero v = v ∷ []
 varintWithin (suc k) v = elim (ltb v 128) [ true ↦ v ∷ [] | false ↦ (128 + v % 128) ∷ varintWithin k (v / 128) ]
 
@@ -41,5 +41,5 @@ abbrev pub atPlace : ℕ → Read → Read
 atPlace at (Varint v n) = Varint v (at + n)
 atPlace at Bad = Bad
 
-unfoldable pub varintAt : List ℕ → ℕ → ℕ → Read
+unfoldable pub varintAt : (s : List ℕ) (at end : ℕ) → Read
 varintAt s at end = atPlace at (readVarint (part s at end))

@@ -1,10 +1,10 @@
--- `optcheck::run` meets its contract.
+-- `optcheck::check_cases` meets its contract.
 -- Assumes nothing.
 use Rattle.basis.specs.Kit.{_-_, _≤_, length}
 use Rattle.basis.proofs.Kit.{needs}
 use Rattle.optcheck.proofs.CaseLaws.{case-laws}
-use Rattle.optcheck.proofs.run.Statement.{statement}
-use Rattle.optcheck.proofs.run.Tie as tie
+use Rattle.optcheck.proofs.check_cases.Statement.{statement}
+use Rattle.optcheck.proofs.check_cases.Tie as tie
 
 abbrev Inv-loop : tie.InvT-loop
 Inv-loop s at₀ at = at ≤ length s
@@ -12,8 +12,8 @@ Inv-loop s at₀ at = at ≤ length s
 abbrev μ-loop : tie.MeasureT-loop
 μ-loop s at₀ at = length s - at
 
-pub run-spec : {M : Type 1} → statement M
-run-spec = tie.close (tie.spec Inv-loop μ-loop
+pub check-cases-spec : {M : Type 1} → statement M
+check-cases-spec = tie.close (tie.spec Inv-loop μ-loop
     (λ c. search (needs, case-laws))
     (λ c κs. search (needs, case-laws))
     (λ c. search (needs, case-laws))

@@ -1,10 +1,10 @@
--- `optfind::run` meets its contract.
+-- `optfind::find_cases` meets its contract.
 -- Assumes nothing.
 use Rattle.basis.specs.Kit.{_-_, _≤_, length}
 use Rattle.basis.proofs.Kit.{needs}
 use Rattle.optfind.proofs.CaseLaws.{case-laws}
-use Rattle.optfind.proofs.run.Statement.{statement}
-use Rattle.optfind.proofs.run.Tie as tie
+use Rattle.optfind.proofs.find_cases.Statement.{statement}
+use Rattle.optfind.proofs.find_cases.Tie as tie
 
 abbrev Inv-loop : tie.InvT-loop
 Inv-loop s at₀ at = at ≤ length s
@@ -12,8 +12,8 @@ Inv-loop s at₀ at = at ≤ length s
 abbrev μ-loop : tie.MeasureT-loop
 μ-loop s at₀ at = length s - at
 
-pub run-spec : {M : Type 1} → statement M
-run-spec = tie.close (tie.spec Inv-loop μ-loop
+pub find-cases-spec : {M : Type 1} → statement M
+find-cases-spec = tie.close (tie.spec Inv-loop μ-loop
     (λ c. search (needs, case-laws))
     (λ c κs. search (needs, case-laws))
     (λ c. search (needs, case-laws))
