@@ -9,12 +9,13 @@
 --                 down s n c ==  the scope of the first message of the name n in the scope c
 --   declarationNamed k s n c ==  the first declaration of the tag k and of that name: an extension or a field
 --            enumNamed s n c ==  the first enum, likewise
+--              extends s m d <=> the extension d is of the message whose full name is m
 --          valueNamed s n vs ==  the first value of that name
 --
 --   placed, declared, valued, bodied == what the code answers, of what there is or is not
 --
 -- Assumes nothing.
-use Rattle.basis.specs.Kit.{true, false, List, Option, some, ℕ, _-_, _≤_, length}
+use Rattle.basis.specs.Kit.{Bool, true, false, List, Option, some, ℕ, _-_, _≤_, length}
 use Rattle.limits.specs.Figures.{mostMessages}
 use Rattle.field.specs.declared.Leaf.{Leaf}
 use Rattle.field.specs.declared.Leaf.the-variants.{At, Not}
@@ -64,6 +65,10 @@ enumNamed s n c = first (λ e. isText s n (e .name)) (enumsOf (c .items))
 
 abbrev pub valueNamed : (s name : List ℕ) → List Value → Option Value
 valueNamed s n vs = first (λ v. isText s n (v .name)) vs
+
+-- the extendee is compared as it is written with the full name by which the message was reached
+abbrev pub extends : (s message : List ℕ) → Declaration → Bool
+extends s m d = isText s m (d .extendee)
 
 abbrev pub placed : Option Scope → Reached
 placed = told Nowhere (λ c. To (c .place))

@@ -14,12 +14,11 @@ use Rattle.sheet.specs.Declaration.{hasTypePath, typePathAt, shapeAt, extension
 use Rattle.sheet.specs.Tree.{valueIn, valuesIn, itemIn, itemsIn, fileIn, treeOf}
 use Rattle.sheet.specs.Members.{fieldsOf}
 use Rattle.scope.specs.Scope.{Scope, holding}
-use Rattle.search.specs.Number.{declarationOf}
 use Rattle.search.specs.declared.full_name.LookedUp.{LookedUp}
 use Rattle.search.specs.declared.full_name.LookedUp.the-variants.{Message, NoMessage}
 use Rattle.search.specs.declared.full_name.LookedUpEnum.{LookedUpEnum}
 use Rattle.search.specs.declared.full_name.LookedUpEnum.the-variants.{Values, NoEnum}
-use Rattle.search.specs.Scopes.{scopes}
+use Rattle.scopes.specs.Scopes.{scopes}
 use Rattle.search.specs.Lookup.{messagesAt, enumsAt, lookedUp, lookedUpEnum}
 use Rattle.search.proofs.Sheets.{file, message, extension, field, value, enum}
 
@@ -165,77 +164,6 @@ enums =
 enums-found : map anEnum enums ≡ map (λ x. x .says) enums
 unfolding anEnum enums
 enums-found = refl
-
--- ---- numbers at a message: the name of what declares them
-data Known : Type 0 where
-  is : List ℕ → Known
-  unknown : Known
-  noMessage : Known
-
-abbrev known : List ℕ → Option Declaration → Known
-known s none = unknown
-known s (some d) = is (text s (d .name))
-
-abbrev knownIn : List ℕ → String → ℕ → List Scope → Known
-knownIn s m k [] = noMessage
-knownIn s m k (c ∷ cs) = known s (declarationOf s (holding s (c .place)) (ascii m) k)
-
-record Numbered : Type 0 where
-  sheet : List ℕ
-  path : String
-  number : ℕ
-  says : Known
-
-abbrev declares : List ℕ → String → ℕ → Known → Numbered
-declares s p k a = record { sheet = s; path = p; number = k; says = a }
-
-declaring : Numbered → Known
-unfolding declarationOf messagesAt scopes components split onFirst spell sameBytes treeOf fileIn itemsIn itemIn valueIn extensionAt
-    messageFieldAt valueAt shapeAt typePathAt hasTypePath walkBy leafAt fieldAt bigAt
-declaring x = knownIn (x .sheet) (x .path) (x .number) (messagesAt (x .sheet) (components (ascii (x .path))))
-
--- p.M has the fields f = 1, g = 1 and h = 2, and in it N has n = 3; extensions of it stand before and after it, one of them in p.L.K, and
--- in the second file
-abbrev extended : List ℕ
-extended =
-    file "p" (extension "early" "p.M" 1 ++ message "L" (field "l" 9 ++ message "K" (extension "deep" "p.M" 5))
-    ++ message "M" (field "f" 1 ++ field "g" 1 ++ field "h" 2 ++ message "N" (field "n" 3))
-    ++ extension "other" "p.L" 4 ++ extension "plain" "p.M" 7 ++ extension "twin" "p.M" 7)
-    ++ file "q" (extension "shallow" "p.M" 5 ++ extension "late" "p.M" 4 ++ extension "far" "p.M" 2
-    ++ extension "relative" "M" 8 ++ message "M" (field "m" 10) ++ extension "plain" "p.M" 7
-    ++ extension "most" "p.M" 536870911)
-
-numbers : List Numbered
-numbers =
-    -- a field before an extension of the number, which stands before it or after it; of two fields the first
-    declares extended "p.M" 1 (is (ascii "f"))
-    ∷ declares extended "p.M" 2 (is (ascii "h"))
-    -- an extension in the second file, where no field has the number; that of another message, though earlier, is passed over
-    ∷ declares extended "p.M" 4 (is (ascii "late"))
-    ∷ declares extended "p.L" 4 (is (ascii "other"))
-    ∷ declares extended "p.M" 536870911 (is (ascii "most"))
-    -- of two extensions the first in the bytes, also where it stands deeper
-    ∷ declares extended "p.M" 7 (is (ascii "plain"))
-    ∷ declares extended "p.M" 5 (is (ascii "deep"))
-    -- the extendee is a full name as it is written
-    ∷ declares extended "p.M" 8 unknown
-    -- a field of a message inside, of another message, and of another message of that name
-    ∷ declares extended "p.M" 3 unknown
-    ∷ declares extended "p.M.N" 3 (is (ascii "n"))
-    ∷ declares extended "p.M" 9 unknown
-    ∷ declares extended "p.M" 10 unknown
-    ∷ declares extended "q.M" 10 (is (ascii "m"))
-    -- extensions of p.M are none of q.M, nor of p.M.N
-    ∷ declares extended "q.M" 7 unknown
-    ∷ declares extended "p.M.N" 7 unknown
-    -- a number that nothing has
-    ∷ declares extended "p.M" 6 unknown
-    ∷ declares extended "p.M" 0 unknown
-    ∷ []
-
-numbers-known : map declaring numbers ≡ map (λ x. x .says) numbers
-unfolding declaring numbers
-numbers-known = refl
 
 -- ---- the scopes at a path: the indices of their files
 placesAt : Case (List ℕ) → List ℕ

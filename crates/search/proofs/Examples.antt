@@ -14,7 +14,7 @@ use Rattle.sheet.specs.Declaration.{hasTypePath, typePathAt, shapeAt, extension
 use Rattle.sheet.specs.Tree.{valueIn, itemIn, itemsIn, fileIn, treeOf}
 use Rattle.search.specs.declared.extension.Resolved.{Resolved}
 use Rattle.search.specs.declared.extension.Resolved.the-variants.{Field, Refused}
-use Rattle.search.specs.Scopes.{scopes}
+use Rattle.scopes.specs.Scopes.{scopes}
 use Rattle.search.specs.Lookup.{foundAt, tried, findExtensionByPath, extResolveField}
 use Rattle.search.proofs.Sheets.{file, message, extension}
 

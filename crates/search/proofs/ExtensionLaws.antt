@@ -27,9 +27,9 @@ use Rattle.sheet.specs.declared.declaration.Declaration.{Declaration}
 use Rattle.sheet.specs.declared.declaration.Declared.{Declared}
 use Rattle.sheet.specs.declared.declaration.Declared.the-variants.{Declares, NoDeclaration}
 use Rattle.scope.specs.declared.lookup.LookupScope.{LookupScope}
-use Rattle.search.specs.declared.scopes.Cursor.{Cursor}
-use Rattle.search.specs.declared.scopes.Next.{Next}
-use Rattle.search.specs.declared.scopes.Next.the-variants.{At, NoMore}
+use Rattle.scopes.specs.declared.Cursor.{Cursor}
+use Rattle.scopes.specs.declared.Next.{Next}
+use Rattle.scopes.specs.declared.Next.the-variants.{At, NoMore}
 use Rattle.search.specs.declared.extension.Found.{Found}
 use Rattle.search.specs.declared.extension.Candidate.{Candidate}
 use Rattle.search.specs.declared.extension.Tried.{Tried}
@@ -38,16 +38,16 @@ use Rattle.search.specs.declared.extension.Resolved.{Resolved}
 use Rattle.search.specs.declared.extension.Resolved.the-variants.{Field, Refused}
 use Rattle.basis.specs.First.{firstSome}
 use Rattle.scope.specs.Scope.{Scope, holding, declarationNamed, declared}
-use Rattle.search.specs.Scopes.{scopes}
-use Rattle.search.specs.inner.Cursor.{ahead, startOf, Nexts}
+use Rattle.scopes.specs.Scopes.{scopes}
+use Rattle.scopes.specs.inner.Cursor.{ahead, startOf, Nexts}
 use Rattle.search.specs.Lookup.{foundIn, foundAt, foundAmong, orNotFound, findExtensionByAbsPath, tried}
 use Rattle.search.specs.Lookup.{findExtensionByPath, extResolveField}
 use Rattle.scope.proofs.Answers.{declared-none, declared-some}
 use Rattle.search.proofs.TriedLaws.{resolved-none, resolved-some}
 use Rattle.scope.proofs.DeclaredPlaces.{places-laws}
 use Rattle.search.proofs.LiesLaws.{found-ordered, found-places}
-use Rattle.search.proofs.Left.{Left, left-end, left-step, left-next, left-laws}
-use Rattle.search.proofs.StartLaws.{components-some, last-text, start-before, start-before-stands}
+use Rattle.scopes.proofs.Left.{Left, left-end, left-step, left-next, left-laws}
+use Rattle.scopes.proofs.StartLaws.{components-some, last-text, start-before, start-before-stands}
 
 -- ---- first_extension
 abbrev pub namedIn : (s : List ℕ) (n : Name) (cs : List Scope) → Resolved

@@ -18,8 +18,8 @@ use Rattle.search.specs.declared.extension.Resolved.the-variants.{Field,
 use Rattle.basis.specs.First.{first, given, orElse, firstSome}
 use Rattle.scope.specs.Scope.{Scope}
 use Rattle.field.specs.Leaf.{isText}
-use Rattle.search.specs.Scopes.{scopes}
-use Rattle.search.specs.Number.{extends}
+use Rattle.scopes.specs.Scopes.{scopes}
+use Rattle.scope.specs.Scope.{extends}
 use Rattle.search.specs.Lookup.{foundIn, foundAt, foundAmong, orNotFound, tried, findExtensionByPath, extended, compared}
 use Rattle.basis.specs.Among.{Among, here, there, Behind, Ordered, next}
 use Rattle.search.specs.Answers.{Declares, Undeclared, Answers, AnswersAt}

@@ -14,22 +14,22 @@ use Rattle.path.specs.inner.Last.{LastAt}
 use Rattle.path.proofs.PathLaws.{components-nil}
 use Rattle.sheet.specs.Members.{Enumeration}
 use Rattle.scope.specs.declared.lookup.LookupScope.{LookupScope}
-use Rattle.search.specs.declared.scopes.Cursor.{Cursor}
-use Rattle.search.specs.declared.scopes.Next.{Next}
-use Rattle.search.specs.declared.scopes.Next.the-variants.{At, NoMore}
+use Rattle.scopes.specs.declared.Cursor.{Cursor}
+use Rattle.scopes.specs.declared.Next.{Next}
+use Rattle.scopes.specs.declared.Next.the-variants.{At, NoMore}
 use Rattle.search.specs.declared.full_name.LookedUp.the-variants.{Message, NoMessage}
 use Rattle.search.specs.declared.full_name.LookedUpEnum.{LookedUpEnum}
 use Rattle.search.specs.declared.full_name.LookedUpEnum.the-variants.{Values, NoEnum}
 use Rattle.basis.specs.First.{onlyIf, told, onto, collect}
 use Rattle.scope.specs.Scope.{Scope, holding, enumNamed, bodied}
-use Rattle.search.specs.Scopes.{scopes}
-use Rattle.search.specs.inner.Cursor.{ahead, startOf, Nexts}
+use Rattle.scopes.specs.Scopes.{scopes}
+use Rattle.scopes.specs.inner.Cursor.{ahead, startOf, Nexts}
 use Rattle.search.specs.Lookup.{messagesAt, enumsAt, lookedUp, lookedUpEnum}
 use Rattle.search.specs.inner.Ahead.{kept, passing, isMessage, declaresEnum}
 use Rattle.scope.proofs.Held.{enum-at, enum-not}
-use Rattle.search.proofs.CursorLaws.{nexts-no-more, nexts-at, nexts-stands, nexts-lies}
-use Rattle.search.proofs.Left.{Left, left-end, left-some, left-none, left-laws}
-use Rattle.search.proofs.StartLaws.{components-some, last-text, start-ahead, start-stands, start-before, start-before-stands}
+use Rattle.scopes.proofs.CursorLaws.{nexts-no-more, nexts-at, nexts-stands, nexts-lies}
+use Rattle.scopes.proofs.Left.{Left, left-end, left-some, left-none, left-laws}
+use Rattle.scopes.proofs.StartLaws.{components-some, last-text, start-ahead, start-stands, start-before, start-before-stands}
 
 -- ---- next_message and next_enum: the next of the scopes to come that passes a test
 module _ (good : Scope → Bool) (s t : List ℕ) (c₀ c : Cursor) (k : Left (passing good s t c₀) (collect (kept good)) s t c)

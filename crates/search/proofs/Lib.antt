@@ -1,8 +1,3 @@
-pub mod ScopesLaws
-pub mod CursorLaws
-pub mod StartLaws
-pub mod Left
-pub mod ScopeFiles
 pub mod TriedLaws
 pub mod LiesLaws
 pub mod ExtensionLaws
@@ -14,5 +9,3 @@ pub mod Theorems
 pub mod Sheets
 pub mod Examples
 pub mod Controls
-pub mod NumberControls
-pub mod NumberLaws

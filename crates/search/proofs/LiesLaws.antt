@@ -33,8 +33,8 @@ use Rattle.search.specs.declared.full_name.LookedUpEnum.{LookedUpEnum}
 use Rattle.search.specs.declared.full_name.LookedUpEnum.the-variants.{Values}
 use Rattle.basis.specs.First.{orElse}
 use Rattle.scope.specs.Scope.{Scope, InSheet, holding, fileScope, declarationNamed, enumNamed, declared}
-use Rattle.search.specs.Number.{hasNumber, extends, isExtensionOf, fieldNumbered, extensionNumbered, declarationOf}
-use Rattle.search.specs.Scopes.{scopeIn, scopesIn, scopesFrom, scopes}
+use Rattle.scope.specs.Scope.{extends}
+use Rattle.scopes.specs.Scopes.{scopeIn, scopesIn, scopesFrom, scopes}
 use Rattle.search.specs.Lookup.{foundIn, foundAt, findExtensionByPath, extended, compared, extResolveField}
 use Rattle.search.specs.Lookup.{messageOf, messagesAt, enumsAt, lookedUp, lookedUpEnum}
 use Rattle.basis.proofs.FirstLaws.{given-holds, Every, none-of, one-of, every-all, every-append, every-onto, every-collect}
@@ -42,8 +42,8 @@ use Rattle.basis.proofs.FirstLaws.{first-some-holds}
 use Rattle.scope.proofs.Answers.{declared-some}
 use Rattle.scope.proofs.DeclaredPlaces.{Ordered, places-ordered, extension-lies, declaration-lies}
 use Rattle.scope.proofs.Held.{HeldEnum, enum-held, enum-lies-ordered, enum-lies-within}
-use Rattle.search.proofs.ScopeFiles.{only-some, follows, index}
-use Rattle.search.proofs.ScopesLaws.{Placed, followed-placed}
+use Rattle.scopes.proofs.ScopeFiles.{only-some, follows, index}
+use Rattle.scopes.proofs.ScopesLaws.{Placed, followed-placed}
 use Rattle.search.proofs.TriedLaws.{by-path-some}
 
 -- ---- the scopes at a path
@@ -83,25 +83,6 @@ module _ (s : List ℕ) where
   pub scopes-stand : (p : Path) → Every (Standing s) (scopes s p)
   unfolding scopes
   scopes-stand p = scopes-from-stand [] p
-
--- ---- a declaration of a number
-module _ (s m : List ℕ) (k : ℕ) (p : LookupScope) (l : InSheet s p) (d : Declaration) where
-  declaration-places : declarationOf s (holding s p) m k ≡ some d → Places (length s) d
-  unfolding declarationOf
-  declaration-places = go (fieldNumbered k (holding s p)) (declaration-lies s p l fieldTag (hasNumber k) d)
-    where
-      go : (o : Option Declaration) → (o ≡ some d → Places (length s) d) → orElse o (extensionNumbered s m k) ≡ some d
-          → Places (length s) d
-      go none f q = extension-lies s (isExtensionOf s m k) d q
-      go (some x) f q = f q
-
-  -- what `declaration_of` answers
-  module _ (r : Declared) (q : r ≡ declared (declarationOf s (holding s p) m k)) (g : r ≡ Declares d) where
-    pub numbered-places : Places (length s) d
-    numbered-places = declaration-places (declared-some r (declarationOf s (holding s p) m k) q d g)
-
-    pub numbered-ordered : Ordered d
-    numbered-ordered = places-ordered numbered-places
 
 -- ---- an extension that was found
 pub record FoundLies (s : List ℕ) (f : Found) : Type 0 where

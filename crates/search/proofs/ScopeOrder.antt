@@ -11,11 +11,11 @@ use Rattle.path.specs.Path.{Name, Path, components, spell, allIdent}
 use Rattle.path.proofs.PathLaws.{ident-first, ident-rest, ident-cons, idents-append}
 use Rattle.sheet.specs.Tree.{File, treeOf}
 use Rattle.scope.specs.Scope.{Scope}
-use Rattle.search.specs.Scopes.{scopesIn, scopesFrom}
+use Rattle.scopes.specs.Scopes.{scopesIn, scopesFrom}
 use Rattle.basis.specs.Among.{Among, Ordered}
 use Rattle.search.specs.Answers.{Gives, packageOf, Earlier, fewer, sooner}
 use Rattle.basis.proofs.AmongLaws.{among-append-left, among-append-right, among-append-cases, ordered-append, ordered-mono}
-use Rattle.search.proofs.ScopeFiles.{same-components, components-same, Comes, comes, goes, follows, index, files-rise}
+use Rattle.scopes.proofs.ScopeFiles.{same-components, components-same, Comes, comes, goes, follows, index, files-rise}
 
 getD-map-some : {A B : Type 0} (g : A → B) (xs : List A) (k : ℕ) (x : A) (d : B) → getElem? xs k ≡ some x → getD (map g xs) k d ≡ g x
 getD-map-some g [] k x d e = never cc

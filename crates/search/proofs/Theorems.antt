@@ -14,8 +14,8 @@ use Rattle.search.specs.declared.extension.Candidate.{Candidate}
 use Rattle.search.specs.declared.extension.Tried.the-variants as attempt
 use Rattle.search.specs.declared.extension.Resolved.the-variants.{Field, Refused}
 use Rattle.scope.specs.Scope.{Scope}
-use Rattle.search.specs.Scopes.{scopes}
-use Rattle.search.specs.Number.{extends}
+use Rattle.scopes.specs.Scopes.{scopes}
+use Rattle.scope.specs.Scope.{extends}
 use Rattle.search.specs.Lookup.{foundAt, orNotFound, findExtensionByAbsPath, tried, findExtensionByPath, extResolveField}
 use Rattle.basis.specs.Among.{Among, Ordered}
 use Rattle.search.specs.Answers.{Undeclared, Answers, AnswersAt, Gives, Earlier}
@@ -24,7 +24,7 @@ use Rattle.basis.proofs.AmongFirsts.{firsts-none, none-firsts, firsts-one}
 use Rattle.search.proofs.CandidateOrder.{candidates-fall, candidates-some, candidates-idents, parent-idents}
 use Rattle.search.proofs.TriedLaws.{by-path, by-path-none, by-path-why, none-by-path}
 use Rattle.search.proofs.FoundLaws as found
-use Rattle.search.proofs.ScopeFiles as files
+use Rattle.scopes.proofs.ScopeFiles as files
 use Rattle.search.proofs.ScopeOrder.{from-ordered, earlier-apart, from-gives, gives-from}
 
 -- ---- when nothing is found

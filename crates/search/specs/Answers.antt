@@ -24,7 +24,7 @@ use Rattle.basis.specs.Among.{Among, Behind}
 use Rattle.search.specs.declared.extension.Found.{Found}
 use Rattle.search.specs.declared.extension.Candidate.{Candidate}
 use Rattle.scope.specs.Scope.{Scope, fileScope}
-use Rattle.search.specs.Scopes.{follow, scopes}
+use Rattle.scopes.specs.Scopes.{follow, scopes}
 
 -- ---- what is declared, and what answers
 pub record Declares (s : List ℕ) (p : Path) (d : Declaration) (c : Scope) : Type 0 where

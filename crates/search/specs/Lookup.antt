@@ -27,7 +27,7 @@ use Rattle.sheet.specs.Table.{extensionTag}
 use Rattle.sheet.specs.Members.{Enumeration}
 use Rattle.basis.specs.First.{onlyIf, told, given, orElse, firstSome, collect}
 use Rattle.scope.specs.Scope.{Scope, declarationNamed, enumNamed}
-use Rattle.search.specs.Number.{extends}
+use Rattle.scope.specs.Scope.{extends}
 use Rattle.search.specs.declared.extension.Found.{Found}
 use Rattle.search.specs.declared.extension.Candidate.{Candidate}
 use Rattle.search.specs.declared.extension.Tried.{Tried}
@@ -38,7 +38,7 @@ use Rattle.search.specs.declared.full_name.LookedUp.{LookedUp}
 use Rattle.search.specs.declared.full_name.LookedUp.the-variants.{Message, NoMessage}
 use Rattle.search.specs.declared.full_name.LookedUpEnum.{LookedUpEnum}
 use Rattle.search.specs.declared.full_name.LookedUpEnum.the-variants.{Values, NoEnum}
-use Rattle.search.specs.Scopes.{scopes}
+use Rattle.scopes.specs.Scopes.{scopes}
 
 abbrev pub foundIn : (s : List ℕ) (n : Name) (c : Scope) → Option Found
 foundIn s n c = given (declarationNamed extensionTag s n c) λ d. some (record { file = c .place .file; declaration = d })

@@ -1,4 +1,3 @@
--- Notions of inner contracts, of a walk through the scopes at a path: a reader of 01 need not read them.
+-- Notions of inner contracts, of what is still to come of the scopes at a path: a reader of 01 need not read them.
 -- Assumes nothing.
-pub mod Cursor
 pub mod Ahead

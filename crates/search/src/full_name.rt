@@ -3,13 +3,9 @@ ghost use Rattle.basis.specs.Kit.{_≡_, [], _∷_};
 ghost use Rattle.basis.specs.First.{collect};
 ghost use Rattle.path.specs.Path.{components};
 ghost use Rattle.scope.specs.Scope.{InSheet, holding, enumNamed};
-ghost use Rattle.search.specs.inner.Cursor.{ahead, Stands, Nexts};
+ghost use Rattle.scopes.specs.inner.Cursor.{ahead, Stands, Nexts};
 ghost use Rattle.search.specs.Lookup.{messagesAt, enumsAt, lookedUp, lookedUpEnum};
 ghost use Rattle.search.specs.inner.Ahead.{passing, isMessage, declaresEnum};
-use crate::scopes::Cursor;
-use crate::scopes::Next;
-use crate::scopes::next_scope;
-use crate::scopes::start;
 use field::Leaf;
 use field::Span;
 use path::protobuf_rel_path::before;
@@ -17,6 +13,10 @@ use path::protobuf_rel_path::last_at;
 use reply::Refusal;
 use scope::lookup::LookupScope;
 use scope::lookup::enum_named;
+use scopes::Cursor;
+use scopes::Next;
+use scopes::next_scope;
+use scopes::start;
 
 // What looking up a message comes to.
 pub enum LookedUp {

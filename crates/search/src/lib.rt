@@ -2,5 +2,3 @@
 // over the lent sheet, and code equals definition on every sheet, well-formed or not.
 pub mod extension;
 pub mod full_name;
-pub mod number;
-pub mod scopes;

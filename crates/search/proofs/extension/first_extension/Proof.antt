@@ -2,8 +2,8 @@
 -- Assumes nothing.
 use Rattle.basis.specs.Kit.{length}
 use Rattle.basis.proofs.Kit.{needs}
-use Rattle.search.specs.inner.Cursor.{ahead}
-use Rattle.search.proofs.Left.{Left}
+use Rattle.scopes.specs.inner.Cursor.{ahead}
+use Rattle.scopes.proofs.Left.{Left}
 use Rattle.search.proofs.ExtensionLaws.{namedIn, first-extension-laws}
 use Rattle.search.proofs.extension.first_extension.Statement.{statement}
 use Rattle.search.proofs.extension.first_extension.Tie as tie

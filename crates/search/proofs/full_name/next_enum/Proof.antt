@@ -3,9 +3,9 @@
 use Rattle.basis.specs.Kit.{length}
 use Rattle.basis.proofs.Kit.{needs}
 use Rattle.basis.specs.First.{collect}
-use Rattle.search.specs.inner.Cursor.{ahead}
+use Rattle.scopes.specs.inner.Cursor.{ahead}
 use Rattle.search.specs.inner.Ahead.{kept, passing, declaresEnum}
-use Rattle.search.proofs.Left.{Left}
+use Rattle.scopes.proofs.Left.{Left}
 use Rattle.search.proofs.FullNameLaws.{next-enum-laws}
 use Rattle.search.proofs.full_name.next_enum.Statement.{statement}
 use Rattle.search.proofs.full_name.next_enum.Tie as tie

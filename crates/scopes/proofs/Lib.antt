@@ -1,0 +1,5 @@
+pub mod ScopesLaws
+pub mod CursorLaws
+pub mod StartLaws
+pub mod Left
+pub mod ScopeFiles

@@ -1,0 +1,32 @@
+-- `scopes::next_here` meets its contract.
+-- Assumes nothing.
+use Rattle.basis.specs.Kit.{_-_}
+use Rattle.basis.proofs.Kit.{needs}
+use Rattle.scopes.specs.inner.Cursor.{here}
+use Rattle.scopes.proofs.CursorLaws.{Onward, here-laws}
+use Rattle.scopes.proofs.next_here.Statement.{statement}
+use Rattle.scopes.proofs.next_here.Tie as tie
+
+abbrev Inv-loop : tie.InvT-loop
+Inv-loop s names cursor end at₀ file₀ at file = Onward (here s names) s names cursor (record { next = cursor .next; at = at; file = file })
+
+abbrev μ-loop : tie.MeasureT-loop
+μ-loop s names cursor end at₀ file₀ at file = end - at
+
+pub next-here-spec : {M : Type 1} → statement M
+next-here-spec = tie.close (tie.spec Inv-loop μ-loop
+    (λ c. search (needs, here-laws))
+    (λ c κs. search (needs, here-laws))
+    (λ c. search (needs, here-laws))
+    (λ c. search (needs, here-laws))
+    (λ c. search (needs, here-laws))
+    (λ c κs. search (needs, here-laws))
+    (λ c κs. search (needs, here-laws))
+    (λ c. search (needs, here-laws))
+    (λ c κs. search (needs, here-laws))
+    (λ c. search (needs, here-laws))
+    (λ c. search (needs, here-laws))
+    (λ c. search (needs, here-laws))
+    (λ c. search (needs, here-laws))
+    (λ c. search (needs, here-laws))
+    (λ c. search (needs, here-laws)))
