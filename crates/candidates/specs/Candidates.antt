@@ -13,7 +13,7 @@ ancestors [] = [] ∷ []
 ancestors (n ∷ ns) = map (λ (p : Path). n ∷ p) (ancestors ns) ++ ([] ∷ [])
 
 -- "An absolute name has one candidate, itself. A relative name has scope plus name, then each parent of the scope plus name, last the name
--- alone."
+-- alone." [PATH-4, PATH-5]
 unfoldable pub candidates : (scope name : List ℕ) → List Path
 candidates scope name = elim (isAbs name) [
   | true ↦ components (rootless name) ∷ []

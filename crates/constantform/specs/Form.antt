@@ -23,7 +23,7 @@ use Rattle.constantform.specs.Leaves.{isConstant, goodScalar, goodPairNa
 abbrev pub badRequest : Verdict
 badRequest = Refused BadRequest
 
--- "26 message, pairs of a name .. and a constant"
+-- "26 message, pairs of a name .. and a constant" [FORM-4, FAULT-7]
 abbrev pub pairsOf : (inner : (tag from to : ℕ) → Verdict) (s : List ℕ) → Walk → Verdict
 pairsOf inner s done = Fine
 pairsOf inner s cut = badRequest
@@ -39,6 +39,7 @@ constantWith inner s t a e = elim (eqb t messageConstantTag) [
 ]
 
 -- "constants of any kind nested 16 deep"; "The outermost .. constant is depth 1"; scalars count too, and a wrong tag is form at any depth
+-- [LIMIT-2, FAULT-5]
 abbrev pub judgeConstant : (left : ℕ) (s : List ℕ) (tag from to : ℕ) → Verdict
 judgeConstant zero s t a e = elim (isConstant t) [ true ↦ beyond | false ↦ badRequest ]
 judgeConstant (suc d) s t a e = elim (isConstant t) [ true ↦ constantWith (judgeConstant d s) s t a e | false ↦ badRequest ]

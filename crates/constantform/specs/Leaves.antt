@@ -20,15 +20,16 @@ use Rattle.request.specs.Table.{pairFieldTag, pairExtensionTag, pairUrlTag, lis
 unfoldable pub isConstant : (tag : ℕ) → Bool
 isConstant t = leb boolTag t && leb t messageConstantTag || eqb t listTag
 
--- "20 bool (one byte, 0 or 1)"
+-- "20 bool (one byte, 0 or 1)" [FORM-4]
 unfoldable pub isBool : List ℕ → Bool
 isBool bs = eqb (length bs) 1 && leb (getD bs 0 0) 1
 
--- "29 type URL of 1 to 255 bytes"
+-- "29 type URL of 1 to 255 bytes" [FORM-4, NAME-6]
 unfoldable pub isUrl : List ℕ → Bool
 isUrl bs = leb 1 (length bs) && leb (length bs) mostUrl
 
 -- "21 unsigned, 22 signed (8 bytes each); 23 a float constant, eight bytes, its f64 bits; 24 string, already unescaped; 25 identifier"
+-- [FORM-4, FORM-12, LIMIT-3]
 unfoldable pub goodScalar : (tag : ℕ) (bytes : List ℕ) → Bool
 goodScalar t bs = elim (eqb t boolTag) [
   | true ↦ isBool bs
@@ -41,7 +42,7 @@ goodScalar t bs = elim (eqb t boolTag) [
   ]
 ]
 
--- "a name (27 field, 28 extension path, 29 type URL ..)"; "only 1B may lead with a dot"
+-- "a name (27 field, 28 extension path, 29 type URL ..)"; "only 1B may lead with a dot" [FORM-4, NAME-3]
 unfoldable pub goodPairName : (tag : ℕ) (bytes : List ℕ) → Bool
 goodPairName t bs = elim (eqb t pairFieldTag) [
   | true ↦ isIdent bs
@@ -51,6 +52,6 @@ goodPairName t bs = elim (eqb t pairFieldTag) [
   ]
 ]
 
--- "1A direct part, 1B extension part"
+-- "1A direct part, 1B extension part" [FORM-3, NAME-3]
 unfoldable pub goodPart : (extension : Bool) (bytes : List ℕ) → Bool
 goodPart extension bs = elim extension [ true ↦ isPath bs | false ↦ isIdent bs ]

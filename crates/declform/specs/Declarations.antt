@@ -27,7 +27,7 @@ inRange n most = leb 1 n && leb n most
 unfoldable pub goodTypePath : (s : List ℕ) (shape : Shape) → Bool
 goodTypePath s h = elim (hasTypePath (h .typ)) [ true ↦ isRelPath (text s (h .path)) | false ↦ true ]
 
--- "Types 1 to 18 and labels 1 to 3 are descriptor.proto's. Field numbers are 1 to 536,870,911."
+-- "Types 1 to 18 and labels 1 to 3 are descriptor.proto's. Field numbers are 1 to 536,870,911." [FORM-3, LIMIT-3]
 unfoldable pub goodShape : (s : List ℕ) (shape : Shape) → Bool
 goodShape s h =
     inRange (h .number) mostNumber && inRange (h .typ) mostType && inRange (h .label) mostLabel && goodTypePath s h

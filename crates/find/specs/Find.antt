@@ -34,7 +34,7 @@ use Rattle.search.specs.declared.extension.Resolved.{Resolved}
 use Rattle.search.specs.declared.extension.Resolved.the-variants.{Field, Refused}
 use Rattle.search.specs.Lookup.{findExtensionByPath}
 
--- 01, Replies: "Inputs in the order a call names them, the sheet first"
+-- 01, Replies: "Inputs in the order a call names them, the sheet first" [FAULT-1, FIND-1]
 unfoldable pub judgeAll : (v : Verdict) (c p : List ℕ) → Verdict
 judgeAll v c p = firstFault v (firstFault (judgeScope c) (judgePath p))
 
@@ -75,7 +75,7 @@ findTested s c p = worded (findingTested s c p)
 abbrev pub noBytes : Span
 noBytes = span 0 0
 
--- 01, The search: "Its name is handed back as the sheet's own bytes, never the request's"
+-- 01, The search: "Its name is handed back as the sheet's own bytes, never the request's" [SEARCH-9]
 abbrev pub nameSpan : Resolved → Span
 nameSpan (Field f) = f .declaration .name
 nameSpan (Refused w) = noBytes

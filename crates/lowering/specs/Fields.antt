@@ -13,7 +13,7 @@ use Rattle.reply.specs.Outcome.{Outcome, refuse, give, push}
 
 -- "A 1 opens a oneof at the count so far; a 2 gives its index to its members and counts, empty or not. Each 0, 1 and 3 gives one u32 word:
 -- 0 for none, else index + 1"; "a 3 not right after a 2 or 3, or another word, is 2". The index of the oneof opened last is
--- the count before it, so its word is the count with it
+-- the count before it, so its word is the count with it [LOWER-6, LOWER-7, LOWER-8]
 unfoldable pub oneofs : (count member : ℕ) (ws : List ℕ) → Outcome ℕ
 oneofs count member [] = give []
 oneofs count member (w ∷ ws) =
@@ -31,6 +31,6 @@ oneofs count member (w ∷ ws) =
       ]
     ]
 
--- "at most 4,096 words a list (else 3)"
+-- "at most 4,096 words a list (else 3)" [LOWER-1, LOWER-9]
 unfoldable pub lowerFields : List ℕ → Outcome ℕ
 lowerFields ws = elim (ltb mostWords (length ws)) [ true ↦ refuse BeyondLimit | false ↦ oneofs 0 0 ws ]

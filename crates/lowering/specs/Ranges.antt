@@ -17,7 +17,7 @@ use Rattle.reply.specs.Outcome.{Outcome, refuse, give, push}
 use Rattle.lowering.specs.declared.ranges.End.{End}
 use Rattle.lowering.specs.declared.ranges.End.the-variants.{At, NoNext}
 
--- "a kind (0 extension, 1 message-reserved, 2 enum-reserved)"
+-- "a kind (0 extension, 1 message-reserved, 2 enum-reserved)" [LOWER-2]
 abbrev pub enumReserved : ℕ
 enumReserved = 2
 
@@ -28,7 +28,7 @@ abbrev pub isLast : ℤ → Bool
 isLast (pos n) = eqb n lastEnd
 isLast (negsuc n) = false
 
--- "kinds 0 and 1 give end + 1, kind 2 keeps end"; 01, example 10: "end 2147483647: 16, but kept for an enum"
+-- "kinds 0 and 1 give end + 1, kind 2 keeps end"; 01, example 10: "end 2147483647: 16, but kept for an enum" [LOWER-3, LOWER-4]
 unfoldable pub endOf : ℕ → ℤ → End
 endOf k e = elim (eqb k enumReserved) [ true ↦ At e | false ↦ elim (isLast e) [ true ↦ NoNext | false ↦ At (e +ℤ pos 1) ] ]
 
@@ -42,7 +42,7 @@ pairs k [] = give []
 pairs k (s ∷ []) = refuse BadRequest
 pairs k (s ∷ e ∷ ws) = withEnd s (endOf k e) (pairs k ws)
 
--- "at most 4,096 words a list (else 3)"; "Another kind or an odd count is 2, before any 16"
+-- "at most 4,096 words a list (else 3)"; "Another kind or an odd count is 2, before any 16" [LOWER-1, LOWER-5]
 unfoldable pub lowerRanges : ℕ → List ℤ → Outcome ℤ
 lowerRanges k ws =
     elim (ltb enumReserved k) [

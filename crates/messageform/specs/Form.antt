@@ -24,14 +24,14 @@ use Rattle.declform.specs.Declarations.{isExtension, isField, isValue}
 abbrev pub badSheet : Verdict
 badSheet = Refused BadSheet
 
--- tag 04: "11, then 06 values"
+-- tag 04: "11, then 06 values" [FORM-2, FAULT-5]
 unfoldable pub judgeValue : (s : List ℕ) (tag from to : ℕ) → Verdict
 judgeValue s t a e = elim (eqb t valueTag) [ true ↦ judged BadSheet (isValue s a e) | false ↦ badSheet ]
 
 unfoldable pub judgeEnum : (s : List ℕ) (from to : ℕ) → Verdict
 judgeEnum s a e = onLeaf badSheet (leafAt nameTag isIdent s a e) λ n body. each BadSheet (judgeValue s) (walk s body e)
 
--- "any of 02, 03, 04" in a file, "any of 02, 03, 04, 05" in a message
+-- "any of 02, 03, 04" in a file, "any of 02, 03, 04, 05" in a message [FORM-2, FAULT-5]
 unfoldable pub judgeItem : (inner : (from to : ℕ) → Verdict) (fields : Bool) (s : List ℕ) (tag from to : ℕ) → Verdict
 judgeItem inner fields s t a e = elim (eqb t messageTag) [
   | true ↦ inner a e
@@ -47,7 +47,7 @@ judgeItem inner fields s t a e = elim (eqb t messageTag) [
   ]
 ]
 
--- tag 02: "11 name, then any of 02, 03, 04, 05"; "messages 16 deep", "The outermost message .. is depth 1"
+-- tag 02: "11 name, then any of 02, 03, 04, 05"; "messages 16 deep", "The outermost message .. is depth 1" [FORM-2, LIMIT-1, LIMIT-2]
 abbrev pub judgeMessage : (left : ℕ) (s : List ℕ) (from to : ℕ) → Verdict
 judgeMessage zero s a e = beyond
 judgeMessage (suc d) s a e =

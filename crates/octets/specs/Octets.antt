@@ -17,7 +17,7 @@ sameBytes [] (y ∷ ys) = false
 sameBytes (x ∷ xs) [] = false
 sameBytes (x ∷ xs) (y ∷ ys) = elim (eqb x y) [ true ↦ sameBytes xs ys | false ↦ false ]
 
--- 01, Sheet and request: "numbers big-endian"
+-- 01, Sheet and request: "numbers big-endian" [FORM-1]
 unfoldable pub bigAt : (width : ℕ) (s : List ℕ) (at : ℕ) → ℕ
 bigAt zero s at = 0
 bigAt (suc k) s at = bigAt k s at * 256 + getD s (at + k) 0

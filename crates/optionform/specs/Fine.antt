@@ -16,7 +16,7 @@ abbrev pub goodParts : (s : List ℕ) → List Part → Bool
 goodParts s [] = true
 goodParts s (p ∷ ps) = goodPart (p .extension) (text s (p .name)) && goodParts s ps
 
--- "one or more of 1A direct part, 1B extension part; one constant"; "16 parts a name"
+-- "one or more of 1A direct part, 1B extension part; one constant"; "16 parts a name" [FORM-2, LIMIT-1, READ-6]
 abbrev pub goodOption : (s : List ℕ) → Option → Bool
 goodOption s o =
     leb 1 (length (o .parts)) && leb (length (o .parts)) mostParts && goodParts s (o .parts) && eqb (countOf (o .constant)) 1

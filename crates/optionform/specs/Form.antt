@@ -29,7 +29,7 @@ use Rattle.constantform.specs.Leaves.{goodPart}
 use Rattle.optionform.specs.declared.Parts.{Parts}
 use Rattle.optionform.specs.declared.Parts.the-variants.{After, Refuses}
 
--- "16 parts a name"
+-- "16 parts a name" [LIMIT-1, FAULT-5, FAULT-6]
 abbrev pub nextPart : (s : List ℕ) (before at : ℕ) → Parted → (rest : Parts) → Parts
 nextPart s n at NoPart rest = After at
 nextPart s n at (Is p) rest = elim (ltb n mostParts) [
@@ -49,12 +49,12 @@ lastField s end (Whole t a e) = firstFault (judgeConstant mostConstants s t a e)
 unfoldable pub judgeLast : (s : List ℕ) (at end : ℕ) → Verdict
 judgeLast s at end = lastField s end (fieldAt s at end)
 
--- tag 08: "one or more of 1A direct part, 1B extension part; one constant"
+-- tag 08: "one or more of 1A direct part, 1B extension part; one constant" [FORM-2, FAULT-7]
 abbrev pub afterName : (s : List ℕ) (from to : ℕ) → Parts → Verdict
 afterName s a e (Refuses w) = Refused w
 afterName s a e (After at) = elim (eqb at a) [ true ↦ badRequest | false ↦ judgeLast s at e ]
 
--- "at most 128 options in a request"
+-- "at most 128 options in a request" [FORM-2, LIMIT-1, FAULT-5]
 unfoldable pub judgeOption : (s : List ℕ) (index tag from to : ℕ) → Verdict
 judgeOption s i t a e = elim (eqb t optionTag) [
   | true ↦ elim (ltb i mostOptions) [ true ↦ afterName s a e (partsFrom s 0 a (walk s a e)) | false ↦ beyond ]

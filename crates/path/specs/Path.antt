@@ -41,7 +41,7 @@ unfoldable pub components : (text : List ℕ) → Path
 components [] = []
 components (c ∷ cs) = split (c ∷ cs)
 
--- 01, Sheet and request: "identifiers joined by dots"
+-- 01, Sheet and request: "identifiers joined by dots" [PATH-1]
 unfoldable pub spell : Path → List ℕ
 spell [] = []
 spell (n ∷ []) = n
@@ -52,10 +52,11 @@ allIdent [] = true
 allIdent (n ∷ ns) = isIdent n && allIdent ns
 
 -- 01, Sheet and request: "Paths, at most 255 bytes, are identifiers joined by dots"; the one piece of the empty text is no identifier
+-- [NAME-2, NAME-3]
 unfoldable pub isRelPath : (text : List ℕ) → Bool
 isRelPath t = leb (length t) mostPath && allIdent (split t)
 
--- "only package and scope be empty"
+-- "only package and scope be empty" [NAME-2, NAME-3]
 unfoldable pub isRelOrEmpty : (text : List ℕ) → Bool
 isRelOrEmpty t = leb (length t) mostPath && allIdent (components t)
 
@@ -67,7 +68,7 @@ unfoldable pub rootless : (text : List ℕ) → List ℕ
 rootless [] = []
 rootless (c ∷ cs) = elim (eqb c dot) [ true ↦ cs | false ↦ c ∷ cs ]
 
--- "only 1B may lead with a dot"; the dot counts to the 255 bytes
+-- "only 1B may lead with a dot"; the dot counts to the 255 bytes [NAME-2, NAME-3]
 unfoldable pub isPath : (text : List ℕ) → Bool
 isPath t = leb (length t) mostPath && allIdent (split (rootless t))
 

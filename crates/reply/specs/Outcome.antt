@@ -29,7 +29,7 @@ push front (refused c) = refused c
 push front nothing = nothing
 push front (give l) = give (front ++ l)
 
--- NoRoom comes only when all else has passed; 01, Listing: "room last"
+-- NoRoom comes only when all else has passed; 01, Listing: "room last" [REPLY-6]
 abbrev pub within : {A : Type 0} (room : ℕ) → Outcome A → Outcome A
 within room (refused c) = refused c
 within room nothing = nothing
@@ -40,7 +40,7 @@ answerOf (refused c) = refusedFor c
 answerOf nothing = absentAnswer
 answerOf (give l) = doneWith (length l)
 
--- 01, Replies: "Refusals write nothing ..; on 0, bytes past the answer stay"
+-- 01, Replies: "Refusals write nothing ..; on 0, bytes past the answer stay" [REPLY-4, REPLY-5]
 abbrev pub leftOf : {A : Type 0} → Outcome A → (before : List A) → List A
 leftOf (refused c) before = before
 leftOf nothing before = before

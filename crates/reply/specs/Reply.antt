@@ -81,7 +81,7 @@ pub record NameOf (n s : ℕ) (t : List ℕ) : Type 0 where
 abbrev pub nowhere : Refusal → Cause
 nowhere w = record { why = w }
 
--- 01, Replies: "Refusals write nothing and return zero length"
+-- 01, Replies: "Refusals write nothing and return zero length" [REPLY-4]
 abbrev pub refusedFor : Cause → Answer
 refusedFor c = record { reply = number (c .why); second = second (c .why); absent = 0; length = 0 }
 

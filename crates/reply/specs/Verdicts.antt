@@ -23,11 +23,12 @@ abbrev pub judged : Refusal → Bool → Verdict
 judged w true = Fine
 judged w false = Refused w
 
--- 01, Replies: 3, "a figure of "Most allowed" .. passed"
+-- 01, Replies: 3, "a figure of "Most allowed" .. passed" [LIMIT-1]
 abbrev pub beyond : Verdict
 beyond = Refused BeyondLimit
 
 -- 01: "Where an answer is an enum, a definition gives this paper's number and values for each of its cases. The promises use that definition."
+-- [REPLY-9]
 abbrev pub replyOf : Verdict → ℕ
 replyOf Fine = 0
 replyOf (Refused w) = number w

@@ -33,18 +33,18 @@ use Rattle.request.specs.Table.{messageConstantTag, pairFieldTag, pairUr
 unfoldable pub integerOf : (bits : ℕ) → Constant
 integerOf b = elim (ltb b (2 ^ 63)) [ true ↦ Integer false b | false ↦ Integer true (2 ^ 64 - b) ]
 
--- "23 a float constant, eight bytes, its f64 bits"; the one NaN of f64 has no payload, so a NaN is kept by its bits
+-- "23 a float constant, eight bytes, its f64 bits"; the one NaN of f64 has no payload, so a NaN is kept by its bits [FORM-4, FORM-11]
 unfoldable pub floatOf : (bits : ℕ) → Constant
 floatOf b = elim (nanBits binary64 b) [ true ↦ NotANumber b | false ↦ Float (ofBits binary64 b) ]
 
--- "20 bool (one byte, 0 or 1)"
+-- "20 bool (one byte, 0 or 1)" [FORM-4]
 unfoldable pub boolOf : (s : List ℕ) (from to : ℕ) → Held
 boolOf s a e = elim (eqb (e - a) 1) [
   | true ↦ elim (ltb 1 (getD s a 0)) [ true ↦ NoConstant | false ↦ Holds (BoolOf (eqb (getD s a 0) 1)) ]
   | false ↦ NoConstant
 ]
 
--- "21 unsigned, 22 signed (8 bytes each)"
+-- "21 unsigned, 22 signed (8 bytes each)" [FORM-4, FORM-10]
 abbrev pub numberWith : (tag bits : ℕ) → Held
 numberWith t b = elim (eqb t unsignedTag) [
   | true ↦ Holds (Integer false b)
@@ -57,7 +57,7 @@ numberWith t b = elim (eqb t unsignedTag) [
 unfoldable pub numericOf : (s : List ℕ) (tag from to : ℕ) → Held
 numericOf s t a e = elim (eqb (e - a) 8) [ true ↦ numberWith t (bigAt 8 s a) | false ↦ NoConstant ]
 
--- "24 string, already unescaped; 25 identifier; 26 message ..; 2A list of constants"
+-- "24 string, already unescaped; 25 identifier; 26 message ..; 2A list of constants" [FORM-4]
 unfoldable pub constantOf : (s : List ℕ) (tag from to : ℕ) → Held
 constantOf s t a e = elim (eqb t boolTag) [
   | true ↦ boolOf s a e
@@ -73,7 +73,7 @@ constantOf s t a e = elim (eqb t boolTag) [
   ]
 ]
 
--- "pairs of a name (27 field, 28 extension path, 29 type URL ..) and a constant"
+-- "pairs of a name (27 field, 28 extension path, 29 type URL ..) and a constant" [FORM-4]
 unfoldable pub isPairName : (tag : ℕ) → Bool
 isPairName t = leb pairFieldTag t && leb t pairUrlTag
 

@@ -35,14 +35,14 @@ pub record Request : Type 0 where
   pub optionsType : Span
   pub options : List Option
 
--- "18 scope, 19 options type path, then 08 options"
+-- "18 scope, 19 options type path, then 08 options" [FORM-2]
 unfoldable pub headingOf : List ℕ → Headed
 headingOf s =
     onLeaf NoHeading (leafAt scopeTag anyBytes s 0 (length s)) λ a types.
     onLeaf NoHeading (leafAt optionsTypeTag anyBytes s types (length s)) λ m options.
     Heads (record { scope = span a types; «options_type» = span m options; options = options })
 
--- "one or more of 1A direct part, 1B extension part; one constant"
+-- "one or more of 1A direct part, 1B extension part; one constant" [FORM-2]
 abbrev pub constantOfField : (s : List ℕ) → Field → Constants
 constantOfField s Cut = none
 constantOfField s (Whole t a e) = constantIn mostConstants s unnamed t a e none

@@ -24,7 +24,7 @@ use Rattle.request.specs.declared.constant.Held.the-variants.{Holds, NoC
 use Rattle.request.specs.Table.{pairFieldTag, pairExtensionTag}
 use Rattle.request.specs.Constant.{constantOf, isPairName}
 
--- "27 field, 28 extension path, 29 type URL"
+-- "27 field, 28 extension path, 29 type URL" [FORM-4]
 pub data PairName : Type 0 where
   unnamed : PairName
   byField : Span → PairName
@@ -74,7 +74,7 @@ abbrev pub ifHeld : (inner : ConstantReader) (s : List ℕ) (name : PairName) (r
 ifHeld inner s l rest NoConstant = rest
 ifHeld inner s l rest (Holds c) = grown inner s l rest c
 
--- "constants of any kind nested 16 deep"; "The outermost .. constant is depth 1"
+-- "constants of any kind nested 16 deep"; "The outermost .. constant is depth 1" [LIMIT-2, READ-4]
 abbrev pub constantIn : (left : ℕ) (s : List ℕ) → ConstantReader
 constantIn zero s l t a e rest = rest
 constantIn (suc d) s l t a e rest = ifHeld (constantIn d s) s l rest (constantOf s t a e)

@@ -30,7 +30,7 @@ use Rattle.optionform.specs.Form.{partsFrom, judgeOption}
 unfoldable pub judgeOptions : (s : List ℕ) (from to : ℕ) → Verdict
 judgeOptions s a e = eachFrom BadRequest (judgeOption s) 0 (walk s a e)
 
--- a request: "18 scope, 19 options type path, then 08 options"; "request 8,192 bytes"
+-- a request: "18 scope, 19 options type path, then 08 options"; "request 8,192 bytes" [FORM-2, FORM-16, LIMIT-1]
 unfoldable pub judgeRequest : (s : List ℕ) → Verdict
 judgeRequest s = elim (ltb mostRequest (length s)) [
   | true ↦ beyond
@@ -40,7 +40,7 @@ judgeRequest s = elim (ltb mostRequest (length s)) [
       judgeOptions s options (length s)
 ]
 
--- "Value query: .. a name as in 08"
+-- "Value query: .. a name as in 08" [FORM-14]
 abbrev pub wholeName : (size : ℕ) → Parts → Verdict
 wholeName n (Refuses w) = Refused w
 wholeName n (After at) = judged BadRequest (not (eqb at 0) && eqb at n)

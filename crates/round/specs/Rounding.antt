@@ -15,11 +15,12 @@ abbrev pub signedOf : (minus : Bool) (size : ℕ) → ℤ
 signedOf true n = negℤ (pos n)
 signedOf false n = pos n
 
--- 01, Option steps: "on float and double they round to nearest, ties to even"
+-- 01, Option steps: "on float and double they round to nearest, ties to even" [ROUND-1]
 unfoldable pub intBits : Format → ℤ → ℕ
 intBits f z = toBits f (ofInt f z)
 
 -- 01, Option steps: "A float constant fits double exactly and float by the same rounding, overflow to infinity, NaN to 7FC00000"
+-- [ROUND-2, ROUND-3]
 unfoldable pub narrow : Float → Float
 narrow nan = nan
 narrow (inf s) = inf s

@@ -14,7 +14,7 @@ use Rattle.sheet.specs.Tree.{File, treeOf}
 use Rattle.basis.specs.First.{onlyIf, given, onto}
 use Rattle.scope.specs.Scope.{Scope, fileScope, down}
 
--- "follows the rest as message names, the first of that name at each level; if all are found, it gives one scope"
+-- "follows the rest as message names, the first of that name at each level; if all are found, it gives one scope" [SEARCH-1, SEARCH-2]
 abbrev pub follow : (s : List ℕ) (names : Path) → Scope → Option Scope
 follow s [] c = some c
 follow s (n ∷ ns) c = given (down s n c) (follow s ns)
@@ -28,6 +28,7 @@ scopesIn s p ns i [] = []
 scopesIn s p ns i (f ∷ fs) = onto (scopeIn s p ns i f) (scopesIn s p ns (i + 1) fs)
 
 -- "each file whose package (empty included) leads the path's components"; "Order: fewest package components, then file order"
+-- [SEARCH-1, SEARCH-3]
 abbrev pub scopesFrom : (s : List ℕ) (front names : Path) → List Scope
 scopesFrom s front [] = scopesIn s (spell front) [] 0 (treeOf s)
 scopesFrom s front (n ∷ ns) = scopesIn s (spell front) (n ∷ ns) 0 (treeOf s) ++ scopesFrom s (front ++ n ∷ []) ns

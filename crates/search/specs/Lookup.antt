@@ -43,7 +43,7 @@ use Rattle.scopes.specs.Scopes.{scopes}
 abbrev pub foundIn : (s : List ℕ) (n : Name) (c : Scope) → Option Found
 foundIn s n c = given (declarationNamed extensionTag s n c) λ d. some (record { file = c .place .file; declaration = d })
 
--- "The answer is the first candidate, then first scope, then first declared extension with the last component as its name."
+-- "The answer is the first candidate, then first scope, then first declared extension with the last component as its name." [SEARCH-4]
 unfoldable pub foundAt : (s : List ℕ) (p : Path) → Option Found
 foundAt s [] = none
 foundAt s (n ∷ ns) = firstSome (foundIn s (last (n ∷ ns))) (scopes s (parent (n ∷ ns)))
@@ -53,6 +53,7 @@ foundAmong s at [] = none
 foundAmong s at (p ∷ ps) = orElse (given (foundAt s p) λ f. some (record { position = at; found = f })) (foundAmong s (at + 1) ps)
 
 -- 01, Replies: 4, "no candidate has it". Here alone nothing becomes a refusal: whoever looks up an extension hands on what it is told.
+-- [SEARCH-6]
 abbrev pub orNotFound : {A B : Type 0} → (found : A → B) (refused : Refusal → B) → Option A → B
 orNotFound found refused = told (refused ExtensionNotFound) found
 
@@ -69,7 +70,7 @@ resolved (attempt.Refused w) = Refused w
 unfoldable pub findExtensionByPath : (s scope name : List ℕ) → Resolved
 findExtensionByPath s scope name = resolved (tried s scope name)
 
--- "Only then is the extendee compared; a mismatch ends the search."
+-- "Only then is the extendee compared; a mismatch ends the search." [SEARCH-7]
 abbrev pub extended : (fits : Bool) (f : Found) → Resolved
 extended true f = Field f
 extended false f = Refused WrongExtensionType
@@ -81,19 +82,19 @@ compared s m (Refused w) = Refused w
 unfoldable pub extResolveField : (s scope m name : List ℕ) → Resolved
 extResolveField s scope m name = compared s m (findExtensionByPath s scope name)
 
--- "A message by full name: the scopes at that path that are messages"
+-- "A message by full name: the scopes at that path that are messages" [LOOKUP-1, LOOKUP-2]
 abbrev pub messageOf : Scope → Option Scope
 messageOf c = onlyIf (c .place .message) (some c) none
 
 unfoldable pub messagesAt : (s : List ℕ) (p : Path) → List Scope
 messagesAt s p = collect messageOf (scopes s p)
 
--- "An enum likewise: the first of its last component's name in each scope at the path before it."
+-- "An enum likewise: the first of its last component's name in each scope at the path before it." [LOOKUP-3, LOOKUP-5]
 unfoldable pub enumsAt : (s : List ℕ) (p : Path) → List Enumeration
 enumsAt s [] = []
 enumsAt s (n ∷ ns) = collect (enumNamed s (last (n ∷ ns))) (scopes s (parent (n ∷ ns)))
 
--- "none is 7, more than one 8"
+-- "none is 7, more than one 8" [LOOKUP-1]
 abbrev pub lookedUp : List Scope → LookedUp
 lookedUp [] = NoMessage MessageNotFound
 lookedUp (c ∷ []) = Message (c .place)

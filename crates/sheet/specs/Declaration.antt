@@ -29,7 +29,7 @@ use Rattle.sheet.specs.declared.declaration.Valued.{Valued}
 use Rattle.sheet.specs.declared.declaration.Valued.the-variants.{Values, NoValue}
 use Rattle.sheet.specs.Table.{nameTag, extendeeTag, numberTag, typeTag, labelTag, typePathTag, signedNumberTag}
 
--- "16 type path exactly for types 10, 11, 14"
+-- "16 type path exactly for types 10, 11, 14" [FORM-7]
 unfoldable pub hasTypePath : ℕ → Bool
 hasTypePath t = eqb t TYPE_GROUP || eqb t TYPE_MESSAGE || eqb t TYPE_ENUM
 
@@ -46,7 +46,7 @@ typePathAt t s at end = elim (hasTypePath t) [
 abbrev pub shape : (number typ label from to : ℕ) → Shape
 shape number typ label a e = record { number = number; typ = typ; label = label; path = span a e }
 
--- "13 number (4 bytes), 14 type, 15 label, 16 type path"; types and labels are one byte
+-- "13 number (4 bytes), 14 type, 15 label, 16 type path"; types and labels are one byte [FORM-2, FORM-3]
 unfoldable pub shapeAt : (s : List ℕ) (at end : ℕ) → Shaped
 shapeAt s at end =
     onLeaf NoShape (leafAt numberTag (ofSize 4) s at end) λ n types.
@@ -59,20 +59,20 @@ abbrev pub declaredWith : (name extendee : Span) → Shaped → Declared
 declaredWith name extendee NoShape = NoDeclaration
 declaredWith name extendee (Shapes h) = Declares (record { name = name; extendee = extendee; shape = h })
 
--- tag 03: "11, 12 extendee path, 13 number ..": name and extendee, then the shape
+-- tag 03: "11, 12 extendee path, 13 number ..": name and extendee, then the shape [FORM-2]
 unfoldable pub extensionAt : (s : List ℕ) (from to : ℕ) → Declared
 extensionAt s a e =
     onLeaf NoDeclaration (leafAt nameTag anyBytes s a e) λ n extendees.
     onLeaf NoDeclaration (leafAt extendeeTag anyBytes s extendees e) λ x shapes.
     declaredWith (span n extendees) (span x shapes) (shapeAt s shapes e)
 
--- tag 05: "as 03 without 12"
+-- tag 05: "as 03 without 12" [FORM-2]
 unfoldable pub messageFieldAt : (s : List ℕ) (from to : ℕ) → Declared
 messageFieldAt s a e =
     onLeaf NoDeclaration (leafAt nameTag anyBytes s a e) λ n shapes.
     declaredWith (span n shapes) (span 0 0) (shapeAt s shapes e)
 
--- tag 06: "11, 17 signed number (4 bytes)"
+-- tag 06: "11, 17 signed number (4 bytes)" [FORM-2]
 unfoldable pub valueAt : (s : List ℕ) (from to : ℕ) → Valued
 valueAt s a e =
     onLeaf NoValue (leafAt nameTag anyBytes s a e) λ n numbers.

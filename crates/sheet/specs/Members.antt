@@ -60,7 +60,7 @@ fieldsOf (field d r) = d ∷ fieldsOf r
 abbrev pub declarationsOf : (tag : ℕ) → Items → List Declaration
 declarationsOf k i = onlyIf (eqb k extensionTag) (extensionsOf i) (onlyIf (eqb k fieldTag) (fieldsOf i) [])
 
--- 01, Listing: "then sheet order", which is the order of the bytes; every 03 of the sheet counts
+-- 01, Listing: "then sheet order", which is the order of the bytes; every 03 of the sheet counts [NUMBER-2]
 abbrev pub everyExtensionOf : Items → List Declaration
 everyExtensionOf none = []
 everyExtensionOf (message n b i r) = everyExtensionOf i ++ everyExtensionOf r

@@ -42,7 +42,7 @@ pub data Items : Type 0 where
   enumeration : (name body : Span) → List Value → (rest : Items) → Items
   field : Declaration → (rest : Items) → Items
 
--- 01: "A sheet is files or none, the current one first, then its dependencies"; a file's index is its place in the list
+-- 01: "A sheet is files or none, the current one first, then its dependencies"; a file's index is its place in the list [FORM-8, READ-2]
 pub record File : Type 0 where
   pub packageName : Span
   pub body : Span
@@ -60,7 +60,7 @@ valuesIn s done = []
 valuesIn s cut = []
 valuesIn s (step t a e w) = valueIn s t a e (valuesIn s w)
 
--- tag 04: "11, then 06 values"
+-- tag 04: "11, then 06 values" [FORM-2, READ-3]
 abbrev pub enumIn : (s : List ℕ) (from to : ℕ) (rest : Items) → Items
 enumIn s a e rest = onLeaf rest (leafAt nameTag anyBytes s a e) λ n m. enumeration (span n m) (span m e) (valuesIn s (walk s m e)) rest
 
@@ -90,7 +90,7 @@ itemsWith inner s done = none
 itemsWith inner s cut = none
 itemsWith inner s (step t a e w) = itemIn inner s t a e (itemsWith inner s w)
 
--- tag 02: "11 name, then any of 02, 03, 04, 05"; "The outermost message .. is depth 1"
+-- tag 02: "11 name, then any of 02, 03, 04, 05"; "The outermost message .. is depth 1" [FORM-2, LIMIT-2, READ-3]
 abbrev pub messageIn : (left : ℕ) (s : List ℕ) (from to : ℕ) (rest : Items) → Items
 messageIn zero s a e rest = rest
 messageIn (suc d) s a e rest =
@@ -102,7 +102,7 @@ itemsIn d s w = itemsWith (messageIn d s) s w
 abbrev pub fileWith : (packageName body : Span) → Items → File
 fileWith p b i = record { packageName = p; body = b; items = i }
 
--- tag 01: "10 package, then any of 02, 03, 04"
+-- tag 01: "10 package, then any of 02, 03, 04" [FORM-2, READ-3]
 unfoldable pub fileIn : (s : List ℕ) (tag from to : ℕ) (rest : List File) → List File
 fileIn s t a e rest = elim (eqb t fileTag) [
   | true ↦ onLeaf rest (leafAt packageTag anyBytes s a e) λ n m. fileWith (span n m) (span m e) (itemsIn mostMessages s (walk s m e)) ∷ rest

@@ -21,7 +21,7 @@ use Rattle.form.specs.Each.{eachFrom}
 use Rattle.sheet.specs.Table.{fileTag, packageTag}
 use Rattle.messageform.specs.Form.{badSheet, judgeItems}
 
--- tag 01: "10 package, then any of 02, 03, 04"; "8 files"; package may be empty
+-- tag 01: "10 package, then any of 02, 03, 04"; "8 files"; package may be empty [FORM-2, LIMIT-1, FAULT-5]
 unfoldable pub judgeFile : (s : List ℕ) (index tag from to : ℕ) → Verdict
 judgeFile s i t a e = elim (eqb t fileTag) [
   | true ↦ elim (ltb i mostFiles) [
@@ -31,14 +31,14 @@ judgeFile s i t a e = elim (eqb t fileTag) [
   | false ↦ badSheet
 ]
 
--- "A sheet is files or none"
+-- "A sheet is files or none" [FORM-2]
 unfoldable pub judgeFiles : (s : List ℕ) → Verdict
 judgeFiles s = eachFrom BadSheet (judgeFile s) 0 (walk s 0 (length s))
 
--- "sheet 32,768 bytes"
+-- "sheet 32,768 bytes" [LIMIT-1]
 unfoldable pub judgeLength : (s : List ℕ) → Verdict
 judgeLength s = onlyIf (ltb mostSheet (length s)) beyond Fine
 
--- "each by over-length, then .. the first fault from the front"
+-- "each by over-length, then .. the first fault from the front" [FORM-2, LIMIT-1, FAULT-2]
 unfoldable pub judgeSheet : (s : List ℕ) → Verdict
 judgeSheet s = firstFault (judgeLength s) (judgeFiles s)

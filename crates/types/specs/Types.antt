@@ -82,7 +82,7 @@ isAny t [] = false
 isAny t (x ∷ xs) = eqb t x || isAny t xs
 
 -- Encoding, "Message Structure": I64 for fixed64, sfixed64, double; LEN for string, bytes, embedded messages; SGROUP for a group's start;
--- I32 for fixed32, sfixed32, float; VARINT for int32, int64, uint32, uint64, sint32, sint64, bool, enum
+-- I32 for fixed32, sfixed32, float; VARINT for int32, int64, uint32, uint64, sint32, sint64, bool, enum [WIRE-6]
 unfoldable pub wireOf : ℕ → ℕ
 wireOf t =
     elim (isAny t (TYPE_FIXED64 ∷ TYPE_SFIXED64 ∷ TYPE_DOUBLE ∷ [])) [

@@ -20,7 +20,7 @@ numberOf t = t / 8
 abbrev pub wireTypeOf : ℕ → ℕ
 wireTypeOf t = t % 8
 
--- 01, Listing: "Wire types 3, 4, 6, 7, a number outside the range above, .. are 18"
+-- 01, Listing: "Wire types 3, 4, 6, 7, a number outside the range above, .. are 18" [WIRE-5]
 abbrev pub wireRead : ℕ → Bool
 wireRead w = eqb w VARINT || eqb w I64 || eqb w LEN || eqb w I32
 

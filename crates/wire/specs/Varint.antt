@@ -33,7 +33,7 @@ readWithin k [] = Bad
 readWithin zero (b ∷ bs) = elim (ltb b 2) [ true ↦ Varint b 1 | false ↦ Bad ]
 readWithin (suc k) (b ∷ bs) = elim (ltb b 128) [ true ↦ Varint b 1 | false ↦ continued b (readWithin k bs) ]
 
--- 01, Listing: "Varints may be overlong, up to ten bytes and 64 bits"
+-- 01, Listing: "Varints may be overlong, up to ten bytes and 64 bits" [WIRE-3]
 unfoldable pub readVarint : List ℕ → Read
 readVarint bs = readWithin (mostVarint - 1) bs
 
