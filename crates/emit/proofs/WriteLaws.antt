@@ -17,7 +17,7 @@ use Rattle.reply.specs.Outcome.{Outcome, refused, give, push, Answered}
 use Rattle.reply.proofs.Outcomes.{push-push, push-nil, answered-refused, answered-no-room, answered-done}
 use Rattle.emit.specs.declared.Put.{Put}
 use Rattle.emit.specs.declared.Put.the-variants.{Wrote, Refused}
-use Rattle.emit.specs.Puts.{Puts, wrote, refuses}
+use Rattle.emit.specs.inner.Puts.{Puts, wrote, refuses}
 
 pub give-inv : {A : Type 0} {xs ys : List A} → give xs ≡ give ys → xs ≡ ys
 give-inv e = cc

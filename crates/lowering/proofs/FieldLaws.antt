@@ -16,7 +16,7 @@ use Rattle.reply.specs.Outcome.{Outcome, refused, refuse, nothing, give, push, 
 use Rattle.reply.proofs.Outcomes.{answered-refused}
 use Rattle.emit.specs.declared.Put.{Put}
 use Rattle.emit.specs.declared.Put.the-variants.{Wrote, Refused}
-use Rattle.emit.specs.Puts.{Puts}
+use Rattle.emit.specs.inner.Puts.{Puts}
 use Rattle.lowering.specs.Fields.{oneofs, lowerFields}
 use Rattle.emit.proofs.WriteLaws.{Front, front-start, front-put, front-pass, front-length, front-refused, front-done}
 use Rattle.emit.proofs.WriteLaws.{give-inv, put-wrote, call-laws}

@@ -21,7 +21,7 @@ use Rattle.emit.specs.declared.Put.{Put}
 use Rattle.emit.specs.declared.Put.the-variants.{Wrote, Refused}
 use Rattle.lowering.specs.declared.ranges.End.{End}
 use Rattle.lowering.specs.declared.ranges.End.the-variants.{At, NoNext}
-use Rattle.emit.specs.Puts.{Puts}
+use Rattle.emit.specs.inner.Puts.{Puts}
 use Rattle.lowering.specs.Ranges.{enumReserved, endOf, withEnd, pairs, lowerRanges}
 use Rattle.emit.proofs.WriteLaws.{Front, front-start, front-put, front-length, front-refused, front-done}
 use Rattle.emit.proofs.WriteLaws.{give-inv, put-wrote, call-laws}

@@ -3,7 +3,7 @@ ghost use Rattle.basis.specs.Kit.{_≤_, length};
 ghost use Rattle.limits.specs.Figures.{mostWords};
 ghost use Rattle.reply.specs.Outcome.{Answered};
 ghost use Rattle.lowering.specs.Fields.{oneofs, lowerFields};
-ghost use Rattle.emit.specs.Puts.{Puts};
+ghost use Rattle.emit.specs.inner.Puts.{Puts};
 use emit::Put;
 use emit::put_word;
 use limits::MOST_WORDS;

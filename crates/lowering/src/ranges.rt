@@ -2,7 +2,7 @@
 ghost use Rattle.basis.specs.Kit.{_≡_, [], _∷_, _%_, _^_, _<_, length, sets};
 ghost use Rattle.reply.specs.Outcome.{Answered};
 ghost use Rattle.lowering.specs.Ranges.{endOf, pairs, lowerRanges};
-ghost use Rattle.emit.specs.Puts.{Puts};
+ghost use Rattle.emit.specs.inner.Puts.{Puts};
 use emit::Put;
 use limits::MOST_WORDS;
 use reply::Answer;

@@ -11,7 +11,7 @@ use lib.Seq.{take-suc, take-suc-set, take-all}
 use Rattle.basis.proofs.Never.{never}
 use Rattle.reply.specs.declared.Refusal.{Refusal}
 use Rattle.reply.specs.Reply.{number, second, name, mostName, NameOf}
-use Rattle.reply.specs.Table.{rowSize, RowAt, Tabled}
+use Rattle.reply.specs.inner.Table.{rowSize, RowAt, Tabled}
 use Rattle.reply.proofs.Variants.{and-left, and-right}
 use Rattle.reply.proofs.Rows.{refusals, place, place-few, placed, every, every-at, row-unique}
 

@@ -1,4 +1,4 @@
 pub mod Reply
-pub mod Table
+pub mod inner
 pub mod Outcome
 pub mod Verdicts

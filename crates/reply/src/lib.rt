@@ -3,7 +3,7 @@ ghost use Rattle.basis.specs.Kit.{_≡_, _≤_, length};
 ghost use Rattle.reply.specs.Reply.{number as numberOf, second as secondOf, nowhere as nowhereOf, refusedFor, refusedBy};
 ghost use Rattle.reply.specs.Reply.{doneWith, absentAnswer};
 ghost use Rattle.reply.specs.Reply.{NameOf, mostName, textOf};
-ghost use Rattle.reply.specs.Table.{Tabled};
+ghost use Rattle.reply.specs.inner.Table.{Tabled};
 ghost use Rattle.reply.specs.Verdicts.{judged};
 use octets::wide;
 
