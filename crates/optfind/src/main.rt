@@ -46,20 +46,38 @@ fn part(s: &[u8], at: u32, n: u32) -> &[u8] {
     &s[from..from + size]
 }
 
-// What the words of `find` say of the sheet.
-fn tell(sheet: &[u8], words: &[u32])
+// Whose extension it is, and its type.
+fn tell_type(sheet: &[u8], words: &[u32])
     requires { ⌜ length (now words) ≡ 10 ⌝ }
 {
-    line(b"name ", part(sheet, words[1], words[2]));
-    numbered(b"number ", words[5]);
     line(b"extendee ", part(sheet, words[3], words[4]));
     numbered(b"type ", words[6]);
     numbered(b"label ", words[7]);
     if words[9] != 0 {
         line(b"of ", part(sheet, words[8], words[9]));
     }
+}
+
+// What the words of `find` say of the sheet.
+fn tell(sheet: &[u8], words: &[u32])
+    requires { ⌜ length (now words) ≡ 10 ⌝ }
+{
+    line(b"name ", part(sheet, words[1], words[2]));
+    numbered(b"number ", words[5]);
+    tell_type(sheet, words);
     numbered(b"file ", words[0]);
     numbered(b"place ", words[1]);
+}
+
+// The answer for a sheet, a scope and a path, its words in lent room.
+fn answer_over(sheet: &[u8], scope: &[u8], path: &[u8], words: &mut [u32])
+    requires { ⌜ length (now words) ≡ 10 ⌝ }
+{
+    let answer = find::find(sheet, scope, path, words);
+    console::output::answer(answer);
+    if answer.reply == 0 {
+        tell(sheet, words);
+    }
 }
 
 // One case, of spans of the input.
@@ -73,11 +91,7 @@ fn answer_case(s: &[u8], sheet: Span, scope: Span, path: Span)
     let n = path.from;
     let m = path.to;
     let mut words = [0u32; WORDS];
-    let answer = find::find(&s[from..to], &s[a..e], &s[n..m], &mut words);
-    console::output::answer(answer);
-    if answer.reply == 0 {
-        tell(&s[from..to], &words);
-    }
+    answer_over(&s[from..to], &s[a..e], &s[n..m], &mut words);
 }
 
 // One case, and where the next one starts; 0 where the input is no such fields.
