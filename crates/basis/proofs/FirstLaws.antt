@@ -31,7 +31,8 @@ module _ {A : Type 0} (good : A → Bool) where
   first-append [] ys = refl
   first-append (x ∷ xs) ys = picked (good x) (first good xs) (first good (xs ++ ys)) (first-append xs ys)
     where
-      picked : (b : Bool) (o p : Option A) → p ≡ orElse o (first good ys) → onlyIf b (some x) p ≡ orElse (onlyIf b (some x) o) (first good ys)
+      picked : (b : Bool) (o p : Option A) → p ≡ orElse o (first good ys)
+          → onlyIf b (some x) p ≡ orElse (onlyIf b (some x) o) (first good ys)
       picked true o p q = refl
       picked false o p q = q
 

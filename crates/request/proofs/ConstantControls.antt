@@ -11,7 +11,8 @@ use Rattle.request.specs.declared.constant.Constant.the-variants.{Bool a
 use Rattle.request.specs.declared.constant.Constant.the-variants.{Text, Ident, Message, List as ListOf}
 use Rattle.request.specs.declared.constant.Held.{Held}
 use Rattle.request.specs.declared.constant.Held.the-variants.{Holds, NoConstant}
-use Rattle.request.specs.Table.{boolTag, unsignedTag, signedTag, floatTag, stringTag, identTag, messageConstantTag, listTag, pairFieldTag}
+use Rattle.request.specs.Table.{boolTag, unsignedTag, signedTag, floatTag, stringTag, identTag, messageConstantTag, listTag}
+use Rattle.request.specs.Table.{pairFieldTag}
 use Rattle.request.specs.Constant.{integerOf, floatOf, boolOf, numericOf, constantOf, isPairName}
 use Rattle.request.specs.Tree.{none, scalar, message, list, unnamed, byField, byExtension, constantIn}
 

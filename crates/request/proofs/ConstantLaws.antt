@@ -123,13 +123,15 @@ module _ (s : List ℕ) (t a e : ℕ) where
           pub constant-list : t ≡ listTag → Holds (ListOf (span a e)) ≡ constantOf s t a e
           unfolding constantOf
           constant-list k =
-              simp (constantOf, ne-eqb t boolTag n, ne-eqb t stringTag m, ne-eqb t identTag o, ne-eqb t messageConstantTag p, eq-eqb t listTag k)
+              simp
+              (constantOf, ne-eqb t boolTag n, ne-eqb t stringTag m, ne-eqb t identTag o, ne-eqb t messageConstantTag p, eq-eqb t listTag k)
 
           pub constant-number : (t ≡ listTag → ⊥) → (r : Held) → r ≡ numericOf s t a e → r ≡ constantOf s t a e
           unfolding constantOf
           constant-number k r q =
               q
-              ∙ simp (constantOf, ne-eqb t boolTag n, ne-eqb t stringTag m, ne-eqb t identTag o, ne-eqb t messageConstantTag p, ne-eqb t listTag k)
+              ∙ simp
+              (constantOf, ne-eqb t boolTag n, ne-eqb t stringTag m, ne-eqb t identTag o, ne-eqb t messageConstantTag p, ne-eqb t listTag k)
 
 pub ruleset constant-laws = (constant-bool, constant-text, constant-ident, constant-message, constant-list, constant-number)
 

@@ -3,3 +3,4 @@ pub mod CursorLaws
 pub mod StartLaws
 pub mod Left
 pub mod ScopeFiles
+pub mod Sheets

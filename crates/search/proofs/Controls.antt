@@ -20,7 +20,7 @@ use Rattle.search.specs.declared.full_name.LookedUpEnum.{LookedUpEnum}
 use Rattle.search.specs.declared.full_name.LookedUpEnum.the-variants.{Values, NoEnum}
 use Rattle.scopes.specs.Scopes.{scopes}
 use Rattle.search.specs.Lookup.{messagesAt, enumsAt, lookedUp, lookedUpEnum}
-use Rattle.search.proofs.Sheets.{file, message, extension, field, value, enum}
+use Rattle.scopes.proofs.Sheets.{file, message, extension, field, value, enum}
 
 -- a sheet, a full name in it, and what the lookup says
 record Case (A : Type 0) : Type 0 where

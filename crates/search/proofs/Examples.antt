@@ -16,7 +16,7 @@ use Rattle.search.specs.declared.extension.Resolved.{Resolved}
 use Rattle.search.specs.declared.extension.Resolved.the-variants.{Field, Refused}
 use Rattle.scopes.specs.Scopes.{scopes}
 use Rattle.search.specs.Lookup.{foundAt, tried, findExtensionByPath, extResolveField}
-use Rattle.search.proofs.Sheets.{file, message, extension}
+use Rattle.scopes.proofs.Sheets.{file, message, extension}
 
 -- ---- the sheets
 abbrev options : String

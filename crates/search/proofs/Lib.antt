@@ -6,6 +6,5 @@ pub mod CandidateOrder
 pub mod FoundLaws
 pub mod ScopeOrder
 pub mod Theorems
-pub mod Sheets
 pub mod Examples
 pub mod Controls

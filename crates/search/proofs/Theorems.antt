@@ -1,5 +1,6 @@
--- The theorems about the search, each below the sentence that it says. The words are in specs/Answers.antt; what they are about is defined
--- in specs/Lookup.antt, specs/Scopes.antt and, of the crate path, specs/Candidates.antt. `s` is the sheet, whatever its bytes.
+-- The theorems about the search, each below the sentence that it says. The words are in specs/Answers.antt and, of lists, in
+-- Among.antt of `basis`; what they are about is defined in specs/Lookup.antt, in Scopes.antt of `scopes` and in Candidates.antt of
+-- `candidates`. `s` is the sheet, whatever its bytes.
 -- Assumes nothing.
 use Rattle.basis.specs.Kit.{_≡_, refl, sym, ap, _∙_, true, false, List, [], _∷_, _++_, ℕ, suc, _-_, _≤_, _<_, length, take}
 use Rattle.reply.specs.declared.Refusal.{Refusal}

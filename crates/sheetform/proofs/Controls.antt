@@ -20,8 +20,8 @@ use Rattle.sheetform.specs.Form.{judgeFile, judgeFiles, judgeLength, jud
 
 -- a sheet's verdict, with all that it is computed by
 verdict : List ℕ → Verdict
-unfolding judgeSheet judgeLength judgeFiles judgeFile judgeItems judgeItem judgeEnum judgeValue isExtension isField isValue goodField goodShape
-    goodTypePath extensionAt messageFieldAt valueAt shapeAt typePathAt hasTypePath leafAt walkBy fieldAt bigAt isRelOrEmpty isRelPath
+unfolding judgeSheet judgeLength judgeFiles judgeFile judgeItems judgeItem judgeEnum judgeValue isExtension isField isValue goodField
+    goodShape goodTypePath extensionAt messageFieldAt valueAt shapeAt typePathAt hasTypePath leafAt walkBy fieldAt bigAt isRelOrEmpty isRelPath
     allIdent components split onFirst isIdent isLetter isDigit allWord
 verdict = judgeSheet
 
