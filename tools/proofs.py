@@ -100,8 +100,8 @@ def written(path, text, crate, laws, old):
     uses, own = {}, [(module_of(crate, law), law) for law in laws] + [("Rattle.basis.proofs.Kit", "needs")]
     for module, name in taken(old) + own + taken("\n".join(lines)):
         cited = re.search(r"(?<![^\W_])(?<!-)%s(?![^\W_]|-)" % re.escape(name.strip("_")), body)
-        if cited and name not in uses.setdefault(module, []):
-            uses[module].append(name)
+        if cited and not any(name in names for names in uses.values()):
+            uses.setdefault(module, []).append(name)
     opening += ["use %s.{%s}" % (module, ", ".join(names)) for module, names in uses.items() if names]
     opening += [line for line in lines if " as " in line]
     path.parent.mkdir(parents=True, exist_ok=True)
