@@ -2,6 +2,7 @@ pub mod ReaderLaws
 pub mod FieldLaws
 pub mod WalkLaws
 pub mod LeafLaws
+pub mod PartLaws
 pub mod Rest
 pub mod Seek
 pub mod Tally

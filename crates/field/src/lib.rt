@@ -1,4 +1,6 @@
 // The fields of a sheet or a request: a tag (1 byte), a length (2 bytes, the higher first), a payload.
+pub mod part;
+
 ghost use Rattle.basis.specs.Kit.{_≡_, _≤_, length};
 ghost use Rattle.field.specs.Field.{fieldAt};
 ghost use Rattle.field.specs.Leaf.{leafAt, anyBytes, ofSize};

@@ -1,11 +1,9 @@
 -- The laws of `put_found`, `find_tested`, `find` and `found_name`: what was found lies in the sheet, so its words fit; and the ways to the
 -- answers.
 -- Assumes nothing.
-use Rattle.basis.specs.Kit.{_≡_, refl, sym, ap, _∙_, Bool, true, false, _&&_, List, [], _∷_, ℕ, _+_, _-_, _≤_, _<_, leb, length}
+use Rattle.basis.specs.Kit.{_≡_, refl, sym, ap, _∙_, List, ℕ, _+_, _-_, _≤_, _<_, length}
 use Rattle.basis.proofs.Kit.{arith, Fits}
-use borrow.Author.Tests.{leb-true}
 use mir.Syntax.{w32}
-use Rattle.basis.specs.First.{onlyIf}
 use Rattle.basis.proofs.Never.{never}
 use Rattle.limits.specs.Figures.{mostSheet}
 use Rattle.octets.specs.Octets.{part}
@@ -20,7 +18,8 @@ use Rattle.reply.proofs.VerdictLaws.{first-fine-front}
 use Rattle.field.specs.declared.Leaf.{Leaf}
 use Rattle.field.specs.declared.Leaf.the-variants.{At, Not}
 use Rattle.field.specs.declared.Span.{Span}
-use Rattle.field.specs.Part.{PartOf}
+use Rattle.field.specs.Part.{PartOf, noBytes, spanIn}
+use Rattle.field.proofs.PartLaws.{span-ordered, span-within}
 use Rattle.sheetform.specs.Form.{judgeLength, judgeSheet}
 use Rattle.search.specs.declared.extension.Found.{Found}
 use Rattle.search.specs.declared.extension.Resolved.{Resolved}
@@ -28,7 +27,7 @@ use Rattle.search.specs.declared.extension.Resolved.the-variants.{Field, Refuse
 use Rattle.search.specs.Lookup.{findExtensionByPath}
 use Rattle.search.proofs.LiesLaws.{FoundLies, found-lies}
 use Rattle.find.specs.Find.{judgeAll, unless, findingBy, finding, findingTested, wordsOf, worded, findWords, findTested}
-use Rattle.find.specs.Find.{noBytes, nameSpan, spanIn, nameSpanFor}
+use Rattle.find.specs.Find.{nameSpan, nameSpanFor}
 use Rattle.find.specs.inner.Small.{wordBound, SmallSpan, Small}
 use Rattle.find.proofs.FindingLaws.{finding-tested, words-tested}
 use Rattle.sheetform.proofs.SheetLaws.{fine-length}
@@ -130,44 +129,6 @@ module _ (s c p l : List ℕ) (v : Verdict) (q : v ≡ judgeSheet s) (a : Answer
   pub find-found : v ≡ Fine → (l′ : List ℕ) → Answered (findTested s c p) l l′ a → Answered (findWords s c p) l l′ a
   find-found g l′ h = rw (words-tested s c p (sym q ∙ g)) h
 
--- ---- span_in
-module _ (t : List ℕ) (p : Span) where
-  pub span-is : (leb (p .from) (p .to) && leb (p .to) (length t)) ≡ true → At (p .from) (p .to) ≡ spanIn t p
-  unfolding spanIn
-  span-is h = rw h
-
-  pub span-not : (leb (p .from) (p .to) && leb (p .to) (length t)) ≡ false → Not ≡ spanIn t p
-  unfolding spanIn
-  span-not h = rw h
-
-record Inside (t : List ℕ) (a e : ℕ) : Type 0 where
-  ordered : a ≤ e
-  within : e ≤ length t
-
-span-inside : (t : List ℕ) (p : Span) (a e : ℕ) → At a e ≡ spanIn t p → Inside t a e
-unfolding spanIn
-span-inside t p a e = go (leb (p .from) (p .to)) refl (leb (p .to) (length t)) refl
-  where
-    go : (b : Bool) → leb (p .from) (p .to) ≡ b → (b′ : Bool) → leb (p .to) (length t) ≡ b′
-        → At a e ≡ onlyIf (b && b′) (At (p .from) (p .to)) Not → Inside t a e
-    go false x b′ x′ q = never cc
-    go true x false x′ q = never cc
-    go true x true x′ q =
-        let u : a ≡ p .from = cc in
-        let v : e ≡ p .to = cc in
-        rw (u, v) record { ordered = leb-true (p .from) (p .to) x; within = leb-true (p .to) (length t) x′ }
-
-module _ (t : List ℕ) (p : Span) (r : Leaf) (q : r ≡ spanIn t p) (a e : ℕ) (g : r ≡ At a e) where
-  pub span-ordered : a ≤ e
-  span-ordered = span-inside t p a e (sym g ∙ q) .ordered
-
-  pub span-within : e ≤ length t
-  span-within = span-inside t p a e (sym g ∙ q) .within
-
--- ---- none_of: no bytes, wherever they start
-pub empty-part : (s : List ℕ) (a : ℕ) → part s a a ≡ []
-empty-part s a = let none : a - a ≡ 0 = omega arith in rw none
-
 -- ---- found_name
 module _ (s t : List ℕ) (c p : Span) (b o : ℕ) (x : List ℕ) (b′ o′ : ℕ) (r : Leaf) (q : r ≡ spanIn t c) where
   pub name-no-scope : r ≡ Not → PartOf noBytes s b o x b′ o′ → PartOf (nameSpanFor s t c p) s b o x b′ o′
@@ -211,7 +172,5 @@ pub ruleset find-tested-laws = (finding-small, tested-refused, tested-found)
 pub ruleset find-laws = (find-refused, find-found)
 
 pub ruleset name-in-laws = (name-ordered, name-within, name-bad-sheet, name-refused, name-found)
-
-pub ruleset span-in-laws = (span-is, span-not)
 
 pub ruleset found-name-laws = (span-ordered, span-within, name-no-scope, name-no-path, name-for)

@@ -9,24 +9,20 @@
 --               worded r == these words for the lent memory, or the refusal
 --        findWords s c p == what `find` comes to
 --       findTested s c p == what `find_tested` comes to
---                noBytes == no bytes, at the start
 --             nameSpan r == where the found extension's name stands in the sheet; no bytes at its start where there is none
---             spanIn t p == the two places of the span, where it is one of t
 --    nameSpanFor s t c p == where the name of what is found stands, of a scope and a path that are spans of the request t; no bytes at the
 --                           sheet's start where they are not
 --
 -- Assumes nothing.
-use Rattle.basis.specs.Kit.{_&&_, List, [], _∷_, ℕ, _-_, leb, length}
-use Rattle.basis.specs.First.{onlyIf}
+use Rattle.basis.specs.Kit.{List, [], _∷_, ℕ, _-_}
 use Rattle.octets.specs.Octets.{part}
 use Rattle.reply.specs.declared.Verdict.{Verdict}
 use Rattle.reply.specs.declared.Verdict.the-variants.{Fine, Refused as Bad}
 use Rattle.reply.specs.Verdicts.{firstFault}
 use Rattle.reply.specs.Outcome.{Outcome, refuse, give}
 use Rattle.field.specs.declared.Span.{Span}
-use Rattle.field.specs.declared.Leaf.{Leaf}
-use Rattle.field.specs.declared.Leaf.the-variants.{At, Not}
-use Rattle.field.specs.Leaf.{span, onLeaf}
+use Rattle.field.specs.Leaf.{onLeaf}
+use Rattle.field.specs.Part.{noBytes, spanIn}
 use Rattle.sheetform.specs.Form.{judgeLength, judgeSheet}
 use Rattle.requestform.specs.Form.{judgeScope, judgePath}
 use Rattle.search.specs.declared.extension.Found.{Found}
@@ -71,18 +67,10 @@ findWords s c p = worded (finding s c p)
 unfoldable pub findTested : (s c p : List ℕ) → Outcome ℕ
 findTested s c p = worded (findingTested s c p)
 
--- on a refusal a part is empty, and starts where the sheet does
-abbrev pub noBytes : Span
-noBytes = span 0 0
-
 -- 01, The search: "Its name is handed back as the sheet's own bytes, never the request's" [SEARCH-9]
 abbrev pub nameSpan : Resolved → Span
 nameSpan (Field f) = f .declaration .name
 nameSpan (Refused w) = noBytes
-
--- the span as a leaf of t
-unfoldable pub spanIn : (t : List ℕ) (p : Span) → Leaf
-spanIn t p = onlyIf (leb (p .from) (p .to) && leb (p .to) (length t)) (At (p .from) (p .to)) Not
 
 unfoldable pub nameSpanFor : (s t : List ℕ) (c p : Span) → Span
 nameSpanFor s t c p = onLeaf noBytes (spanIn t c) λ a e. onLeaf noBytes (spanIn t p) λ n m. nameSpan (finding s (part t a e) (part t n m))

@@ -4,10 +4,12 @@ ghost use Rattle.path.specs.Path.{isRelOrEmpty, isPath};
 ghost use Rattle.reply.specs.Outcome.{Answered, give};
 ghost use Rattle.field.specs.Part.{PartOf};
 ghost use Rattle.search.specs.Lookup.{findExtensionByPath};
-ghost use Rattle.find.specs.Find.{finding, findingTested, wordsOf, findWords, findTested, noBytes, nameSpan, spanIn, nameSpanFor};
+ghost use Rattle.find.specs.Find.{finding, findingTested, wordsOf, findWords, findTested, nameSpan, nameSpanFor};
 ghost use Rattle.find.specs.inner.Small.{SmallSpan, Small};
 use field::Leaf;
 use field::Span;
+use field::part::none_of;
+use field::part::span_in;
 use limits::MOST_CANDIDATE;
 use reply::Answer;
 use reply::Refusal;
@@ -99,14 +101,6 @@ pub fn find(sheet: &[u8], scope: &[u8], path: &[u8], out: &mut [u32]) -> Answer
     find_tested(sheet, scope, path, out)
 }
 
-// No bytes, at the start of the sheet.
-fn none_of(sheet: &[u8]) -> &[u8]
-    ensures { λ r. ⌜ PartOf noBytes (now (sheet .entry)) (sheet .entry .ptr .0) (sheet .entry .ptr .1) (now r) (r .ptr .0) (r .ptr .1) ⌝ }
-{
-    let start = 0;
-    &sheet[start..start]
-}
-
 // The found extension's name, as the sheet's own bytes; no bytes where there is none.
 fn name_in<'s, 'r>(sheet: &'s [u8], scope: &'r [u8], path: &'r [u8]) -> &'s [u8]
     ensures { λ r. ⌜ PartOf (nameSpan (finding (now (sheet .entry)) (now (scope .entry)) (now (path .entry))))
@@ -121,19 +115,6 @@ fn name_in<'s, 'r>(sheet: &'s [u8], scope: &'r [u8], path: &'r [u8]) -> &'s [u8]
     let from = found.declaration.name.from;
     let to = found.declaration.name.to;
     &sheet[from..to]
-}
-
-// The two places of a span, where it is one of the bytes.
-fn span_in(s: &[u8], p: Span) -> Leaf
-    ensures { λ r. ⌜ r ≡ spanIn (now (s .entry)) p ⌝ }
-{
-    if (p.from <= p.to) & (p.to <= s.len()) {
-        return Leaf::At {
-            from: p.from,
-            to: p.to,
-        };
-    }
-    Leaf::Not
 }
 
 // The name of the extension that a path of the request finds in a scope of the request, as the sheet's own bytes; no bytes where `find`

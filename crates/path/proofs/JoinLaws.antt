@@ -1,4 +1,4 @@
--- One path followed by another: the laws of `append`.
+-- One path followed by another: the laws of `join`.
 -- Assumes nothing.
 use Rattle.basis.specs.Kit.{_≡_, refl, List, [], _∷_, _++_, ℕ, _+_, _*_, _^_, _<_, length, sets}
 use Rattle.basis.proofs.Kit.{arith, w64, Fits}
@@ -25,16 +25,6 @@ module _ (a b : List ℕ) where
         let point : Laid m n (dot ∷ []) m′ (n + 1) = record { next = refl; left = e } in
         rw (spell-both k) (laid-append a (dot ∷ b) p (laid-append (dot ∷ []) b point q))
 
-    pub append-second : length a ≡ 0 → Laid l 0 b l′ r → Laid l 0 (spell (components a ++ components b)) l′ r
-    append-second h p = rw (components-nil a h, spell-components b) p
-
-    pub append-join : (length a ≡ 0 → ⊥) → Laid l 0 (spell (split a ++ components b)) l′ r
-        → Laid l 0 (spell (components a ++ components b)) l′ r
-    append-join h p = rw (components-split a h) p
-
-pub laid-next : (l a l′ : List ℕ) (n : ℕ) → Laid l 0 a l′ n → n ≡ 0 + length a
-laid-next l a l′ n p = p .next
-
 pub join-fits : (l a b l′ : List ℕ) (n : ℕ) → length a * 1 < 2 ^ 63 → length b * 1 < 2 ^ 63 → Laid l 0 a l′ n → n + 1 + length b < 2 ^ 64
 join-fits l a b l′ n h k p = omega (arith, p .next)
 
@@ -44,4 +34,4 @@ point-fits l a l′ n h p = record { fits = omega (arith, p .next) }
 pub alone-fits : (b : List ℕ) → length b * 1 < 2 ^ 63 → 0 + length b < 2 ^ 64
 alone-fits b h = omega arith
 
-pub ruleset append-laws = (append-second, append-join, join-alone, join-both, join-fits, point-fits, alone-fits)
+pub ruleset join-laws = (join-alone, join-both, join-fits, point-fits, alone-fits)

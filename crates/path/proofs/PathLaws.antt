@@ -74,12 +74,6 @@ unfolding components
 components-dotless [] = none
 components-dotless (c ∷ cs) = pieces-dotless (text (c ∷ cs))
 
--- two texts, neither empty, joined by a dot
-pub components-append : (a b : List ℕ) → (length a ≡ 0 → ⊥) → (length b ≡ 0 → ⊥) → components (a ++ dot ∷ b) ≡ components a ++ components b
-components-append a b h k =
-    components-split (a ++ dot ∷ b) (λ e. omega (arith, length-append a (dot ∷ b)))
-    ∙ rw (components-split a h, components-split b k) (split-append a b)
-
 -- a text up to its last dot, and what follows that
 pub components-snoc : (a b : List ℕ) → untilDot b ≡ b → components (a ++ dot ∷ b) ≡ split a ++ (b ∷ [])
 components-snoc a b h =

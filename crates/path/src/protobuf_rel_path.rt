@@ -105,14 +105,6 @@ pub fn parent_end(s: &[u8], end: usize) -> usize
     at - 1
 }
 
-// The path without its last component.
-pub fn parent_of(s: &[u8]) -> &[u8]
-    ensures { λ r. ⌜ now r ≡ spell (parent (components (now (s .entry)))) ⌝ }
-{
-    let end = parent_end(s, s.len());
-    &s[..end]
-}
-
 // The text before the dot that stands before the component at `at`, empty where there is none.
 pub fn before(s: &[u8], at: usize) -> &[u8]
     requires { ⌜ at ≤ suc (length (now s)) ⌝ }
@@ -134,14 +126,4 @@ pub fn join(a: &[u8], b: &[u8], out: &mut [u8]) -> usize
     }
     octets::put(out, n, b'.');
     octets::put_all(out, n + 1, b)
-}
-
-// The text of one path followed by another, in a lent buffer as far as that reaches, and its length.
-pub fn append(a: &[u8], b: &[u8], out: &mut [u8]) -> usize
-    ensures { λ r. ⌜ Laid (now (out .entry)) 0 (spell (components (now (a .entry)) ++ components (now (b .entry)))) (now (out .exit)) r ⌝ }
-{
-    if a.len() == 0 {
-        return octets::put_all(out, 0, b);
-    }
-    join(a, b, out)
 }

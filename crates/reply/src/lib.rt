@@ -1,34 +1,34 @@
 // 01's table of replies, once: the refusals, the answer that every public call returns, and the names that programs print.
 ghost use Rattle.basis.specs.Kit.{_≡_, _≤_, length};
-ghost use Rattle.reply.specs.Reply.{number as numberOf, second as secondOf, nowhere as nowhereOf, refusedFor, refusedBy};
+ghost use Rattle.reply.specs.Reply.{nowhere as nowhereOf, refusedFor, refusedBy};
 ghost use Rattle.reply.specs.Reply.{doneWith, absentAnswer};
 ghost use Rattle.reply.specs.Reply.{NameOf, mostName, textOf};
-ghost use Rattle.reply.specs.inner.Table.{Tabled};
+ghost use Rattle.reply.specs.inner.Table.{codeOf, Tabled};
 ghost use Rattle.reply.specs.Verdicts.{judged};
 use octets::wide;
 
-// Why a call is refused, by the names of 01 and of protobuf-parse's OptionResolverError.
+// Why a call is refused, by the names of 01 and of protobuf-parse's OptionResolverError, with 01's number times 100 and the second word.
 pub enum Refusal {
-    BadSheet,
-    BadRequest,
-    BeyondLimit,
-    ExtensionNotFound,
-    WrongExtensionType,
-    ExtensionIsNotMessage,
-    MessageNotFound,
-    MessageFoundMoreThanOnce,
-    UnknownFieldName,
-    BuiltinOptionNotFound,
-    BuiltinOptionPointsToNonSingularField,
-    MessageFieldRequiresMessageConstant,
-    UnsupportedExtensionType,
-    UnknownEnumValue,
-    ValueRange,
-    StrLitDecodeError,
-    RangeEnd,
-    NoRoom,
-    BadBytes,
-    WireMismatch,
+    BadSheet = 1_00,
+    BadRequest = 2_00,
+    BeyondLimit = 3_00,
+    ExtensionNotFound = 4_00,
+    WrongExtensionType = 5_00,
+    ExtensionIsNotMessage = 6_00,
+    MessageNotFound = 7_00,
+    MessageFoundMoreThanOnce = 8_00,
+    UnknownFieldName = 9_00,
+    BuiltinOptionNotFound = 10_00,
+    BuiltinOptionPointsToNonSingularField = 10_01,
+    MessageFieldRequiresMessageConstant = 11_00,
+    UnsupportedExtensionType = 12_00,
+    UnknownEnumValue = 13_00,
+    ValueRange = 14_00,
+    StrLitDecodeError = 15_00,
+    RangeEnd = 16_00,
+    NoRoom = 17_00,
+    BadBytes = 18_00,
+    WireMismatch = 19_00,
 }
 
 // Why a call is refused, and, from a later request on, where.
@@ -50,35 +50,11 @@ pub struct Answer {
     pub length: u32,
 }
 
-// A row of 01's table: the number, and the second word that tells two refusals of one number apart.
-pub struct Row(pub u32, pub u32);
-
 impl Refusal {
-    pub fn row(self) -> Row
-        ensures { λ r. ⌜ (r .0 ≡ numberOf self) × (r .1 ≡ secondOf self) ⌝ }
+    fn code(self) -> u32
+        ensures { λ r. ⌜ r ≡ codeOf self ⌝ }
     {
-        match self {
-            Refusal::BadSheet => Row(1, 0),
-            Refusal::BadRequest => Row(2, 0),
-            Refusal::BeyondLimit => Row(3, 0),
-            Refusal::ExtensionNotFound => Row(4, 0),
-            Refusal::WrongExtensionType => Row(5, 0),
-            Refusal::ExtensionIsNotMessage => Row(6, 0),
-            Refusal::MessageNotFound => Row(7, 0),
-            Refusal::MessageFoundMoreThanOnce => Row(8, 0),
-            Refusal::UnknownFieldName => Row(9, 0),
-            Refusal::BuiltinOptionNotFound => Row(10, 0),
-            Refusal::BuiltinOptionPointsToNonSingularField => Row(10, 1),
-            Refusal::MessageFieldRequiresMessageConstant => Row(11, 0),
-            Refusal::UnsupportedExtensionType => Row(12, 0),
-            Refusal::UnknownEnumValue => Row(13, 0),
-            Refusal::ValueRange => Row(14, 0),
-            Refusal::StrLitDecodeError => Row(15, 0),
-            Refusal::RangeEnd => Row(16, 0),
-            Refusal::NoRoom => Row(17, 0),
-            Refusal::BadBytes => Row(18, 0),
-            Refusal::WireMismatch => Row(19, 0),
-        }
+        self as u32
     }
 }
 
@@ -105,10 +81,10 @@ pub fn refused_for(cause: Cause) -> Answer
     ensures { λ r. ⌜ r ≡ refusedFor cause ⌝ }
 {
     let why = cause.why;
-    let row = why.row();
+    let code = why.code();
     Answer {
-        reply: row.0,
-        second: row.1,
+        reply: code / 100,
+        second: code % 100,
         absent: 0,
         length: 0,
     }
@@ -154,31 +130,8 @@ pub struct Name {
     pub length: usize,
 }
 
-// The bytes of a row.
+// The bytes of a row of the table of names: the number, the second word, the length of the name, the name and blanks.
 const ROW: usize = 43;
-
-// 01's table, a row for each refusal in the order of `Refusal`: the number, the second word, the length of the name, the name and blanks.
-const ROWS: [u8; 20 * ROW] = *b"\
-    \x01\x00\x08BadSheet                                \
-    \x02\x00\x0aBadRequest                              \
-    \x03\x00\x0bBeyondLimit                             \
-    \x04\x00\x11ExtensionNotFound                       \
-    \x05\x00\x12WrongExtensionType                      \
-    \x06\x00\x15ExtensionIsNotMessage                   \
-    \x07\x00\x0fMessageNotFound                         \
-    \x08\x00\x18MessageFoundMoreThanOnce                \
-    \x09\x00\x10UnknownFieldName                        \
-    \x0a\x00\x15BuiltinOptionNotFound                   \
-    \x0a\x01\x25BuiltinOptionPointsToNonSingularField   \
-    \x0b\x00\x23MessageFieldRequiresMessageConstant     \
-    \x0c\x00\x18UnsupportedExtensionType                \
-    \x0d\x00\x10UnknownEnumValue                        \
-    \x0e\x00\x0aValueRange                              \
-    \x0f\x00\x11StrLitDecodeError                       \
-    \x10\x00\x08RangeEnd                                \
-    \x11\x00\x06NoRoom                                  \
-    \x12\x00\x08BadBytes                                \
-    \x13\x00\x0cWireMismatch                            ";
 
 // A text as a name.
 fn spelled(text: &[u8]) -> Name
@@ -216,10 +169,34 @@ fn look_up(rows: &[u8], reply: u32, second: u32) -> Name
     spelled(&rows[..0])
 }
 
-// The name of the refusal that has this number and this second word, empty where there is none.
+// The name of the refusal that has this number and this second word, empty where there is none: 01's table, a row for each refusal.
 pub fn name_of(reply: u32, second: u32) -> Name
     ensures is { λ r. ⌜ NameOf reply second (textOf r) ⌝ }
     ensures within { λ r. ⌜ r .length ≤ mostName ⌝ }
 {
-    look_up(&ROWS, reply, second)
+    look_up(
+        b"\
+    \x01\x00\x08BadSheet                                \
+    \x02\x00\x0aBadRequest                              \
+    \x03\x00\x0bBeyondLimit                             \
+    \x04\x00\x11ExtensionNotFound                       \
+    \x05\x00\x12WrongExtensionType                      \
+    \x06\x00\x15ExtensionIsNotMessage                   \
+    \x07\x00\x0fMessageNotFound                         \
+    \x08\x00\x18MessageFoundMoreThanOnce                \
+    \x09\x00\x10UnknownFieldName                        \
+    \x0a\x00\x15BuiltinOptionNotFound                   \
+    \x0a\x01\x25BuiltinOptionPointsToNonSingularField   \
+    \x0b\x00\x23MessageFieldRequiresMessageConstant     \
+    \x0c\x00\x18UnsupportedExtensionType                \
+    \x0d\x00\x10UnknownEnumValue                        \
+    \x0e\x00\x0aValueRange                              \
+    \x0f\x00\x11StrLitDecodeError                       \
+    \x10\x00\x08RangeEnd                                \
+    \x11\x00\x06NoRoom                                  \
+    \x12\x00\x08BadBytes                                \
+    \x13\x00\x0cWireMismatch                            ",
+        reply,
+        second,
+    )
 }

@@ -1,5 +1,6 @@
 -- The code's table of names: a row is the number, the second word, the length of the name, the name and blanks, a byte each but the name.
 --
+--          codeOf w ==  the number that the code's enum has for a refusal: 01's number times 100, and the second word
 --           rowSize ==  the bytes of a row
 --   RowAt rows at w <-> the row that starts at a place of the table is that of the refusal
 --       Tabled rows <-> the table has the rows of all refusals, and no others
@@ -8,6 +9,9 @@
 use Rattle.basis.specs.Kit.{_≡_, List, ℕ, _+_, _*_, _≤_, _<_, length, getD, take, drop}
 use Rattle.reply.specs.declared.Refusal.{Refusal}
 use Rattle.reply.specs.Reply.{number, second, name, mostName}
+
+abbrev pub codeOf : Refusal → ℕ
+codeOf w = number w * 100 + second w
 
 abbrev pub rowSize : ℕ
 rowSize = 43
