@@ -29,8 +29,8 @@ use Rattle.scope.specs.Scope.{Scope, holding, declared}
 use Rattle.scope.specs.inner.Steps.{tellsDeclared, firstOf, declarationAt, itemAt, fileAt}
 use Rattle.numbers.specs.Number.{hasNumber, isExtensionOf, fieldNumbered, extensionNumbered, declarationOf}
 use Rattle.scope.proofs.Answers.{declared-or-else, declared-append, declared-listed, whose-laws}
-use Rattle.scope.proofs.DeclaredPlaces.{declaration-at-ordered, declaration-at-places, places-laws}
-use Rattle.scope.proofs.NamedLaws.{declarationWhere, declarations-seek}
+use Rattle.named.proofs.DeclaredPlaces.{declaration-at-ordered, declaration-at-places, places-laws}
+use Rattle.named.proofs.NamedLaws.{declarationWhere, declarations-seek}
 
 -- ---- field_numbered_at
 pub ruleset field-numbered-at-laws = (whose-laws, eq-eqb, ne-eqb)

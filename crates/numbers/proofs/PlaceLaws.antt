@@ -10,7 +10,7 @@ use Rattle.basis.specs.First.{orElse}
 use Rattle.scope.specs.declared.lookup.LookupScope.{LookupScope}
 use Rattle.scope.specs.Scope.{InSheet, holding, declared}
 use Rattle.scope.proofs.Answers.{declared-some}
-use Rattle.scope.proofs.DeclaredPlaces.{Ordered, places-ordered, extension-lies, declaration-lies}
+use Rattle.named.proofs.DeclaredPlaces.{Ordered, places-ordered, extension-lies, declaration-lies}
 use Rattle.numbers.specs.Number.{hasNumber, isExtensionOf, fieldNumbered, extensionNumbered, declarationOf}
 
 module _ (s m : List ℕ) (k : ℕ) (p : LookupScope) (l : InSheet s p) (d : Declaration) where

@@ -15,7 +15,7 @@ use field::Leaf;
 use field::Span;
 use limits::MOST_MESSAGES;
 use scope::lookup::LookupScope;
-use scope::named::declaration_at;
+use named::declaration_at;
 use sheet::declaration::Declared;
 use sheet::table;
 

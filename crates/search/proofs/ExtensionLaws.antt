@@ -44,7 +44,7 @@ use Rattle.search.specs.Lookup.{foundIn, foundAt, foundAmong, orNotFound
 use Rattle.search.specs.Lookup.{findExtensionByPath, extResolveField}
 use Rattle.scope.proofs.Answers.{declared-none, declared-some}
 use Rattle.search.proofs.TriedLaws.{resolved-none, resolved-some}
-use Rattle.scope.proofs.DeclaredPlaces.{places-laws}
+use Rattle.named.proofs.DeclaredPlaces.{places-laws}
 use Rattle.search.proofs.LiesLaws.{found-ordered, found-places}
 use Rattle.scopes.proofs.Left.{Left, left-end, left-step, left-next, left-laws}
 use Rattle.scopes.proofs.StartLaws.{components-some, last-text, start-before, start-before-stands}

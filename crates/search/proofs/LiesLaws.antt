@@ -40,7 +40,7 @@ use Rattle.search.specs.Lookup.{messageOf, messagesAt, enumsAt, lookedUp
 use Rattle.basis.proofs.FirstLaws.{given-holds, Every, none-of, one-of, every-all, every-append, every-onto, every-collect}
 use Rattle.basis.proofs.FirstLaws.{first-some-holds}
 use Rattle.scope.proofs.Answers.{declared-some}
-use Rattle.scope.proofs.DeclaredPlaces.{Ordered, places-ordered, extension-lies, declaration-lies}
+use Rattle.named.proofs.DeclaredPlaces.{Ordered, places-ordered, extension-lies, declaration-lies}
 use Rattle.scope.proofs.Held.{HeldEnum, enum-held, enum-lies-ordered, enum-lies-within}
 use Rattle.scopes.proofs.ScopeFiles.{only-some, follows, index}
 use Rattle.scopes.proofs.ScopesLaws.{Placed, followed-placed}

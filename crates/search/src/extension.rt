@@ -11,7 +11,7 @@ use candidates::protobuf_path::candidates;
 use path::protobuf_rel_path::before;
 use path::protobuf_rel_path::last_at;
 use reply::Refusal;
-use scope::named::declaration_named;
+use named::declaration_named;
 use scopes::Cursor;
 use scopes::Next;
 use scopes::next_scope;

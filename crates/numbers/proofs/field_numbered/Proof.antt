@@ -7,7 +7,7 @@ use Rattle.field.proofs.Seek.{Seeking}
 use Rattle.sheet.specs.declared.declaration.Declared.the-variants.{NoDeclaration}
 use Rattle.numbers.specs.Number.{hasNumber}
 use Rattle.scope.specs.inner.Steps.{tellsDeclared, firstOf}
-use Rattle.scope.proofs.NamedLaws.{declarationWhere}
+use Rattle.named.proofs.NamedLaws.{declarationWhere}
 use Rattle.numbers.proofs.NumberLaws.{field-numbered-laws}
 use Rattle.numbers.proofs.field_numbered.Statement.{statement}
 use Rattle.numbers.proofs.field_numbered.Tie as tie

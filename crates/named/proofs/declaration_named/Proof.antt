@@ -5,10 +5,10 @@ use Rattle.basis.proofs.Kit.{needs}
 use Rattle.sheet.specs.declared.declaration.Declared.the-variants.{NoDeclaration}
 use Rattle.field.proofs.Seek.{Seeking}
 use Rattle.field.specs.Leaf.{isText}
 use Rattle.scope.specs.inner.Steps.{tellsDeclared, firstOf}
-use Rattle.scope.proofs.NamedLaws.{declarationWhere, declaration-named-laws}
-use Rattle.scope.proofs.named.declaration_named.Statement.{statement}
-use Rattle.scope.proofs.named.declaration_named.Tie as tie
+use Rattle.named.proofs.NamedLaws.{declarationWhere, declaration-named-laws}
+use Rattle.named.proofs.declaration_named.Statement.{statement}
+use Rattle.named.proofs.declaration_named.Tie as tie
 
 abbrev Inv-loop : tie.InvT-loop
 Inv-loop s want name end at₀ at =

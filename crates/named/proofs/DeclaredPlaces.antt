@@ -17,11 +17,11 @@ use Rattle.sheet.proofs.LyingLaws.{Lying, lying-none, lying-message, lying-exte
 use Rattle.sheet.proofs.LyingLaws.{FileLies, Filed, filed-none, filed-one, tree-lies}
 use Rattle.basis.specs.First.{onlyIf, first}
 use Rattle.basis.proofs.FirstLaws.{Every, none-of, one-of, first-holds, every-append}
 use Rattle.scope.specs.declared.lookup.LookupScope.{LookupScope}
 use Rattle.scope.specs.Scope.{InSheet, holding, declarationNamed, declared}
 use Rattle.scope.specs.inner.Steps.{declarationAt}
 use Rattle.scope.proofs.Answers.{declared-some}
-use Rattle.scope.proofs.NamedLaws.{declaration-cases}
+use Rattle.named.proofs.NamedLaws.{declaration-cases}
 
 -- ---- what is asked of a span. That it is in order is said with no end, so that a search finds it whatever the sheet
 pub record Ordered (d : Declaration) : Type 0 where

@@ -1,9 +1,9 @@
 -- `named::declaration_named_at` meets its contract.
 -- Assumes nothing.
 use Rattle.basis.proofs.Kit.{needs}
-use Rattle.scope.proofs.NamedLaws.{declaration-named-at-laws}
-use Rattle.scope.proofs.named.declaration_named_at.Statement.{statement}
-use Rattle.scope.proofs.named.declaration_named_at.Tie as tie
+use Rattle.named.proofs.NamedLaws.{declaration-named-at-laws}
+use Rattle.named.proofs.declaration_named_at.Statement.{statement}
+use Rattle.named.proofs.declaration_named_at.Tie as tie
 
 pub declaration-named-at-spec : {M : Type 1} → statement M
 declaration-named-at-spec = tie.close (tie.spec

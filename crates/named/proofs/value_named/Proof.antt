@@ -3,11 +3,11 @@
 use Rattle.basis.specs.Kit.{_-_}
 use Rattle.basis.proofs.Kit.{needs}
 use Rattle.sheet.specs.declared.declaration.Valued.the-variants.{NoValue}
 use Rattle.scope.specs.inner.Steps.{tellsValued, firstOf, valueNamedAt}
 use Rattle.field.proofs.Seek.{Seeking}
-use Rattle.scope.proofs.NamedLaws.{value-named-laws}
-use Rattle.scope.proofs.named.value_named.Statement.{statement}
-use Rattle.scope.proofs.named.value_named.Tie as tie
+use Rattle.named.proofs.NamedLaws.{value-named-laws}
+use Rattle.named.proofs.value_named.Statement.{statement}
+use Rattle.named.proofs.value_named.Tie as tie
 
 abbrev Inv-loop : tie.InvT-loop
 Inv-loop s name end at₀ at = Seeking NoValue (firstOf tellsValued) (valueNamedAt name s) s at₀ end at

@@ -1,0 +1,2 @@
+pub mod NamedLaws
+pub mod DeclaredPlaces
