@@ -7,10 +7,10 @@ use Rattle.field.specs.declared.Leaf.{Leaf}
 use Rattle.field.specs.declared.Leaf.the-variants.{At}
 use Rattle.field.specs.Leaf.{anyBytes, leafAt}
 use Rattle.field.proofs.LeafLaws.{leaf-ordered, leaf-inside}
-use Rattle.hex.specs.declared.due.Due.{Due}
-use Rattle.hex.specs.Due.{dueAt, dueLeaf}
-use Rattle.hex.proofs.DueLaws.{due-leaf}
-use Rattle.hex.proofs.WordLaws.{words-count}
+use Rattle.inputs.specs.declared.due.Due.{Due}
+use Rattle.inputs.specs.inner.Due.{dueAt, dueLeaf}
+use Rattle.inputs.proofs.DueLaws.{due-leaf}
+use Rattle.inputs.proofs.WordLaws.{words-count}
 use Rattle.console.specs.declared.input.Input.{Input}
 use Rattle.console.specs.declared.input.Input.the-variants as input
 use Rattle.console.specs.Input.{Fills}

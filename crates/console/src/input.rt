@@ -9,9 +9,9 @@ use crate::output::text;
 use field::Leaf;
 use hex::digits::Decoded;
 use hex::digits::decode;
-use hex::due::Due;
-use hex::due::due_at;
-use hex::due::due_leaf;
+use inputs::due::Due;
+use inputs::due::due_at;
+use inputs::due::due_leaf;
 
 // A program's input has at most so many bytes: a sheet and a request, each a field of 65,535 bytes with its header of 3.
 pub const MOST_BYTES: usize = 131_076;

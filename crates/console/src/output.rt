@@ -2,7 +2,7 @@
 ghost use Rattle.basis.specs.Kit.{_≡_};
 ghost use lib.IntN.{natAbs};
 use hex::digits::glyph;
-use hex::words::least;
+use inputs::words::least;
 use reply::Answer;
 
 pub fn text(bytes: &[u8]) {

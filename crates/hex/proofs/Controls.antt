@@ -1,13 +1,8 @@
 -- Closed cases of the definitions, which the checker computes: of each range its two ends and what stands beside them; texts in either
--- case, with blanks and line ends anywhere, empty, ended within a byte, and with a character that is no digit; what stands where a field
--- is due.
+-- case, with blanks and line ends anywhere, empty, ended within a byte, and with a character that is no digit.
 -- Assumes nothing.
 use Rattle.basis.specs.Kit.{_≡_, refl, List, [], _∷_, map, ℕ}
 use Rattle.reply.specs.Reply.{ascii}
-use Rattle.octets.specs.Octets.{bigAt}
-use Rattle.field.specs.Field.{fieldAt}
-use Rattle.hex.specs.declared.due.Due.the-variants.{Here, Other, CutShort, Ended}
-use Rattle.hex.specs.Due.{dueAt}
 use Rattle.hex.specs.Digits.{blank, other, digitOf, Spelled, bytes, noDigit, halfByte, unhex}
 
 -- ---- a byte: before the range, its first, its last, after it
@@ -69,23 +64,3 @@ bad = refl
 bad-first : spells (ascii "4g4") ≡ noDigit 1
 unfolding spells unhex digitOf
 bad-first = refl
-
--- ---- a field of tag 64 with two bytes, then one byte of another
-input : List ℕ
-input = 64 ∷ 0 ∷ 2 ∷ 7 ∷ 8 ∷ 65 ∷ []
-
-due-here : dueAt 64 input 0 ≡ Here 3 5
-unfolding dueAt fieldAt bigAt input
-due-here = refl
-
-due-other : dueAt 65 input 0 ≡ Other 64
-unfolding dueAt fieldAt bigAt input
-due-other = refl
-
-due-cut : dueAt 65 input 5 ≡ CutShort
-unfolding dueAt fieldAt bigAt input
-due-cut = refl
-
-due-ended : dueAt 65 input 6 ≡ Ended
-unfolding dueAt fieldAt bigAt input
-due-ended = refl

@@ -2,14 +2,14 @@
 use console::input::Input;
 use console::input::MOST_BYTES;
 use field::Leaf;
-use hex::words::MOST_PAYLOAD_WORDS;
+use inputs::words::MOST_PAYLOAD_WORDS;
 use limits::MOST_WORDS;
 
 const WORDS: u8 = 0x49;
 
 fn lower(payload: &[u8]) {
     let mut words = [0u32; MOST_PAYLOAD_WORDS];
-    let n = hex::words::words_of(payload, &mut words);
+    let n = inputs::words::words_of(payload, &mut words);
     let mut out = [0u32; MOST_WORDS];
     let a = lowering::lower_fields(&words[..n], &mut out);
     console::output::answer(a);

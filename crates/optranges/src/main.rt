@@ -2,7 +2,7 @@
 use console::input::Input;
 use console::input::MOST_BYTES;
 use field::Leaf;
-use hex::words::MOST_PAYLOAD_WORDS;
+use inputs::words::MOST_PAYLOAD_WORDS;
 use limits::MOST_WORDS;
 
 const KIND: u8 = 0x47;
@@ -11,7 +11,7 @@ const WORDS: u8 = 0x48;
 
 fn lower(kind: u32, payload: &[u8]) {
     let mut words = [0i32; MOST_PAYLOAD_WORDS];
-    let n = hex::words::signed_words_of(payload, &mut words);
+    let n = inputs::words::signed_words_of(payload, &mut words);
     let mut out = [0i32; MOST_WORDS];
     let a = lowering::lower_ranges(kind, &words[..n], &mut out);
     console::output::answer(a);

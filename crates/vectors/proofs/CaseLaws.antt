@@ -4,8 +4,8 @@ use Rattle.basis.specs.Kit.{_≡_, Bool, List, ℕ, _+_, _-_, _≤_, _<_}
 use Rattle.basis.proofs.Kit.{arith}
 use Rattle.limits.specs.Figures.{mostVarint}
 use Rattle.octets.specs.Octets.{Laid}
-use Rattle.wire.specs.Varint.{varint}
-use Rattle.wire.proofs.VarintLaws.{varint-few}
+use Rattle.varint.specs.Varint.{varint}
+use Rattle.varint.proofs.VarintLaws.{varint-few}
 use Rattle.field.specs.declared.Leaf.{Leaf}
 use Rattle.field.specs.declared.Leaf.the-variants.{At}
 use Rattle.field.specs.Leaf.{leafAt}

@@ -5,13 +5,13 @@ use crate::case::begins;
 use crate::case::number_of;
 use crate::case::word_of;
 use types::wire_of;
+use varint::Read;
+use varint::put_varint;
+use varint::varint_at;
+use varint::varint_len;
 use wire::numbers::unzigzag;
 use wire::numbers::zigzag;
 use wire::tag::tag_of;
-use wire::varint::Read;
-use wire::varint::put_varint;
-use wire::varint::varint_at;
-use wire::varint::varint_len;
 
 // No example is longer.
 const MOST: usize = 64;

@@ -1,8 +1,8 @@
 // 01's lowerings: the answer, and what the lent memory holds before and after.
 use crate::case::word_at;
 use crate::case::word_of;
-use hex::words::signed_words_of;
-use hex::words::words_of;
+use inputs::words::signed_words_of;
+use inputs::words::words_of;
 use reply::Answer;
 
 // Words of the lent memory in each example of fields; no list is longer.

@@ -1,9 +1,7 @@
-pub mod VarintLaws
-pub mod VarintLoops
-pub mod VarintReading
 pub mod TagLaws
 pub mod FixedLaws
 pub mod FixedLoops
 pub mod NumberLaws
-pub mod VarintControls
+pub mod TagControls
+pub mod FixedControls
 pub mod NumberControls

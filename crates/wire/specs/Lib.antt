@@ -1,4 +1,3 @@
-pub mod Varint
 pub mod Tag
 pub mod Fixed
 pub mod Numbers

@@ -1,5 +1,4 @@
-// The wire forms of protobuf's encoding document: varints, tags, zigzag and widths, fixed numbers.
+// The wire forms of protobuf's encoding document: tags, zigzag and widths, fixed numbers.
 pub mod fixed;
 pub mod numbers;
 pub mod tag;
-pub mod varint;

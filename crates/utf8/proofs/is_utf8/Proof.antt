@@ -1,4 +1,4 @@
--- `wire::utf8::is_utf8` meets its contract, by its loop's invariant and laws.
+-- `utf8::is_utf8` meets its contract, by its loop's invariant and laws.
 -- Assumes nothing.
 use Rattle.basis.specs.Kit.{_-_, length}
 use Rattle.basis.proofs.Kit.{needs}

@@ -1,4 +1,4 @@
--- `wire::utf8::three` meets its contract.
+-- `utf8::three` meets its contract.
 -- Assumes nothing.
 use Rattle.basis.proofs.Kit.{needs}
 use Rattle.utf8.proofs.Lead.{three-laws}

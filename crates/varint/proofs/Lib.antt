@@ -1,0 +1,4 @@
+pub mod VarintLaws
+pub mod VarintLoops
+pub mod VarintReading
+pub mod VarintControls
