@@ -21,7 +21,8 @@ use Rattle.sheet.specs.Table.{fileTag, messageTag, extensionTag, enumTag, field
 use Rattle.sheet.specs.Declaration.{extensionAt, messageFieldAt, valueAt}
 use Rattle.sheet.specs.Tree.{Items, none, message, enumeration, File, valueOnto, valueIn, valuesIn, enumIn, extensionIn, fieldIn}
 use Rattle.sheet.specs.Tree.{itemIn, messageIn, itemsWith, itemsIn, fileIn, filesIn, treeOf}
-use Rattle.counts.specs.Declarations.{one, declaredCount, inItems, inSheet, valueCount, itemCount, fileCount}
+use Rattle.counts.specs.Declarations.{one, inItems, inSheet}
+use Rattle.counts.specs.inner.Fields.{declaredCount, valueCount, itemCount, fileCount}
 use Rattle.field.proofs.Tally.{Tally, total, tally-start, tally-laws}
 use Rattle.sheet.proofs.TreeLaws.{value-other, value-none, value-some, enum-unnamed, enum-named}
 use Rattle.sheet.proofs.TreeLaws.{message-beyond, message-unnamed, message-named}

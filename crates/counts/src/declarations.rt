@@ -2,7 +2,8 @@
 ghost use Rattle.basis.specs.Kit.{_≡_, _+_, _-_, _≤_, length};
 ghost use Rattle.field.specs.Walk.{walk};
 ghost use Rattle.sheet.specs.Tree.{none, valuesIn, enumIn, messageIn, itemsIn, treeOf};
-ghost use Rattle.counts.specs.Declarations.{one as oneOf, declaredCount, inItems, inSheet, valueCount, itemCount, fileCount};
+ghost use Rattle.counts.specs.Declarations.{one as oneOf, inItems, inSheet};
+ghost use Rattle.counts.specs.inner.Fields.{declaredCount, valueCount, itemCount, fileCount};
 use field::Field;
 use field::Leaf;
 use field::leaf_at;

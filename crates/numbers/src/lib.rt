@@ -14,8 +14,8 @@ use field::Field;
 use field::Leaf;
 use field::Span;
 use limits::MOST_MESSAGES;
-use scope::lookup::LookupScope;
 use named::declaration_at;
+use scope::lookup::LookupScope;
 use sheet::declaration::Declared;
 use sheet::table;
 

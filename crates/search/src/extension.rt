@@ -8,10 +8,10 @@ ghost use Rattle.search.specs.declared.extension.Resolved.the-variants.{
 ghost use Rattle.search.specs.Lookup.{foundIn, orNotFound, findExtensionByAbsPath, tried, findExtensionByPath, extResolveField};
 use candidates::protobuf_path::candidate;
 use candidates::protobuf_path::candidates;
+use named::declaration_named;
 use path::protobuf_rel_path::before;
 use path::protobuf_rel_path::last_at;
 use reply::Refusal;
-use named::declaration_named;
 use scopes::Cursor;
 use scopes::Next;
 use scopes::next_scope;

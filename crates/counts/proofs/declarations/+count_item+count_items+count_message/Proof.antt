@@ -4,7 +4,8 @@ use Rattle.basis.specs.Kit.{ℕ, _+_, _-_, _*_, _<_}
 use Rattle.basis.proofs.Kit.{needs}
 use Rattle.field.specs.Walk.{walk}
 use Rattle.sheet.specs.Tree.{itemsIn}
-use Rattle.counts.specs.Declarations.{inItems, itemCount}
+use Rattle.counts.specs.Declarations.{inItems}
+use Rattle.counts.specs.inner.Fields.{itemCount}
 use Rattle.field.proofs.Tally.{Tally, total}
 use Rattle.counts.proofs.DeclarationLaws.{item-count-laws, items-count-laws, message-count-laws}
 use borrow.Fn.Kinds.{In}

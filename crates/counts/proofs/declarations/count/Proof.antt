@@ -3,7 +3,8 @@
 use Rattle.basis.specs.Kit.{_-_}
 use Rattle.basis.proofs.Kit.{needs}
 use Rattle.sheet.specs.Tree.{treeOf}
-use Rattle.counts.specs.Declarations.{inSheet, fileCount}
+use Rattle.counts.specs.Declarations.{inSheet}
+use Rattle.counts.specs.inner.Fields.{fileCount}
 use Rattle.field.proofs.Tally.{Tally, total}
 use Rattle.counts.proofs.DeclarationLaws.{files-count-laws}
 use Rattle.counts.proofs.declarations.count.Statement.{statement}

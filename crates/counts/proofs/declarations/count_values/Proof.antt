@@ -5,7 +5,7 @@ use Rattle.basis.proofs.Kit.{needs}
 use Rattle.field.specs.Walk.{walk}
 use Rattle.sheet.specs.Tree.{valuesIn}
 use Rattle.field.proofs.Tally.{Tally, total}
-use Rattle.counts.specs.Declarations.{valueCount}
+use Rattle.counts.specs.inner.Fields.{valueCount}
 use Rattle.counts.proofs.DeclarationLaws.{values-count-laws}
 use Rattle.counts.proofs.declarations.count_values.Statement.{statement}
 use Rattle.counts.proofs.declarations.count_values.Tie as tie
