@@ -11,7 +11,7 @@ fn lower(payload: &[u8]) {
     let mut words = [0u32; MOST_PAYLOAD_WORDS];
     let n = inputs::words::words_of(payload, &mut words);
     let mut out = [0u32; MOST_WORDS];
-    let a = lowering::lower_fields(&words[..n], &mut out);
+    let a = oneofs::lower_fields(&words[..n], &mut out);
     console::output::answer(a);
     if a.reply == 0 {
         console::output::words(&out, a.length as usize);

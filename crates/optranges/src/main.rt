@@ -13,7 +13,7 @@ fn lower(kind: u32, payload: &[u8]) {
     let mut words = [0i32; MOST_PAYLOAD_WORDS];
     let n = inputs::words::signed_words_of(payload, &mut words);
     let mut out = [0i32; MOST_WORDS];
-    let a = lowering::lower_ranges(kind, &words[..n], &mut out);
+    let a = ranges::lower_ranges(kind, &words[..n], &mut out);
     console::output::answer(a);
     if a.reply == 0 {
         console::output::signed_words(&out, a.length as usize);

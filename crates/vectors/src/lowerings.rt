@@ -19,7 +19,7 @@ pub fn ranges(given: &[u8], kind: &[u8], before: &[u8], want: &[u8], after: &[u8
     signed_words_of(given, &mut words);
     let mut out = [0i32; 2];
     signed_words_of(before, &mut out);
-    let a = lowering::lower_ranges(word_of(kind), &words, &mut out);
+    let a = ranges::lower_ranges(word_of(kind), &words, &mut out);
     answers(a, want) & are_signed(out, after)
 }
 
@@ -39,7 +39,7 @@ pub fn fields(given: &[u8], before: &[u8], want: &[u8], after: &[u8]) -> bool {
 fn fields_over(words: &[u32], before: &[u8], want: &[u8], after: &[u8]) -> bool {
     let mut out = [0u32; FIELDS];
     words_of(before, &mut out);
-    let a = lowering::lower_fields(words, &mut out);
+    let a = oneofs::lower_fields(words, &mut out);
     answers(a, want) & are_words(&out, after)
 }
 

@@ -1,4 +1,0 @@
-pub mod EndLaws
-pub mod RangeLaws
-pub mod FieldLaws
-pub mod Controls
