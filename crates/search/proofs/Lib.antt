@@ -1,10 +1,8 @@
 pub mod TriedLaws
 pub mod LiesLaws
 pub mod ExtensionLaws
-pub mod FullNameLaws
 pub mod CandidateOrder
 pub mod FoundLaws
 pub mod ScopeOrder
 pub mod Theorems
 pub mod Examples
-pub mod Controls

@@ -1,3 +1,2 @@
 pub mod Lookup
 pub mod Answers
-pub mod inner

@@ -1,4 +1,4 @@
--- Lookups, from 01's "The search": an extension by its path in a scope, a message and an enum by full name.
+-- Look-ups of an extension, from 01's "The search": by full name, and by its path in a scope.
 --
 --                      foundIn s n c == the first extension of the name n that the scope c declares, with the index of its file
 --                        foundAt s p == the first scope's first extension at the path p
@@ -11,33 +11,22 @@
 --                       extended b f == the extension f where b holds, else that its extendee is another
 --                     compared s m r == the extension, where there is one and it is one of the message m
 --     extResolveField s scope m name == the extension that a name finds in a scope, where it is one of the message m
---                        messageOf c == the scope c, where it is a message
---                     messagesAt s p == the messages of the full name p
---                        enumsAt s p == the enums of the full name p
---             lookedUp, lookedUpEnum == the one that there is; of none MessageNotFound, of more than one MessageFoundMoreThanOnce
 --
 -- Assumes nothing.
 use Rattle.basis.specs.Kit.{Bool, true, false, List, [], _∷_, Option, none, some, ℕ, _+_}
 use Rattle.reply.specs.declared.Refusal.{Refusal}
 use Rattle.reply.specs.declared.Refusal.the-variants.{ExtensionNotFound, WrongExtensionType}
-use Rattle.reply.specs.declared.Refusal.the-variants.{MessageNotFound, MessageFoundMoreThanOnce}
 use Rattle.path.specs.Path.{Name, Path, parent, last}
 use Rattle.candidates.specs.Candidates.{candidates}
 use Rattle.sheet.specs.Table.{extensionTag}
-use Rattle.sheet.specs.Members.{Enumeration}
-use Rattle.basis.specs.First.{onlyIf, told, given, orElse, firstSome, collect}
-use Rattle.scope.specs.Scope.{Scope, declarationNamed, enumNamed}
-use Rattle.scope.specs.Scope.{extends}
+use Rattle.basis.specs.First.{told, given, orElse, firstSome}
+use Rattle.scope.specs.Scope.{Scope, declarationNamed, extends}
 use Rattle.search.specs.declared.extension.Found.{Found}
 use Rattle.search.specs.declared.extension.Candidate.{Candidate}
 use Rattle.search.specs.declared.extension.Tried.{Tried}
 use Rattle.search.specs.declared.extension.Tried.the-variants as attempt
 use Rattle.search.specs.declared.extension.Resolved.{Resolved}
 use Rattle.search.specs.declared.extension.Resolved.the-variants.{Field, Refused}
-use Rattle.search.specs.declared.full_name.LookedUp.{LookedUp}
-use Rattle.search.specs.declared.full_name.LookedUp.the-variants.{Message, NoMessage}
-use Rattle.search.specs.declared.full_name.LookedUpEnum.{LookedUpEnum}
-use Rattle.search.specs.declared.full_name.LookedUpEnum.the-variants.{Values, NoEnum}
 use Rattle.scopes.specs.Scopes.{scopes}
 
 abbrev pub foundIn : (s : List ℕ) (n : Name) (c : Scope) → Option Found
@@ -81,26 +70,3 @@ compared s m (Refused w) = Refused w
 
 unfoldable pub extResolveField : (s scope m name : List ℕ) → Resolved
 extResolveField s scope m name = compared s m (findExtensionByPath s scope name)
-
--- "A message by full name: the scopes at that path that are messages" [LOOKUP-1, LOOKUP-2]
-abbrev pub messageOf : Scope → Option Scope
-messageOf c = onlyIf (c .place .message) (some c) none
-
-unfoldable pub messagesAt : (s : List ℕ) (p : Path) → List Scope
-messagesAt s p = collect messageOf (scopes s p)
-
--- "An enum likewise: the first of its last component's name in each scope at the path before it." [LOOKUP-3, LOOKUP-5]
-unfoldable pub enumsAt : (s : List ℕ) (p : Path) → List Enumeration
-enumsAt s [] = []
-enumsAt s (n ∷ ns) = collect (enumNamed s (last (n ∷ ns))) (scopes s (parent (n ∷ ns)))
-
--- "none is 7, more than one 8" [LOOKUP-1]
-abbrev pub lookedUp : List Scope → LookedUp
-lookedUp [] = NoMessage MessageNotFound
-lookedUp (c ∷ []) = Message (c .place)
-lookedUp (c ∷ d ∷ cs) = NoMessage MessageFoundMoreThanOnce
-
-abbrev pub lookedUpEnum : List Enumeration → LookedUpEnum
-lookedUpEnum [] = NoEnum MessageNotFound
-lookedUpEnum (e ∷ []) = Values (e .body)
-lookedUpEnum (e ∷ f ∷ es) = NoEnum MessageFoundMoreThanOnce

@@ -1,9 +1,9 @@
--- `full_name::enum_in` meets its contract.
+-- `fullname::enum_in` meets its contract.
 -- Assumes nothing.
 use Rattle.basis.proofs.Kit.{needs}
-use Rattle.search.proofs.FullNameLaws.{enum-in-laws}
-use Rattle.search.proofs.full_name.enum_in.Statement.{statement}
-use Rattle.search.proofs.full_name.enum_in.Tie as tie
+use Rattle.fullname.proofs.FullNameLaws.{enum-in-laws}
+use Rattle.fullname.proofs.enum_in.Statement.{statement}
+use Rattle.fullname.proofs.enum_in.Tie as tie
 
 pub enum-in-spec : {M : Type 1} → statement M
 enum-in-spec = tie.close (tie.spec

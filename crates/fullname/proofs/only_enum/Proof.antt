@@ -1,9 +1,9 @@
--- `full_name::only_enum` meets its contract.
+-- `fullname::only_enum` meets its contract.
 -- Assumes nothing.
 use Rattle.basis.proofs.Kit.{needs}
-use Rattle.search.proofs.FullNameLaws.{only-enum-laws}
-use Rattle.search.proofs.full_name.only_enum.Statement.{statement}
-use Rattle.search.proofs.full_name.only_enum.Tie as tie
+use Rattle.fullname.proofs.FullNameLaws.{only-enum-laws}
+use Rattle.fullname.proofs.only_enum.Statement.{statement}
+use Rattle.fullname.proofs.only_enum.Tie as tie
 
 pub only-enum-spec : {M : Type 1} → statement M
 only-enum-spec = tie.close (tie.spec

@@ -1,9 +1,9 @@
--- `full_name::find_message_by_abs_name` meets its contract.
+-- `fullname::find_message_by_abs_name` meets its contract.
 -- Assumes nothing.
 use Rattle.basis.proofs.Kit.{needs}
-use Rattle.search.proofs.FullNameLaws.{message-by-name-laws}
-use Rattle.search.proofs.full_name.find_message_by_abs_name.Statement.{statement}
-use Rattle.search.proofs.full_name.find_message_by_abs_name.Tie as tie
+use Rattle.fullname.proofs.FullNameLaws.{message-by-name-laws}
+use Rattle.fullname.proofs.find_message_by_abs_name.Statement.{statement}
+use Rattle.fullname.proofs.find_message_by_abs_name.Tie as tie
 
 pub find-message-by-abs-name-spec : {M : Type 1} → statement M
 find-message-by-abs-name-spec = tie.close (tie.spec

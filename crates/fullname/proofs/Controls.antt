@@ -1,11 +1,12 @@
--- Closed cases of the lookups, which the checker computes: of each rule cases that hold, cases at its border, and cases that are refused.
+-- Closed cases of the look-ups by full name, which the checker computes: of each rule cases that hold, cases at its border, and cases that
+-- are refused.
 -- Assumes nothing.
-use Rattle.basis.specs.Kit.{_≡_, refl, List, [], _∷_, _++_, map, Option, none, some, ℕ}
+use Rattle.basis.specs.Kit.{_≡_, refl, List, [], _∷_, _++_, map, ℕ}
 use Prim.Native.String.{String}
 use Rattle.octets.specs.Octets.{bigAt, sameBytes}
 use Rattle.reply.specs.Reply.{number, ascii}
 use Rattle.field.specs.Field.{fieldAt}
-use Rattle.field.specs.Leaf.{text, leafAt}
+use Rattle.field.specs.Leaf.{leafAt}
 use Rattle.field.specs.Walk.{walkBy, walk}
 use Rattle.path.specs.Path.{onFirst, split, components, spell, parent, last}
 use Rattle.sheet.specs.declared.declaration.Declaration.{Declaration}
@@ -13,32 +14,33 @@ use Rattle.sheet.specs.declared.declaration.Value.{Value}
 use Rattle.sheet.specs.Declaration.{hasTypePath, typePathAt, shapeAt, extensionAt, messageFieldAt, valueAt}
 use Rattle.sheet.specs.Tree.{valueIn, valuesIn, itemIn, itemsIn, fileIn, treeOf}
 use Rattle.sheet.specs.Members.{fieldsOf}
-use Rattle.scope.specs.Scope.{Scope, holding}
-use Rattle.search.specs.declared.full_name.LookedUp.{LookedUp}
-use Rattle.search.specs.declared.full_name.LookedUp.the-variants.{Message, NoMessage}
-use Rattle.search.specs.declared.full_name.LookedUpEnum.{LookedUpEnum}
-use Rattle.search.specs.declared.full_name.LookedUpEnum.the-variants.{Values, NoEnum}
+use Rattle.scope.specs.Scope.{holding}
+use Rattle.fullname.specs.declared.LookedUp.{LookedUp}
+use Rattle.fullname.specs.declared.LookedUp.the-variants.{Message, NoMessage}
+use Rattle.fullname.specs.declared.LookedUpEnum.{LookedUpEnum}
+use Rattle.fullname.specs.declared.LookedUpEnum.the-variants.{Values, NoEnum}
 use Rattle.scopes.specs.Scopes.{scopes}
-use Rattle.search.specs.Lookup.{messagesAt, enumsAt, lookedUp, lookedUpEnum}
+use Rattle.fullname.specs.FullName.{messagesAt, enumsAt, lookedUp, lookedUpEnum}
 use Rattle.scopes.proofs.Sheets.{file, message, extension, field, value, enum}
 
--- a sheet, a full name in it, and what the lookup says
-record Case (A : Type 0) : Type 0 where
-  sheet : List ℕ
-  path : String
-  says : A
-
-abbrev at : {A : Type 0} → List ℕ → String → A → Case A
-at s p a = record { sheet = s; path = p; says = a }
-
--- ---- messages and enums by full name: of one that is found the index of its file and the number of its first field, of an enum that of
--- its first value; of one that is not, the reply's number
+-- of a message that is found the index of its file and the number of its first field, of an enum the number of its first value; of one that
+-- is not found, the reply's number
 data Reply : Type 0 where
   inFile : ℕ → ℕ → Reply
   values : ℕ → Reply
   bare : Reply
   refused : ℕ → Reply
 
+-- a sheet, a full name in it, and what the look-up says
+record Case : Type 0 where
+  sheet : List ℕ
+  path : String
+  says : Reply
+
+abbrev at : List ℕ → String → Reply → Case
+at s p a = record { sheet = s; path = p; says = a }
+
+-- ---- messages
 abbrev marked : ℕ → List Declaration → Reply
 marked i [] = bare
 marked i (d ∷ ds) = inFile i (d .shape .number)
@@ -47,7 +49,7 @@ abbrev messageReply : List ℕ → LookedUp → Reply
 messageReply s (Message p) = marked (p .file) (fieldsOf (holding s p .items))
 messageReply s (NoMessage w) = refused (number w)
 
-aMessage : Case Reply → Reply
+aMessage : Case → Reply
 unfolding messagesAt scopes components split onFirst spell sameBytes treeOf fileIn itemsIn itemIn valueIn extensionAt
     messageFieldAt valueAt shapeAt typePathAt hasTypePath walkBy leafAt fieldAt bigAt
 aMessage x = messageReply (x .sheet) (lookedUp (messagesAt (x .sheet) (components (ascii (x .path)))))
@@ -78,7 +80,7 @@ twice =
     file "p" (message "M" (marker 1 ++ message "N" (marker 7)) ++ message "M" (marker 2 ++ message "O" (marker 8))
     ++ enum "E" (value "A" 3) ++ enum "E" (value "A" 4))
 
-messages : List (Case Reply)
+messages : List Case
 messages =
     -- one, by package and name
     at nested "p.M" (inFile 1 2)
@@ -119,7 +121,7 @@ messages-found : map aMessage messages ≡ map (λ x. x .says) messages
 unfolding aMessage messages
 messages-found = refl
 
--- ---- enums by full name
+-- ---- enums
 abbrev firstValue : List Value → Reply
 firstValue [] = bare
 firstValue (v ∷ vs) = values (v .number)
@@ -128,12 +130,12 @@ abbrev enumReply : List ℕ → LookedUpEnum → Reply
 enumReply s (Values b) = firstValue (valuesIn s (walk s (b .from) (b .to)))
 enumReply s (NoEnum w) = refused (number w)
 
-anEnum : Case Reply → Reply
+anEnum : Case → Reply
 unfolding enumsAt scopes components split onFirst spell parent last sameBytes treeOf fileIn itemsIn itemIn valueIn extensionAt
     messageFieldAt valueAt shapeAt typePathAt hasTypePath walkBy leafAt fieldAt bigAt
 anEnum x = enumReply (x .sheet) (lookedUpEnum (enumsAt (x .sheet) (components (ascii (x .path)))))
 
-enums : List (Case Reply)
+enums : List Case
 enums =
     -- in a package, in a message, and without a package
     at nested "p.E" (values 4)
@@ -164,34 +166,3 @@ enums =
 enums-found : map anEnum enums ≡ map (λ x. x .says) enums
 unfolding anEnum enums
 enums-found = refl
-
--- ---- the scopes at a path: the indices of their files
-placesAt : Case (List ℕ) → List ℕ
-unfolding scopes components split onFirst spell sameBytes treeOf fileIn itemsIn itemIn valueIn extensionAt messageFieldAt valueAt
-    shapeAt typePathAt hasTypePath walkBy leafAt fieldAt bigAt
-placesAt x = map (λ c. c .place .file) (scopes (x .sheet) (components (ascii (x .path))))
-
-abbrev three : List ℕ
-three = file "a.b" [] ++ file "a" (message "b" []) ++ file "" (message "a" (message "b" []))
-
-places : List (Case (List ℕ))
-places =
-    -- fewest package components first
-    at three "a.b" (2 ∷ 1 ∷ 0 ∷ [])
-    -- then the order of the files
-    ∷ at (three ++ three) "a.b" (2 ∷ 5 ∷ 1 ∷ 4 ∷ 0 ∷ 3 ∷ [])
-    -- of a shorter path: the package a.b does not lead it
-    ∷ at three "a" (2 ∷ 1 ∷ [])
-    -- of the empty path: the files without a package
-    ∷ at three "" (2 ∷ [])
-    -- a message of the path twice in one file gives one scope
-    ∷ at (file "a" (message "b" [] ++ message "b" [])) "a.b" (0 ∷ [])
-    -- no scope
-    ∷ at three "b" []
-    ∷ at three "a.b.c" []
-    ∷ at [] "" []
-    ∷ []
-
-places-ordered : map placesAt places ≡ map (λ x. x .says) places
-unfolding placesAt places
-places-ordered = refl

@@ -1,14 +1,14 @@
--- `full_name::next_enum` meets its contract.
+-- `fullname::next_enum` meets its contract.
 -- Assumes nothing.
 use Rattle.basis.specs.Kit.{length}
 use Rattle.basis.proofs.Kit.{needs}
 use Rattle.basis.specs.First.{collect}
 use Rattle.scopes.specs.inner.Cursor.{ahead}
-use Rattle.search.specs.inner.Ahead.{kept, passing, declaresEnum}
+use Rattle.fullname.specs.inner.Ahead.{kept, passing, declaresEnum}
 use Rattle.scopes.proofs.Left.{Left}
-use Rattle.search.proofs.FullNameLaws.{next-enum-laws}
-use Rattle.search.proofs.full_name.next_enum.Statement.{statement}
-use Rattle.search.proofs.full_name.next_enum.Tie as tie
+use Rattle.fullname.proofs.FullNameLaws.{next-enum-laws}
+use Rattle.fullname.proofs.next_enum.Statement.{statement}
+use Rattle.fullname.proofs.next_enum.Tie as tie
 
 abbrev Inv-loop : tie.InvT-loop
 Inv-loop s names name c₀ c = Left (passing (declaresEnum s name) s names c₀) (collect (kept (declaresEnum s name))) s names c

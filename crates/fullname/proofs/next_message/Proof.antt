@@ -1,14 +1,14 @@
--- `full_name::next_message` meets its contract.
+-- `fullname::next_message` meets its contract.
 -- Assumes nothing.
 use Rattle.basis.specs.Kit.{length}
 use Rattle.basis.proofs.Kit.{needs}
 use Rattle.basis.specs.First.{collect}
 use Rattle.scopes.specs.inner.Cursor.{ahead}
-use Rattle.search.specs.inner.Ahead.{kept, passing, isMessage}
+use Rattle.fullname.specs.inner.Ahead.{kept, passing, isMessage}
 use Rattle.scopes.proofs.Left.{Left}
-use Rattle.search.proofs.FullNameLaws.{next-message-laws}
-use Rattle.search.proofs.full_name.next_message.Statement.{statement}
-use Rattle.search.proofs.full_name.next_message.Tie as tie
+use Rattle.fullname.proofs.FullNameLaws.{next-message-laws}
+use Rattle.fullname.proofs.next_message.Statement.{statement}
+use Rattle.fullname.proofs.next_message.Tie as tie
 
 abbrev Inv-loop : tie.InvT-loop
 Inv-loop s names c₀ c = Left (passing isMessage s names c₀) (collect (kept isMessage)) s names c

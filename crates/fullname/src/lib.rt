@@ -1,11 +1,12 @@
-// Messages and enums by full name: there has to be exactly one.
+// Messages and enums by full name: there has to be exactly one. Everything is a walk over the lent sheet, and code equals definition on
+// every sheet, well-formed or not.
 ghost use Rattle.basis.specs.Kit.{_≡_, [], _∷_};
 ghost use Rattle.basis.specs.First.{collect};
 ghost use Rattle.path.specs.Path.{components};
 ghost use Rattle.scope.specs.Scope.{InSheet, holding, enumNamed};
 ghost use Rattle.scopes.specs.inner.Cursor.{ahead, Stands, Nexts};
-ghost use Rattle.search.specs.Lookup.{messagesAt, enumsAt, lookedUp, lookedUpEnum};
-ghost use Rattle.search.specs.inner.Ahead.{passing, isMessage, declaresEnum};
+ghost use Rattle.fullname.specs.FullName.{messagesAt, enumsAt, lookedUp, lookedUpEnum};
+ghost use Rattle.fullname.specs.inner.Ahead.{passing, isMessage, declaresEnum};
 use field::Leaf;
 use field::Span;
 use path::protobuf_rel_path::before;

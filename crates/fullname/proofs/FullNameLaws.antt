@@ -17,15 +17,15 @@ use Rattle.scope.specs.declared.lookup.LookupScope.{LookupScope}
 use Rattle.scopes.specs.declared.Cursor.{Cursor}
 use Rattle.scopes.specs.declared.Next.{Next}
 use Rattle.scopes.specs.declared.Next.the-variants.{At, NoMore}
-use Rattle.search.specs.declared.full_name.LookedUp.the-variants.{Message, NoMessage}
-use Rattle.search.specs.declared.full_name.LookedUpEnum.{LookedUpEnum}
-use Rattle.search.specs.declared.full_name.LookedUpEnum.the-variants.{Values, NoEnum}
+use Rattle.fullname.specs.declared.LookedUp.the-variants.{Message, NoMessage}
+use Rattle.fullname.specs.declared.LookedUpEnum.{LookedUpEnum}
+use Rattle.fullname.specs.declared.LookedUpEnum.the-variants.{Values, NoEnum}
 use Rattle.basis.specs.First.{onlyIf, told, onto, collect}
 use Rattle.scope.specs.Scope.{Scope, holding, enumNamed, bodied}
 use Rattle.scopes.specs.Scopes.{scopes}
 use Rattle.scopes.specs.inner.Cursor.{ahead, startOf, Nexts}
-use Rattle.search.specs.Lookup.{messagesAt, enumsAt, lookedUp, lookedUpEnum}
-use Rattle.search.specs.inner.Ahead.{kept, passing, isMessage, declaresEnum}
+use Rattle.fullname.specs.FullName.{messagesAt, enumsAt, lookedUp, lookedUpEnum}
+use Rattle.fullname.specs.inner.Ahead.{kept, passing, isMessage, declaresEnum}
 use Rattle.scope.proofs.Held.{enum-at, enum-not}
 use Rattle.scopes.proofs.CursorLaws.{nexts-no-more, nexts-at, nexts-stands, nexts-lies}
 use Rattle.scopes.proofs.Left.{Left, left-end, left-some, left-none, left-laws}

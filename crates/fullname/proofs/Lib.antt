@@ -1,0 +1,3 @@
+pub mod FullNameLaws
+pub mod LiesLaws
+pub mod Controls

@@ -1,0 +1,2 @@
+pub mod FullName
+pub mod inner
