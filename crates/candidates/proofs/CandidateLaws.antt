@@ -7,7 +7,7 @@ use native.Mathlib.Decide.{decLt}
 use lib.ListN.{length-append, length-map, length-take, List·getD-append}
 use lib.Seq.{getD-at, take-length}
 use Rattle.limits.specs.Figures.{mostPath, mostCandidate}
-use Rattle.octets.specs.Octets.{Laid}
+use Rattle.octets.specs.inner.Laid.{Laid}
 use Rattle.path.specs.Path.{Name, Path, split, components, spell, allIdent, isRelOrEmpty, isAbs, rootless, isPath, parent}
 use Rattle.path.proofs.AbsLaws.{rootless-rel, rootless-length-le}
 use Rattle.path.proofs.PathLaws.{spell-components, components-length-le, spell-take-le, split-spell, parent-spell, parent-take}

@@ -1,6 +1,6 @@
 // The candidates of a name in a scope: a scope and its parents, each with the name behind it.
 ghost use Rattle.basis.specs.Kit.{_≡_, [], _≤_, _<_, length, getD};
-ghost use Rattle.octets.specs.Octets.{Laid};
+ghost use Rattle.octets.specs.inner.Laid.{Laid};
 ghost use Rattle.path.specs.Path.{components, spell};
 ghost use Rattle.candidates.specs.Candidates.{ancestors, candidates as candidatesOf, candidate as candidateOf};
 use path::protobuf_abs_path::is_abs;

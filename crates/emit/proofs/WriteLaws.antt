@@ -7,7 +7,7 @@ use mathlib.Core.List.{append-nil}
 use native.Mathlib.Nat.{zero-add, add-zero}
 use lib.Seq.{sets-eq}
 use Rattle.basis.proofs.Never.{never}
-use Rattle.octets.specs.Octets.{Laid}
+use Rattle.octets.specs.inner.Laid.{Laid}
 use Rattle.octets.proofs.Overlay.{laid-append, laid-length}
 use Rattle.reply.specs.declared.Cause.{Cause}
 use Rattle.reply.specs.declared.Refusal.the-variants.{NoRoom}

@@ -21,7 +21,8 @@ use Rattle.fullname.specs.declared.LookedUp.the-variants.{Message, NoMes
 use Rattle.fullname.specs.declared.LookedUpEnum.{LookedUpEnum}
 use Rattle.fullname.specs.declared.LookedUpEnum.the-variants.{Values, NoEnum}
 use Rattle.basis.specs.First.{onlyIf, told, onto, collect}
-use Rattle.scope.specs.Scope.{Scope, holding, enumNamed, bodied}
+use Rattle.scope.specs.Scope.{Scope, holding, enumNamed}
+use Rattle.scope.specs.inner.Answers.{bodied}
 use Rattle.scopes.specs.Scopes.{scopes}
 use Rattle.scopes.specs.inner.Cursor.{ahead, startOf, Nexts}
 use Rattle.fullname.specs.FullName.{messagesAt, enumsAt, lookedUp, lookedUpEnum}

@@ -18,7 +18,8 @@ use Rattle.fullname.specs.declared.LookedUp.{LookedUp}
 use Rattle.fullname.specs.declared.LookedUp.the-variants.{Message}
 use Rattle.fullname.specs.declared.LookedUpEnum.{LookedUpEnum}
 use Rattle.fullname.specs.declared.LookedUpEnum.the-variants.{Values}
-use Rattle.scope.specs.Scope.{Scope, InSheet, holding, enumNamed}
+use Rattle.scope.specs.Scope.{Scope, holding, enumNamed}
+use Rattle.scope.specs.inner.Answers.{InSheet}
 use Rattle.fullname.specs.FullName.{messageOf, messagesAt, enumsAt, lookedUp, lookedUpEnum}
 use Rattle.basis.proofs.FirstLaws.{Every, none-of, one-of, every-collect}
 use Rattle.scope.proofs.Held.{HeldEnum, enum-held, enum-lies-ordered, enum-lies-within}

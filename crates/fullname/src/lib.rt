@@ -3,7 +3,8 @@
 ghost use Rattle.basis.specs.Kit.{_≡_, [], _∷_};
 ghost use Rattle.basis.specs.First.{collect};
 ghost use Rattle.path.specs.Path.{components};
-ghost use Rattle.scope.specs.Scope.{InSheet, holding, enumNamed};
+ghost use Rattle.scope.specs.Scope.{holding, enumNamed};
+ghost use Rattle.scope.specs.inner.Answers.{InSheet};
 ghost use Rattle.scopes.specs.inner.Cursor.{ahead, Stands, Nexts};
 ghost use Rattle.fullname.specs.FullName.{messagesAt, enumsAt, lookedUp, lookedUpEnum};
 ghost use Rattle.fullname.specs.inner.Ahead.{passing, isMessage, declaresEnum};

@@ -2,7 +2,7 @@
 -- case, with blanks and line ends anywhere, empty, ended within a byte, and with a character that is no digit.
 -- Assumes nothing.
 use Rattle.basis.specs.Kit.{_≡_, refl, List, [], _∷_, map, ℕ}
-use Rattle.reply.specs.Reply.{ascii}
+use Rattle.octets.specs.Ascii.{ascii}
 use Rattle.hex.specs.Digits.{blank, other, digitOf, Spelled, bytes, noDigit, halfByte, unhex}
 
 -- ---- a byte: before the range, its first, its last, after it

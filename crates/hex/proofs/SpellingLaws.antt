@@ -7,7 +7,7 @@ use mathlib.Core.List.{append-assoc, append-nil}
 use native.Mathlib.Nat.{zero-add}
 use lib.ListN.{drop-of-length-le}
 use lib.Seq.{drop-cons}
-use Rattle.octets.specs.Octets.{Laid}
+use Rattle.octets.specs.inner.Laid.{Laid}
 use Rattle.octets.proofs.Overlay.{laid-append, laid-length}
 use Rattle.hex.specs.declared.digits.Decoded.the-variants.{Bytes, NoDigit, HalfByte}
 use Rattle.hex.specs.Digits.{blank, other, digitOf, Spelled, bytes, noDigit, halfByte, front, unhex, decodedOf, Decodes}

@@ -18,7 +18,8 @@ use Rattle.sheet.proofs.LyingLaws.{FileLies, Filed, filed-none, filed-one, tree
 use Rattle.basis.specs.First.{onlyIf, first}
 use Rattle.basis.proofs.FirstLaws.{Every, none-of, one-of, first-holds, every-append}
 use Rattle.scope.specs.declared.lookup.LookupScope.{LookupScope}
-use Rattle.scope.specs.Scope.{InSheet, holding, declarationNamed, declared}
+use Rattle.scope.specs.Scope.{holding, declarationNamed}
+use Rattle.scope.specs.inner.Answers.{InSheet, declared}
 use Rattle.scope.specs.inner.Steps.{declarationAt}
 use Rattle.scope.proofs.Answers.{declared-some}
 use Rattle.named.proofs.NamedLaws.{declaration-cases}

@@ -34,7 +34,8 @@ use Rattle.sheet.specs.Members.{declarationsOf}
 use Rattle.sheet.proofs.MemberLaws.{listed, extensions-item, fields-item}
 use Rattle.scope.specs.declared.lookup.LookupScope.{LookupScope}
 use Rattle.basis.specs.First.{onlyIf, told, first}
-use Rattle.scope.specs.Scope.{holding, declarationNamed, valueNamed, declared, valued}
+use Rattle.scope.specs.Scope.{holding, declarationNamed, valueNamed}
+use Rattle.scope.specs.inner.Answers.{declared, valued}
 use Rattle.scope.specs.inner.Steps.{tellsDeclared, tellsValued, firstOf, whose, declarationAt, valueNamedAt}
 use Rattle.scope.proofs.Answers.{declared-append, declared-listed}
 

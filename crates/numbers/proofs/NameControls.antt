@@ -3,7 +3,7 @@
 use Rattle.basis.specs.Kit.{_≡_, refl, List, [], _∷_, _++_, map, Option, none, some, ℕ}
 use Prim.Native.String.{String}
 use Rattle.octets.specs.Octets.{bigAt, sameBytes}
-use Rattle.reply.specs.Reply.{ascii}
+use Rattle.octets.specs.Ascii.{ascii}
 use Rattle.field.specs.Field.{fieldAt}
 use Rattle.field.specs.Leaf.{text, leafAt}
 use Rattle.field.specs.Walk.{walkBy}

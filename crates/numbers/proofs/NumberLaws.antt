@@ -25,7 +25,8 @@ use Rattle.sheet.proofs.TreeLaws.{file-other, file-unnamed, file-named, tree-fi
 use Rattle.sheet.proofs.MemberLaws.{every-extension-item, every-extension-flat, every-extension-file}
 use Rattle.scope.specs.declared.lookup.LookupScope.{LookupScope}
 use Rattle.basis.specs.First.{first}
-use Rattle.scope.specs.Scope.{Scope, holding, declared}
+use Rattle.scope.specs.Scope.{Scope, holding}
+use Rattle.scope.specs.inner.Answers.{declared}
 use Rattle.scope.specs.inner.Steps.{tellsDeclared, firstOf, declarationAt, itemAt, fileAt}
 use Rattle.numbers.specs.Number.{hasNumber, isExtensionOf, fieldNumbered, extensionNumbered, declarationOf}
 use Rattle.scope.proofs.Answers.{declared-or-else, declared-append, declared-listed, whose-laws}

@@ -8,7 +8,8 @@ use Rattle.sheet.specs.Table.{fieldTag}
 use Rattle.sheet.proofs.PlaceLaws.{Places}
 use Rattle.basis.specs.First.{orElse}
 use Rattle.scope.specs.declared.lookup.LookupScope.{LookupScope}
-use Rattle.scope.specs.Scope.{InSheet, holding, declared}
+use Rattle.scope.specs.Scope.{holding}
+use Rattle.scope.specs.inner.Answers.{InSheet, declared}
 use Rattle.scope.proofs.Answers.{declared-some}
 use Rattle.named.proofs.DeclaredPlaces.{Ordered, places-ordered, extension-lies, declaration-lies}
 use Rattle.numbers.specs.Number.{hasNumber, isExtensionOf, fieldNumbered, extensionNumbered, declarationOf}

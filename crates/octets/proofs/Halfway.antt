@@ -6,7 +6,7 @@ use mathlib.Core.List.{append-assoc, append-nil}
 use native.Mathlib.Nat.{add-zero, add-assoc}
 use lib.ListN.{length-append, drop-of-length-le}
 use lib.Seq.{drop-cons}
-use Rattle.octets.specs.Octets.{Laid}
+use Rattle.octets.specs.inner.Laid.{Laid}
 use Rattle.octets.proofs.Overlay.{laid-append, laid-length}
 
 -- of the bytes `all`, laid from `at` on, `rest` is left for the place i

@@ -5,7 +5,7 @@ use Rattle.basis.proofs.Kit.{arith}
 use native.Mathlib.Nat.{add-zero, add-suc, suc-add}
 use lib.ListN.{set, length-append}
 use lib.Seq.{length-sets, set-out}
-use Rattle.octets.specs.Octets.{Laid}
+use Rattle.octets.specs.inner.Laid.{Laid}
 
 module _ {A : Type 0} where
   -- two runs of stores, the second where the first ends, are one

@@ -2,7 +2,8 @@
 ghost use Rattle.basis.specs.Kit.{_≡_, [], _∷_, _+_, _^_, _≤_, _<_, length, getD, sets};
 ghost use mir.Syntax.{w32};
 ghost use mir.Val.{toZ};
-ghost use Rattle.octets.specs.Octets.{sameBytes, bigAt, Laid};
+ghost use Rattle.octets.specs.Octets.{sameBytes, bigAt};
+ghost use Rattle.octets.specs.inner.Laid.{Laid};
 
 // A byte as a number.
 pub fn wide(b: u8) -> usize

@@ -3,7 +3,7 @@
 use Rattle.basis.specs.Kit.{_≡_, refl, List, [], _∷_, _++_, ℕ, _+_, _*_, _^_, _<_, length, sets}
 use Rattle.basis.proofs.Kit.{arith, w64, Fits}
 use mathlib.Core.List.{append-nil}
-use Rattle.octets.specs.Octets.{Laid}
+use Rattle.octets.specs.inner.Laid.{Laid}
 use Rattle.octets.proofs.Overlay.{laid-append}
 use Rattle.path.specs.Path.{dot, split, components, spell}
 use Rattle.path.proofs.PathLaws.{spell-components, spell-split, split-append, components-nil, components-split}

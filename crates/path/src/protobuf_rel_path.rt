@@ -1,6 +1,6 @@
 // Relative paths: identifiers joined by dots, with no leading dot.
 ghost use Rattle.basis.specs.Kit.{_≡_, _++_, suc, _+_, _-_, _≤_, length, take, drop};
-ghost use Rattle.octets.specs.Octets.{Laid};
+ghost use Rattle.octets.specs.inner.Laid.{Laid};
 ghost use Rattle.path.specs.inner.Places.{untilDot};
 ghost use Rattle.path.specs.Path.{split, components, spell, allIdent, isRelPath, isRelOrEmpty, parent};
 ghost use Rattle.path.specs.inner.Last.{LastAt};

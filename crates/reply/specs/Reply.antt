@@ -3,7 +3,6 @@
 --          row w ==  the refusal's row in 01's table: number, second word, name
 --       number w ==  the reply's number
 --       second w ==  the reply's second word
---        ascii s ==  the bytes of a text
 --         name w ==  the bytes of its name
 --       mostName ==  the bytes that the array of a name has
 --       textOf n ==  the bytes of a name that the code has made
@@ -15,9 +14,9 @@
 --   absentAnswer ==  the answer Absent
 --
 -- Assumes nothing.
-use Rattle.basis.specs.Kit.{_≡_, List, [] as []ᴸ, _∷_ as _∷ᴸ_, ℕ, take}
-use Prim.Native.Char.{code}
-use Prim.Native.String.{String, [], _∷_}
+use Rattle.basis.specs.Kit.{_≡_, List, [], ℕ, take}
+use Prim.Native.String.{String}
+use Rattle.octets.specs.Ascii.{ascii}
 use Rattle.reply.specs.declared.Refusal.{Refusal}
 use Rattle.reply.specs.declared.Refusal.the-variants.{BadSheet, BadRequest, BeyondLimit, ExtensionNotFound}
 use Rattle.reply.specs.declared.Refusal.the-variants.{WrongExtensionType, ExtensionIsNotMessage}
@@ -61,10 +60,6 @@ number w = row w .0
 abbrev pub second : Refusal → ℕ
 second w = row w .1
 
-abbrev pub ascii : String → List ℕ
-ascii [] = []ᴸ
-ascii (c ∷ s) = code c ∷ᴸ ascii s
-
 abbrev pub name : Refusal → List ℕ
 name w = ascii (row w .2)
 
@@ -76,7 +71,7 @@ textOf n = take (n .length) (n .bytes)
 
 pub record NameOf (n s : ℕ) (t : List ℕ) : Type 0 where
   pub is : (w : Refusal) → n ≡ number w → s ≡ second w → t ≡ name w
-  pub none : ((w : Refusal) → n ≡ number w → s ≡ second w → ⊥) → t ≡ []ᴸ
+  pub none : ((w : Refusal) → n ≡ number w → s ≡ second w → ⊥) → t ≡ []
 
 abbrev pub nowhere : Refusal → Cause
 nowhere w = record { why = w }

@@ -11,7 +11,8 @@ use Rattle.scope.specs.declared.lookup.LookupScope.{LookupScope}
 use Rattle.scope.specs.declared.lookup.Reached.{Reached}
 use Rattle.scope.specs.declared.lookup.Reached.the-variants.{To, Nowhere}
 use Rattle.basis.specs.First.{onlyIf, told, first, orElse}
-use Rattle.scope.specs.Scope.{Scope, placed, declared}
+use Rattle.scope.specs.Scope.{Scope}
+use Rattle.scope.specs.inner.Answers.{placed, declared}
 use Rattle.scope.specs.inner.Steps.{tellsDeclared, firstOf, whose}
 use Rattle.basis.proofs.FirstLaws.{first-append}
 

@@ -25,7 +25,8 @@ use Rattle.scope.specs.declared.lookup.LookupScope.{LookupScope}
 use Rattle.scope.specs.declared.lookup.Reached.{Reached}
 use Rattle.scope.specs.declared.lookup.Reached.the-variants.{To, Nowhere}
 use Rattle.basis.specs.First.{first}
-use Rattle.scope.specs.Scope.{Scope, InSheet, holding, messageScope, down, enumNamed, placed, bodied}
+use Rattle.scope.specs.Scope.{Scope, holding, messageScope, down, enumNamed}
+use Rattle.scope.specs.inner.Answers.{InSheet, placed, bodied}
 use Rattle.basis.proofs.FirstLaws.{given-holds, Every, none-of, one-of, first-holds}
 use Rattle.scope.proofs.Answers.{placed-nowhere, placed-to}
 

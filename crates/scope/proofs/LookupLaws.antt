@@ -25,7 +25,8 @@ use Rattle.sheet.proofs.MemberLaws.{enums-other, enums-unnamed, enums-named}
 use Rattle.scope.specs.declared.lookup.LookupScope.{LookupScope}
 use Rattle.scope.specs.declared.lookup.Reached.the-variants.{To, Nowhere}
 use Rattle.basis.specs.First.{told, first, given}
-use Rattle.scope.specs.Scope.{holding, messageScope, down, enumNamed, placed, bodied}
+use Rattle.scope.specs.Scope.{holding, messageScope, down, enumNamed}
+use Rattle.scope.specs.inner.Answers.{placed, bodied}
 use Rattle.scope.specs.inner.Steps.{tellsLeaf, firstOf, bodyAt, bodyNamed}
 
 -- ---- named_at

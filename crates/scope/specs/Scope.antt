@@ -2,7 +2,6 @@
 -- at each level", "first declared extension with the last component as its name", "Of equal field or value names the first counts".
 --
 --                      Scope ==  a scope: where it stands, as the code keeps it, and what it holds
---                InSheet s p <-> the place p of a scope is one of the sheet s
 --                holding s p ==  the scope that stands at the place p of the sheet s
 --              fileScope i f ==  the scope that the i-th file is, counted from 0
 --           messageScope c m ==  the scope that the message m of the scope c is
@@ -12,35 +11,21 @@
 --              extends s m d <=> the extension d is of the message whose full name is m
 --          valueNamed s n vs ==  the first value of that name
 --
---   placed, declared, valued, bodied == what the code answers, of what there is or is not
---
 -- Assumes nothing.
-use Rattle.basis.specs.Kit.{Bool, true, false, List, Option, some, ℕ, _-_, _≤_, length}
+use Rattle.basis.specs.Kit.{Bool, true, false, List, Option, some, ℕ, _-_}
 use Rattle.limits.specs.Figures.{mostMessages}
-use Rattle.field.specs.declared.Leaf.{Leaf}
-use Rattle.field.specs.declared.Leaf.the-variants.{At, Not}
 use Rattle.field.specs.Leaf.{isText}
 use Rattle.field.specs.Walk.{walk}
 use Rattle.sheet.specs.declared.declaration.Declaration.{Declaration}
-use Rattle.sheet.specs.declared.declaration.Declared.{Declared}
-use Rattle.sheet.specs.declared.declaration.Declared.the-variants.{Declares, NoDeclaration}
 use Rattle.sheet.specs.declared.declaration.Value.{Value}
-use Rattle.sheet.specs.declared.declaration.Valued.{Valued}
-use Rattle.sheet.specs.declared.declaration.Valued.the-variants.{Values, NoValue}
 use Rattle.sheet.specs.Tree.{Items, File, itemsIn}
 use Rattle.sheet.specs.Members.{Message, Enumeration, messagesOf, enumsOf, declarationsOf}
 use Rattle.scope.specs.declared.lookup.LookupScope.{LookupScope}
-use Rattle.scope.specs.declared.lookup.Reached.{Reached}
-use Rattle.scope.specs.declared.lookup.Reached.the-variants.{To, Nowhere}
-use Rattle.basis.specs.First.{told, first, given}
+use Rattle.basis.specs.First.{first, given}
 
 pub record Scope : Type 0 where
   pub place : LookupScope
   pub items : Items
-
-pub record InSheet (s : List ℕ) (p : LookupScope) : Type 0 where
-  pub ordered : p .body .from ≤ p .body .to
-  pub within : p .body .to ≤ length s
 
 abbrev pub holding : (s : List ℕ) → LookupScope → Scope
 holding s p = record { place = p; items = itemsIn (p .left) s (walk s (p .body .from) (p .body .to)) }
@@ -69,15 +54,3 @@ valueNamed s n vs = first (λ v. isText s n (v .name)) vs
 -- the extendee is compared as it is written with the full name by which the message was reached
 abbrev pub extends : (s message : List ℕ) → Declaration → Bool
 extends s m d = isText s m (d .extendee)
-
-abbrev pub placed : Option Scope → Reached
-placed = told Nowhere (λ c. To (c .place))
-
-abbrev pub declared : Option Declaration → Declared
-declared = told NoDeclaration Declares
-
-abbrev pub valued : Option Value → Valued
-valued = told NoValue Values
-
-abbrev pub bodied : Option Enumeration → Leaf
-bodied = told Not (λ e. At (e .body .from) (e .body .to))

@@ -1,3 +1,3 @@
-// Scopes of a sheet: what a file or a message declares, found by name or by number. A scope is a place in the lent sheet; nothing is
-// copied, and names are compared as bytes.
+// Scopes of a sheet: a file or a message, and the way down to a message or an enum that it declares. A scope is a place in the lent sheet;
+// nothing is copied, and names are compared as bytes.
 pub mod lookup;

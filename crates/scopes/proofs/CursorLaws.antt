@@ -32,7 +32,8 @@ use Rattle.scopes.specs.declared.Cursor.{Cursor}
 use Rattle.scopes.specs.declared.Next.{Next}
 use Rattle.scopes.specs.declared.Next.the-variants.{At, NoMore}
 use Rattle.basis.specs.First.{onto}
-use Rattle.scope.specs.Scope.{Scope, InSheet, holding, placed}
+use Rattle.scope.specs.Scope.{Scope, holding}
+use Rattle.scope.specs.inner.Answers.{InSheet, placed}
 use Rattle.scopes.specs.Scopes.{scopesIn, scopesFrom, scopes}
 use Rattle.scopes.specs.inner.Cursor.{frontAt, wider, here, ahead, startOf, packageAt, scopeAt, Within, Stands, Steps, Nexts}
 use Rattle.basis.proofs.FirstLaws.{onto-none, onto-some}

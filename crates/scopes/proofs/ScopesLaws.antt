@@ -28,7 +28,8 @@ use Rattle.scope.specs.declared.lookup.Reached.{Reached}
 use Rattle.scope.specs.declared.lookup.Reached.the-variants.{To, Nowhere}
 use Rattle.scopes.specs.declared.Cursor.{Cursor}
 use Rattle.basis.specs.First.{onlyIf, onto}
-use Rattle.scope.specs.Scope.{Scope, InSheet, holding, down, placed}
+use Rattle.scope.specs.Scope.{Scope, holding, down}
+use Rattle.scope.specs.inner.Answers.{InSheet, placed}
 use Rattle.scopes.specs.Scopes.{follow, scopesIn}
 use Rattle.scopes.specs.inner.Cursor.{startOf, packageAt, scopeAt, Within}
 use Rattle.basis.proofs.FirstLaws.{given-holds}

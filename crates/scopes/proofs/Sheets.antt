@@ -12,7 +12,7 @@
 -- Assumes nothing.
 use Rattle.basis.specs.Kit.{List, [], _∷_, _++_, ℕ, _/_, _%_, length}
 use Prim.Native.String.{String}
-use Rattle.reply.specs.Reply.{ascii}
+use Rattle.octets.specs.Ascii.{ascii}
 use Rattle.sheet.specs.Table.{fileTag, messageTag, extensionTag, enumTag, fieldTag, valueTag, packageTag, nameTag}
 use Rattle.sheet.specs.Table.{extendeeTag, numberTag, typeTag, labelTag, signedNumberTag}
 

@@ -9,7 +9,8 @@ use Rattle.basis.proofs.Kit.{arith}
 use Rattle.path.specs.Path.{Path, spell}
 use Rattle.sheet.specs.Tree.{Items, File, treeOf}
 use Rattle.sheet.proofs.LyingLaws.{FileLies, Filed, filed-none, filed-one, tree-lies, tree-few}
-use Rattle.scope.specs.Scope.{Scope, InSheet, holding, fileScope}
+use Rattle.scope.specs.Scope.{Scope, holding, fileScope}
+use Rattle.scope.specs.inner.Answers.{InSheet}
 use Rattle.scopes.specs.Scopes.{scopeIn, scopesIn, scopesFrom, scopes}
 use Rattle.basis.proofs.FirstLaws.{Every, none-of, every-append, every-onto}
 use Rattle.scopes.proofs.ScopeFiles.{follows, index}

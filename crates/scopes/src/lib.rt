@@ -3,7 +3,8 @@
 ghost use Rattle.basis.specs.Kit.{_≡_, suc, _≤_, length};
 ghost use Rattle.field.specs.Leaf.{onLeaf};
 ghost use Rattle.path.specs.inner.Places.{namesFrom};
-ghost use Rattle.scope.specs.Scope.{InSheet, holding, placed};
+ghost use Rattle.scope.specs.Scope.{holding};
+ghost use Rattle.scope.specs.inner.Answers.{InSheet, placed};
 ghost use Rattle.scopes.specs.Scopes.{follow as followOf};
 ghost use Rattle.scopes.specs.declared.Next.the-variants.{At};
 ghost use Rattle.scopes.specs.inner.Cursor.{here, ahead, startOf, packageAt, scopeAt, Within, Stands, Nexts};

@@ -12,7 +12,8 @@ use Rattle.basis.proofs.Kit.{arith, add-one, not-true, not-false}
 use lib.ListN.{drop-of-length-le}
 use lib.Seq.{length-take-le, drop-cons, sets-eq, take-append-seam}
 use Rattle.limits.specs.Figures.{mostCandidate}
-use Rattle.octets.specs.Octets.{Laid, part}
+use Rattle.octets.specs.Octets.{part}
+use Rattle.octets.specs.inner.Laid.{Laid}
 use Rattle.octets.proofs.Overlay.{laid-length}
 use Rattle.field.specs.Leaf.{isText}
 use Rattle.reply.specs.declared.Refusal.{Refusal}
@@ -37,7 +38,8 @@ use Rattle.search.specs.declared.extension.Tried.the-variants as attempt
 use Rattle.search.specs.declared.extension.Resolved.{Resolved}
 use Rattle.search.specs.declared.extension.Resolved.the-variants.{Field, Refused}
 use Rattle.basis.specs.First.{firstSome}
-use Rattle.scope.specs.Scope.{Scope, holding, declarationNamed, declared}
+use Rattle.scope.specs.Scope.{Scope, holding, declarationNamed}
+use Rattle.scope.specs.inner.Answers.{declared}
 use Rattle.scopes.specs.Scopes.{scopes}
 use Rattle.scopes.specs.inner.Cursor.{ahead, startOf, Nexts}
 use Rattle.search.specs.Lookup.{foundIn, foundAt, foundAmong, orNotFound, findExtensionByAbsPath, tried}

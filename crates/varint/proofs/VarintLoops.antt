@@ -4,7 +4,7 @@ use Rattle.basis.specs.Kit.{_≡_, ap, _∙_, List, [], _∷_, ℕ, suc, _+_, _
 use Rattle.basis.proofs.Kit.{arith, w64, Fits}
 use lib.Seq.{length-sets}
 use Rattle.limits.specs.Figures.{mostVarint}
-use Rattle.octets.specs.Octets.{Laid}
+use Rattle.octets.specs.inner.Laid.{Laid}
 use Rattle.varint.specs.Varint.{varint}
 use Rattle.octets.proofs.Halfway.{Halfway, halfway-start, halfway-next, halfway-end, halfway-place, halfway-length}
 use Rattle.varint.proofs.VarintLaws.{Shortest, shortest-end, shortest-more, varint-shortened, varint-few}

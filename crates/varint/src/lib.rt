@@ -1,7 +1,7 @@
 // Varints: their length, writing and reading.
 ghost use Rattle.basis.specs.Kit.{_≡_, _^_, _≤_, _<_, length};
 ghost use Rattle.limits.specs.Figures.{mostVarint};
-ghost use Rattle.octets.specs.Octets.{Laid};
+ghost use Rattle.octets.specs.inner.Laid.{Laid};
 ghost use Rattle.varint.specs.Varint.{varint as varintOf, varintAt};
 use limits::MOST_VARINT;
 

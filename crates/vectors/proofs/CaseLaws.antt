@@ -3,7 +3,7 @@
 use Rattle.basis.specs.Kit.{_≡_, Bool, List, ℕ, _+_, _-_, _≤_, _<_}
 use Rattle.basis.proofs.Kit.{arith}
 use Rattle.limits.specs.Figures.{mostVarint}
-use Rattle.octets.specs.Octets.{Laid}
+use Rattle.octets.specs.inner.Laid.{Laid}
 use Rattle.varint.specs.Varint.{varint}
 use Rattle.varint.proofs.VarintLaws.{varint-few}
 use Rattle.field.specs.declared.Leaf.{Leaf}

@@ -3,7 +3,8 @@
 use Rattle.basis.specs.Kit.{_≡_, List, [], _∷_, ℕ, suc, _+_, _-_, _*_, _/_, _%_, _^_, _≤_, _<_, length, getD, sets}
 use Rattle.basis.proofs.Kit.{arith, w64, Fits}
 use native.Mathlib.Nat.{add-zero, add-assoc, sub-zero, sub-self, sub-eq-zero-of-le, pow-suc, pow-le-pow-right}
-use Rattle.octets.specs.Octets.{part, Laid}
+use Rattle.octets.specs.Octets.{part}
+use Rattle.octets.specs.inner.Laid.{Laid}
 use Rattle.wire.specs.Fixed.{littleOf, little}
 use Rattle.octets.proofs.Halfway.{Halfway, halfway-start, halfway-next, halfway-end, halfway-length}
 use Rattle.octets.proofs.Parts.{part-nil, part-cons}

@@ -1,6 +1,7 @@
 // Numbers of a fixed width, the lowest byte first.
 ghost use Rattle.basis.specs.Kit.{_≡_, _+_, _^_, _≤_, _<_, length};
-ghost use Rattle.octets.specs.Octets.{part, Laid};
+ghost use Rattle.octets.specs.Octets.{part};
+ghost use Rattle.octets.specs.inner.Laid.{Laid};
 ghost use Rattle.wire.specs.Fixed.{littleOf, little};
 
 // The lowest `width` bytes of v from a place on, as far as there is room, and the place after them.

@@ -4,7 +4,7 @@
 --
 -- Assumes nothing.
 use Rattle.basis.specs.Kit.{List, ℕ}
-use Rattle.octets.specs.Octets.{Laid}
+use Rattle.octets.specs.inner.Laid.{Laid}
 use Rattle.reply.specs.declared.Cause.{Cause}
 use Rattle.reply.specs.Outcome.{Outcome, refused, give}
 use Rattle.emit.specs.declared.Put.{Put}

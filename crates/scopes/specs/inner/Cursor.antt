@@ -24,7 +24,8 @@ use Rattle.path.specs.inner.Places.{namesFrom}
 use Rattle.sheet.specs.Table.{fileTag, packageTag}
 use Rattle.sheet.specs.Tree.{fileWith, itemsIn, filesIn}
 use Rattle.scope.specs.declared.lookup.LookupScope.{LookupScope}
-use Rattle.scope.specs.Scope.{Scope, InSheet, holding}
+use Rattle.scope.specs.Scope.{Scope, holding}
+use Rattle.scope.specs.inner.Answers.{InSheet}
 use Rattle.scopes.specs.declared.Cursor.{Cursor}
 use Rattle.scopes.specs.declared.Next.{Next}
 use Rattle.scopes.specs.declared.Next.the-variants.{At, NoMore}
