@@ -1,4 +1,4 @@
--- `check_constant`, `check_elements` and `check_pairs` meet their contracts.
+-- `constantform::check_constant`, `constantform::check_elements` and `constantform::check_pairs` meet their contracts.
 -- Assumes nothing.
 use Rattle.basis.specs.Kit.{ℕ, _+_, _-_, _*_, _<_}
 use Rattle.basis.proofs.Kit.{needs}

@@ -1,4 +1,4 @@
--- `good_field` meets its contract.
+-- `declform::good_field` meets its contract.
 -- Assumes nothing.
 use Rattle.basis.proofs.Kit.{needs}
 use Rattle.declform.proofs.DeclarationLaws.{good-field-is}

@@ -1,4 +1,4 @@
--- `good_shape` meets its contract.
+-- `declform::good_shape` meets its contract.
 -- Assumes nothing.
 use Rattle.basis.proofs.Kit.{needs}
 use Rattle.declform.proofs.DeclarationLaws.{shape-is}

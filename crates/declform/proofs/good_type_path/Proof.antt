@@ -1,4 +1,4 @@
--- `good_type_path` meets its contract.
+-- `declform::good_type_path` meets its contract.
 -- Assumes nothing.
 use Rattle.basis.proofs.Kit.{needs}
 use Rattle.declform.proofs.DeclarationLaws.{type-path-laws}

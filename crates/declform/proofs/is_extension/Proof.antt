@@ -1,4 +1,4 @@
--- `is_extension` meets its contract.
+-- `declform::is_extension` meets its contract.
 -- Assumes nothing.
 use Rattle.basis.proofs.Kit.{needs}
 use Rattle.declform.proofs.DeclarationLaws.{is-extension-laws}

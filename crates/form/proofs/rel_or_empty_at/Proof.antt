@@ -1,4 +1,4 @@
--- `leaf::rel_or_empty_at` meets its contract.
+-- `form::rel_or_empty_at` meets its contract.
 -- Assumes nothing.
 use Rattle.basis.proofs.Kit.{needs}
 use Rattle.form.proofs.NameLaws.{name-laws}

@@ -1,4 +1,4 @@
--- `check_item`, `check_items` and `check_message`, a cycle of calls, meet their contracts.
+-- `messageform::check_item`, `messageform::check_items` and `messageform::check_message`, a cycle of calls, meet their contracts.
 -- Assumes nothing.
 use Rattle.basis.specs.Kit.{ℕ, _+_, _-_, _*_, _<_}
 use Rattle.basis.proofs.Kit.{needs}

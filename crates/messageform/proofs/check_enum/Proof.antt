@@ -1,4 +1,4 @@
--- `check_enum` meets its contract.
+-- `messageform::check_enum` meets its contract.
 -- Assumes nothing.
 use Rattle.basis.specs.Kit.{_-_}
 use Rattle.basis.proofs.Kit.{needs}

@@ -1,4 +1,4 @@
--- `check_value` meets its contract.
+-- `messageform::check_value` meets its contract.
 -- Assumes nothing.
 use Rattle.basis.proofs.Kit.{needs}
 use Rattle.messageform.proofs.MessageLaws.{value-laws}

@@ -1,4 +1,4 @@
--- `numbers::extension_in_item` and `number::extension_in_items` meet their contracts. Each call is nearer to the last level.
+-- `numbers::extension_in_item` and `numbers::extension_in_items` meet their contracts. Each call is nearer to the last level.
 -- Assumes nothing.
 use Rattle.basis.specs.Kit.{ℕ, _+_, _-_, _*_, _<_}
 use Rattle.basis.proofs.Kit.{needs}

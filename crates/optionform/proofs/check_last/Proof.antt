@@ -1,4 +1,4 @@
--- `check_last` meets its contract.
+-- `optionform::check_last` meets its contract.
 -- Assumes nothing.
 use Rattle.basis.proofs.Kit.{needs}
 use Rattle.optionform.proofs.OptionLaws.{last-laws}

@@ -1,4 +1,4 @@
--- `check_option` meets its contract.
+-- `optionform::check_option` meets its contract.
 -- Assumes nothing.
 use Rattle.basis.proofs.Kit.{needs}
 use Rattle.optionform.proofs.OptionLaws.{option-laws}

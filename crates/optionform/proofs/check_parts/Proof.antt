@@ -1,4 +1,4 @@
--- `check_parts` meets its contract.
+-- `optionform::check_parts` meets its contract.
 -- Assumes nothing.
 use Rattle.basis.specs.Kit.{_-_}
 use Rattle.basis.proofs.Kit.{needs}

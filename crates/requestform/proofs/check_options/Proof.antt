@@ -1,4 +1,4 @@
--- `check_options` meets its contract.
+-- `requestform::check_options` meets its contract.
 -- Assumes nothing.
 use Rattle.basis.specs.Kit.{_-_, _≤_}
 use Rattle.basis.proofs.Kit.{needs}

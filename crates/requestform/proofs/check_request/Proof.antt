@@ -1,4 +1,4 @@
--- `check_request` meets its contract.
+-- `requestform::check_request` meets its contract.
 -- Assumes nothing.
 use Rattle.basis.proofs.Kit.{needs}
 use Rattle.requestform.proofs.RequestLaws.{request-laws}

@@ -1,4 +1,4 @@
--- `check_scope` meets its contract.
+-- `requestform::check_scope` meets its contract.
 -- Assumes nothing.
 use Rattle.basis.proofs.Kit.{needs}
 use Rattle.requestform.proofs.RequestLaws.{alone-laws}

@@ -1,4 +1,4 @@
--- `f64_bits_to_f32_bits` meets its contract, by laws of `Narrowing`. Assumes nothing.
+-- `round::f64_bits_to_f32_bits` meets its contract, by laws of `Narrowing`. Assumes nothing.
 use Rattle.basis.proofs.Kit.{needs}
 use Rattle.round.proofs.Narrowing.{narrow-laws}
 use Rattle.round.proofs.f64_bits_to_f32_bits.Statement.{statement}

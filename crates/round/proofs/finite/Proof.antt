@@ -1,4 +1,4 @@
--- `finite` meets its contract, by laws of `Narrowing`. Assumes nothing.
+-- `round::finite` meets its contract, by laws of `Narrowing`. Assumes nothing.
 use Rattle.basis.proofs.Kit.{needs}
 use Rattle.round.proofs.Narrowing.{finite-laws}
 use Rattle.round.proofs.finite.Statement.{statement}

@@ -1,4 +1,4 @@
--- `int_to_f64_bits` meets its contract, by laws of `Integers` over the format. Assumes nothing.
+-- `round::int_to_f64_bits` meets its contract, by laws of `Integers` over the format. Assumes nothing.
 use Rattle.basis.proofs.Kit.{needs}
 use Rattle.round.proofs.Integers.{sign-laws}
 use Rattle.round.proofs.int_to_f64_bits.Statement.{statement}

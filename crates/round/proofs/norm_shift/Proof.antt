@@ -1,4 +1,4 @@
--- `norm_shift` meets its contract, by laws of `Integers`. Assumes nothing.
+-- `round::norm_shift` meets its contract, by laws of `Integers`. Assumes nothing.
 use Rattle.basis.proofs.Kit.{needs}
 use Rattle.round.proofs.Integers.{norm-laws}
 use Rattle.round.proofs.norm_shift.Statement.{statement}

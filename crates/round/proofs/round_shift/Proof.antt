@@ -1,4 +1,4 @@
--- `round_shift` meets its contract, by laws of `Closest`. Assumes nothing.
+-- `round::round_shift` meets its contract, by laws of `Closest`. Assumes nothing.
 use Rattle.basis.proofs.Kit.{needs}
 use Rattle.round.proofs.Closest.{shift-laws}
 use Rattle.round.proofs.round_shift.Statement.{statement}

@@ -1,4 +1,4 @@
--- `check_files` meets its contract.
+-- `sheetform::check_files` meets its contract.
 -- Assumes nothing.
 use Rattle.basis.specs.Kit.{_-_}
 use Rattle.basis.proofs.Kit.{needs}

@@ -1,4 +1,4 @@
--- `protobuf_path::ancestor` meets its contract.
+-- `candidates::protobuf_path::ancestor` meets its contract.
 -- Assumes nothing.
 use Rattle.basis.specs.Kit.{_-_}
 use Rattle.basis.proofs.Kit.{needs}

@@ -1,4 +1,4 @@
--- `protobuf_path::candidate` meets its contract.
+-- `candidates::protobuf_path::candidate` meets its contract.
 -- Assumes nothing.
 use Rattle.basis.proofs.Kit.{needs}
 use Rattle.candidates.proofs.CandidateLaws.{candidate-laws}

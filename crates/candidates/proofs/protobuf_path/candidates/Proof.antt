@@ -1,4 +1,4 @@
--- `protobuf_path::candidates` meets its contract.
+-- `candidates::protobuf_path::candidates` meets its contract.
 -- Assumes nothing.
 use Rattle.basis.proofs.Kit.{needs}
 use Rattle.candidates.proofs.CandidateLaws.{candidates-laws}

@@ -1,4 +1,4 @@
--- `leaves::good_part` meets its contract.
+-- `constantform::leaves::good_part` meets its contract.
 -- Assumes nothing.
 use Rattle.basis.proofs.Kit.{needs}
 use Rattle.constantform.proofs.LeafLaws.{part-leaf-laws}

@@ -1,4 +1,4 @@
--- `count::count_item`, `count::count_message` and `count::count_items` meet their contracts. Each call is nearer to the last level.
+-- `counts::declarations::count_item`, `counts::declarations::count_items` and `counts::declarations::count_message` meet their contracts. Each call is nearer to the last level.
 -- Assumes nothing.
 use Rattle.basis.specs.Kit.{ℕ, _+_, _-_, _*_, _<_}
 use Rattle.basis.proofs.Kit.{needs}

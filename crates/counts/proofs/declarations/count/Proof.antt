@@ -1,4 +1,4 @@
--- `count::count` meets its contract.
+-- `counts::declarations::count` meets its contract.
 -- Assumes nothing.
 use Rattle.basis.specs.Kit.{_-_}
 use Rattle.basis.proofs.Kit.{needs}

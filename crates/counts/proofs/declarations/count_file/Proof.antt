@@ -1,4 +1,4 @@
--- `count::count_file` meets its contract.
+-- `counts::declarations::count_file` meets its contract.
 -- Assumes nothing.
 use Rattle.basis.proofs.Kit.{needs}
 use Rattle.counts.proofs.DeclarationLaws.{file-count-laws}

@@ -1,4 +1,4 @@
--- `count::count_value` meets its contract.
+-- `counts::declarations::count_value` meets its contract.
 -- Assumes nothing.
 use Rattle.basis.proofs.Kit.{needs}
 use Rattle.counts.proofs.DeclarationLaws.{value-count-laws}

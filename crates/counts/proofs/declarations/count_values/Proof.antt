@@ -1,4 +1,4 @@
--- `count::count_values` meets its contract.
+-- `counts::declarations::count_values` meets its contract.
 -- Assumes nothing.
 use Rattle.basis.specs.Kit.{_-_, length}
 use Rattle.basis.proofs.Kit.{needs}

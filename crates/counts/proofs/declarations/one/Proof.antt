@@ -1,4 +1,4 @@
--- `count::one` meets its contract.
+-- `counts::declarations::one` meets its contract.
 -- Assumes nothing.
 use Rattle.basis.proofs.Kit.{needs}
 use Rattle.counts.proofs.DeclarationLaws.{one-laws}

@@ -1,4 +1,4 @@
--- `protobuf_abs_path::without_root` meets its contract.
+-- `path::protobuf_abs_path::without_root` meets its contract.
 -- Assumes nothing.
 use Rattle.basis.proofs.Kit.{needs}
 use Rattle.path.proofs.AbsLaws.{abs-laws}

@@ -1,4 +1,4 @@
--- `protobuf_ident::all_word` meets its contract.
+-- `path::protobuf_ident::all_word` meets its contract.
 -- Assumes nothing.
 use Rattle.basis.specs.Kit.{_-_, length}
 use Rattle.basis.proofs.Kit.{needs}

@@ -1,4 +1,4 @@
--- `protobuf_path::is_path` meets its contract.
+-- `path::protobuf_path::is_path` meets its contract.
 -- Assumes nothing.
 use Rattle.basis.proofs.Kit.{needs}
 use Rattle.path.proofs.FormLaws.{form-laws}

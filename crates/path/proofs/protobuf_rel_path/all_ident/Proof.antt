@@ -1,4 +1,4 @@
--- `protobuf_rel_path::all_ident` meets its contract.
+-- `path::protobuf_rel_path::all_ident` meets its contract.
 -- Assumes nothing.
 use Rattle.basis.specs.Kit.{_-_, length}
 use Rattle.basis.proofs.Kit.{needs}

@@ -1,4 +1,4 @@
--- `protobuf_rel_path::count` meets its contract.
+-- `path::protobuf_rel_path::count` meets its contract.
 -- Assumes nothing.
 use Rattle.basis.specs.Kit.{_-_, length}
 use Rattle.basis.proofs.Kit.{needs}

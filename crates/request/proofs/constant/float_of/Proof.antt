@@ -1,4 +1,4 @@
--- `constant::float_of` meets its contract.
+-- `request::constant::float_of` meets its contract.
 -- Assumes nothing.
 use Rattle.basis.proofs.Kit.{needs}
 use Rattle.request.proofs.ConstantLaws.{float-laws}

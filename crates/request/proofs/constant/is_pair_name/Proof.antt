@@ -1,4 +1,4 @@
--- `constant::is_pair_name` meets its contract.
+-- `request::constant::is_pair_name` meets its contract.
 -- Assumes nothing.
 use Rattle.basis.proofs.Kit.{needs}
 use Rattle.request.proofs.PairLaws.{pair-name-is}

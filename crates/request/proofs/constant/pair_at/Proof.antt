@@ -1,4 +1,4 @@
--- `constant::pair_at` meets its contract.
+-- `request::constant::pair_at` meets its contract.
 -- Assumes nothing.
 use Rattle.basis.proofs.Kit.{needs}
 use Rattle.request.proofs.PairLaws.{pair-laws}

@@ -1,4 +1,4 @@
--- `request::after_parts` meets its contract.
+-- `request::heading::after_parts` meets its contract.
 -- Assumes nothing.
 use Rattle.basis.specs.Kit.{_-_}
 use Rattle.basis.proofs.Kit.{needs}

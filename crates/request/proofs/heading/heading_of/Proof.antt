@@ -1,4 +1,4 @@
--- `request::heading_of` meets its contract.
+-- `request::heading::heading_of` meets its contract.
 -- Assumes nothing.
 use Rattle.basis.proofs.Kit.{needs}
 use Rattle.request.proofs.RequestLaws.{heading-laws}

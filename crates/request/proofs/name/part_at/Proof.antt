@@ -1,4 +1,4 @@
--- `name::part_at` meets its contract.
+-- `request::name::part_at` meets its contract.
 -- Assumes nothing.
 use Rattle.basis.proofs.Kit.{needs}
 use Rattle.request.proofs.PartLaws.{part-laws}

@@ -1,4 +1,4 @@
--- `lookup::body_at` meets its contract.
+-- `scope::lookup::body_at` meets its contract.
 -- Assumes nothing.
 use Rattle.basis.proofs.Kit.{needs}
 use Rattle.scope.proofs.LookupLaws.{body-at-laws}

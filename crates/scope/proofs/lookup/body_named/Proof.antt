@@ -1,4 +1,4 @@
--- `lookup::body_named` meets its contract.
+-- `scope::lookup::body_named` meets its contract.
 -- Assumes nothing.
 use Rattle.basis.specs.Kit.{_-_}
 use Rattle.basis.proofs.Kit.{needs}

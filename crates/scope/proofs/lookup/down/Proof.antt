@@ -1,4 +1,4 @@
--- `lookup::down` meets its contract.
+-- `scope::lookup::down` meets its contract.
 -- Assumes nothing.
 use Rattle.basis.proofs.Kit.{needs}
 use Rattle.scope.proofs.LookupLaws.{down-laws}

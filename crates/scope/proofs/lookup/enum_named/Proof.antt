@@ -1,4 +1,4 @@
--- `lookup::enum_named` meets its contract.
+-- `scope::lookup::enum_named` meets its contract.
 -- Assumes nothing.
 use Rattle.basis.proofs.Kit.{needs}
 use Rattle.scope.proofs.LookupLaws.{enum-named-is}

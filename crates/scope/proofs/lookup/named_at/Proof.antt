@@ -1,4 +1,4 @@
--- `lookup::named_at` meets its contract.
+-- `scope::lookup::named_at` meets its contract.
 -- Assumes nothing.
 use Rattle.basis.proofs.Kit.{needs}
 use Rattle.scope.proofs.LookupLaws.{named-at-laws}

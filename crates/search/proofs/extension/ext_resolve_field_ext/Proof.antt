@@ -1,4 +1,4 @@
--- `extension::ext_resolve_field_ext` meets its contract.
+-- `search::extension::ext_resolve_field_ext` meets its contract.
 -- Assumes nothing.
 use Rattle.basis.proofs.Kit.{needs}
 use Rattle.search.proofs.ExtensionLaws.{resolve-laws}

@@ -1,4 +1,4 @@
--- `extension::first_extension` meets its contract.
+-- `search::extension::first_extension` meets its contract.
 -- Assumes nothing.
 use Rattle.basis.specs.Kit.{length}
 use Rattle.basis.proofs.Kit.{needs}

@@ -1,4 +1,4 @@
--- `extension::try_candidates` meets its contract.
+-- `search::extension::try_candidates` meets its contract.
 -- Assumes nothing.
 use Rattle.basis.specs.Kit.{_-_}
 use Rattle.basis.proofs.Kit.{needs}

@@ -1,4 +1,4 @@
--- `declaration::extension_at` meets its contract.
+-- `sheet::declaration::extension_at` meets its contract.
 -- Assumes nothing.
 use Rattle.basis.proofs.Kit.{needs}
 use Rattle.sheet.proofs.DeclarationLaws.{extension-laws}

@@ -1,4 +1,4 @@
--- `declaration::has_type_path` meets its contract.
+-- `sheet::declaration::has_type_path` meets its contract.
 -- Assumes nothing.
 use Rattle.basis.proofs.Kit.{needs}
 use Rattle.sheet.proofs.ShapeLaws.{has-type-path}

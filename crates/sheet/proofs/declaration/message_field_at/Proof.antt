@@ -1,4 +1,4 @@
--- `declaration::message_field_at` meets its contract.
+-- `sheet::declaration::message_field_at` meets its contract.
 -- Assumes nothing.
 use Rattle.basis.proofs.Kit.{needs}
 use Rattle.sheet.proofs.DeclarationLaws.{field-laws}

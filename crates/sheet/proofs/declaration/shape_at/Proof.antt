@@ -1,4 +1,4 @@
--- `declaration::shape_at` meets its contract.
+-- `sheet::declaration::shape_at` meets its contract.
 -- Assumes nothing.
 use Rattle.basis.proofs.Kit.{needs}
 use Rattle.sheet.proofs.ShapeLaws.{shape-laws}

@@ -1,4 +1,4 @@
--- `declaration::type_path_at` meets its contract.
+-- `sheet::declaration::type_path_at` meets its contract.
 -- Assumes nothing.
 use Rattle.basis.proofs.Kit.{needs}
 use Rattle.sheet.proofs.ShapeLaws.{type-path-laws}

@@ -1,4 +1,4 @@
--- `declaration::value_at` meets its contract.
+-- `sheet::declaration::value_at` meets its contract.
 -- Assumes nothing.
 use Rattle.basis.proofs.Kit.{needs}
 use Rattle.sheet.proofs.DeclarationLaws.{value-laws}
