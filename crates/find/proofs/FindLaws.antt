@@ -1,7 +1,7 @@
 -- The laws of `put_found`, `find_tested`, `find` and `found_name`: what was found lies in the sheet, so its words fit; and the ways to the
 -- answers.
 -- Assumes nothing.
-use Rattle.basis.specs.Kit.{_≡_, refl, sym, ap, _∙_, List, ℕ, _+_, _-_, _≤_, _<_, length}
+use Rattle.basis.specs.Kit.{_≡_, refl, sym, ap, _∙_, List, [], _∷_, ℕ, _+_, _-_, _≤_, _<_, length}
 use Rattle.basis.proofs.Kit.{arith, Fits}
 use mir.Syntax.{w32}
 use Rattle.basis.proofs.Never.{never}
