@@ -1,4 +1,4 @@
--- `counts::declarations::count_item`, `counts::declarations::count_items` and `counts::declarations::count_message` meet their contracts. Each call is nearer to the last level.
+-- `count_item`, `count_items` and `count_message` of `counts::declarations` meet their contracts. Each call is nearer to the last level.
 -- Assumes nothing.
 use Rattle.basis.specs.Kit.{ℕ, _+_, _-_, _*_, _<_}
 use Rattle.basis.proofs.Kit.{needs}
