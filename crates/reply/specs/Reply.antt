@@ -18,41 +18,33 @@ use Rattle.basis.specs.Kit.{_≡_, List, [], ℕ, take}
 use Prim.Native.String.{String}
 use Rattle.octets.specs.Ascii.{ascii}
 use Rattle.reply.specs.declared.Refusal.{Refusal}
-use Rattle.reply.specs.declared.Refusal.the-variants.{BadSheet, BadRequest, BeyondLimit, ExtensionNotFound}
-use Rattle.reply.specs.declared.Refusal.the-variants.{WrongExtensionType, ExtensionIsNotMessage}
-use Rattle.reply.specs.declared.Refusal.the-variants.{MessageNotFound, MessageFoundMoreThanOnce}
-use Rattle.reply.specs.declared.Refusal.the-variants.{UnknownFieldName, BuiltinOptionNotFound}
-use Rattle.reply.specs.declared.Refusal.the-variants.{BuiltinOptionPointsToNonSingularField}
-use Rattle.reply.specs.declared.Refusal.the-variants.{MessageFieldRequiresMessageConstant}
-use Rattle.reply.specs.declared.Refusal.the-variants.{UnsupportedExtensionType, UnknownEnumValue, ValueRange}
-use Rattle.reply.specs.declared.Refusal.the-variants.{StrLitDecodeError, RangeEnd, NoRoom, BadBytes}
-use Rattle.reply.specs.declared.Refusal.the-variants.{WireMismatch}
+use Rattle.reply.specs.declared.Refusal.the-variants as refusal
 use Rattle.reply.specs.declared.Cause.{Cause}
 use Rattle.reply.specs.declared.Answer.{Answer}
 use Rattle.reply.specs.declared.Name.{Name}
 
 -- 01, Replies: the number; the second word, which is 1 for BuiltinOptionPointsToNonSingularField and 0 for every other; the name
 abbrev pub row : Refusal → ℕ × ℕ × String
-row BadSheet = (1, 0, "BadSheet")
-row BadRequest = (2, 0, "BadRequest")
-row BeyondLimit = (3, 0, "BeyondLimit")
-row ExtensionNotFound = (4, 0, "ExtensionNotFound")
-row WrongExtensionType = (5, 0, "WrongExtensionType")
-row ExtensionIsNotMessage = (6, 0, "ExtensionIsNotMessage")
-row MessageNotFound = (7, 0, "MessageNotFound")
-row MessageFoundMoreThanOnce = (8, 0, "MessageFoundMoreThanOnce")
-row UnknownFieldName = (9, 0, "UnknownFieldName")
-row BuiltinOptionNotFound = (10, 0, "BuiltinOptionNotFound")
-row BuiltinOptionPointsToNonSingularField = (10, 1, "BuiltinOptionPointsToNonSingularField")
-row MessageFieldRequiresMessageConstant = (11, 0, "MessageFieldRequiresMessageConstant")
-row UnsupportedExtensionType = (12, 0, "UnsupportedExtensionType")
-row UnknownEnumValue = (13, 0, "UnknownEnumValue")
-row ValueRange = (14, 0, "ValueRange")
-row StrLitDecodeError = (15, 0, "StrLitDecodeError")
-row RangeEnd = (16, 0, "RangeEnd")
-row NoRoom = (17, 0, "NoRoom")
-row BadBytes = (18, 0, "BadBytes")
-row WireMismatch = (19, 0, "WireMismatch")
+row refusal.BadSheet = (1, 0, "BadSheet")
+row refusal.BadRequest = (2, 0, "BadRequest")
+row refusal.BeyondLimit = (3, 0, "BeyondLimit")
+row refusal.ExtensionNotFound = (4, 0, "ExtensionNotFound")
+row refusal.WrongExtensionType = (5, 0, "WrongExtensionType")
+row refusal.ExtensionIsNotMessage = (6, 0, "ExtensionIsNotMessage")
+row refusal.MessageNotFound = (7, 0, "MessageNotFound")
+row refusal.MessageFoundMoreThanOnce = (8, 0, "MessageFoundMoreThanOnce")
+row refusal.UnknownFieldName = (9, 0, "UnknownFieldName")
+row refusal.BuiltinOptionNotFound = (10, 0, "BuiltinOptionNotFound")
+row refusal.BuiltinOptionPointsToNonSingularField = (10, 1, "BuiltinOptionPointsToNonSingularField")
+row refusal.MessageFieldRequiresMessageConstant = (11, 0, "MessageFieldRequiresMessageConstant")
+row refusal.UnsupportedExtensionType = (12, 0, "UnsupportedExtensionType")
+row refusal.UnknownEnumValue = (13, 0, "UnknownEnumValue")
+row refusal.ValueRange = (14, 0, "ValueRange")
+row refusal.StrLitDecodeError = (15, 0, "StrLitDecodeError")
+row refusal.RangeEnd = (16, 0, "RangeEnd")
+row refusal.NoRoom = (17, 0, "NoRoom")
+row refusal.BadBytes = (18, 0, "BadBytes")
+row refusal.WireMismatch = (19, 0, "WireMismatch")
 
 abbrev pub number : Refusal → ℕ
 number w = row w .0
