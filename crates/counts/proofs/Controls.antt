@@ -11,13 +11,13 @@ use Rattle.sheet.proofs.Controls.{tree, p1, inside, deep}
 use Rattle.request.specs.Name.{partOf}
 use Rattle.request.specs.Request.{headingOf, optionOf, optionIn, requestOf}
 use Rattle.request.proofs.RequestControls.{heading, option, others}
-use Rattle.counts.specs.Declarations.{inSheet}
+use Rattle.counts.specs.Declarations.{filesHold}
 use Rattle.counts.specs.Options.{partsOf}
 
 -- files, messages, extensions, enums, fields, values
 counts : List ℕ → List ℕ
 unfolding tree
-counts s = map (λ k. inSheet k (tree s)) (fileTag ∷ messageTag ∷ extensionTag ∷ enumTag ∷ fieldTag ∷ valueTag ∷ [])
+counts s = map (λ k. filesHold k (tree s)) (fileTag ∷ messageTag ∷ extensionTag ∷ enumTag ∷ fieldTag ∷ valueTag ∷ [])
 
 p1-counts : counts p1 ≡ 2 ∷ 1 ∷ 1 ∷ 0 ∷ 0 ∷ 0 ∷ []
 unfolding counts
@@ -32,7 +32,7 @@ unfolding counts
 empty-counts = refl
 
 -- "messages 16 deep": the seventeenth is left out
-deepest : map (λ n. inSheet messageTag (tree (deep n))) (15 ∷ 16 ∷ 17 ∷ []) ≡ 15 ∷ 16 ∷ 16 ∷ []
+deepest : map (λ n. filesHold messageTag (tree (deep n))) (15 ∷ 16 ∷ 17 ∷ []) ≡ 15 ∷ 16 ∷ 16 ∷ []
 unfolding tree
 deepest = refl
 

@@ -21,7 +21,7 @@ use Rattle.sheet.specs.Table.{fileTag, messageTag, extensionTag, enumTag, field
 use Rattle.sheet.specs.Declaration.{extensionAt, messageFieldAt, valueAt}
 use Rattle.sheet.specs.Tree.{Items, none, message, enumeration, File, valueOnto, valueIn, valuesIn, enumIn, extensionIn, fieldIn}
 use Rattle.sheet.specs.Tree.{itemIn, messageIn, itemsWith, itemsIn, fileIn, filesIn, treeOf}
-use Rattle.counts.specs.Declarations.{one, inItems, inSheet}
+use Rattle.counts.specs.Declarations.{one, itemsHold, filesHold}
 use Rattle.counts.specs.inner.Fields.{declaredCount, valueCount, itemCount, fileCount}
 use Rattle.field.proofs.Tally.{Tally, total, tally-start, tally-laws}
 use Rattle.sheet.proofs.TreeLaws.{value-other, value-none, value-some, enum-unnamed, enum-named}
@@ -42,7 +42,7 @@ module _ (s : List ℕ) (t a e : ℕ) where
       go true (Values v) = omega arith
       go false v = omega arith
 
-  pub file-adds : (k : ℕ) (rest : List File) → inSheet k (fileIn s t a e rest) ≡ inSheet k (fileIn s t a e []) + inSheet k rest
+  pub file-adds : (k : ℕ) (rest : List File) → filesHold k (fileIn s t a e rest) ≡ filesHold k (fileIn s t a e []) + filesHold k rest
   unfolding fileIn
   file-adds k rest = go (eqb t fileTag) (leafAt packageTag anyBytes s a e)
     where
@@ -50,37 +50,37 @@ module _ (s : List ℕ) (t a e : ℕ) where
       file n m r = record { packageName = span n m; body = span m e; items = itemsIn mostMessages s (walk s m e) } ∷ r
 
       go : (b : Bool) (l : Leaf)
-          → inSheet k (elim b [ true ↦ onLeaf rest l (λ n m. file n m rest) | false ↦ rest ])
-          ≡ inSheet k (elim b [ true ↦ onLeaf [] l (λ n m. file n m []) | false ↦ [] ]) + inSheet k rest
+          → filesHold k (elim b [ true ↦ onLeaf rest l (λ n m. file n m rest) | false ↦ rest ])
+          ≡ filesHold k (elim b [ true ↦ onLeaf [] l (λ n m. file n m []) | false ↦ [] ]) + filesHold k rest
       go true Not = omega arith
       go true (At n m) = omega arith
       go false l = omega arith
 
-enum-adds : (k : ℕ) (s : List ℕ) (a e : ℕ) (rest : Items) → inItems k (enumIn s a e rest) ≡ inItems k (enumIn s a e none) + inItems k rest
+enum-adds : (k : ℕ) (s : List ℕ) (a e : ℕ) (rest : Items) → itemsHold k (enumIn s a e rest) ≡ itemsHold k (enumIn s a e none) + itemsHold k rest
 enum-adds k s a e rest = go (leafAt nameTag anyBytes s a e)
   where
     go : (l : Leaf)
-        → inItems k (onLeaf rest l λ n m. enumeration (span n m) (span m e) (valuesIn s (walk s m e)) rest)
-        ≡ inItems k (onLeaf none l λ n m. enumeration (span n m) (span m e) (valuesIn s (walk s m e)) none) + inItems k rest
+        → itemsHold k (onLeaf rest l λ n m. enumeration (span n m) (span m e) (valuesIn s (walk s m e)) rest)
+        ≡ itemsHold k (onLeaf none l λ n m. enumeration (span n m) (span m e) (valuesIn s (walk s m e)) none) + itemsHold k rest
     go Not = omega arith
     go (At n m) = omega arith
 
 -- a reader of messages, after which what follows is counted apart too
 abbrev pub Adds : ℕ → (ℕ → ℕ → Items → Items) → Type 0
-Adds k inner = (a e : ℕ) (rest : Items) → inItems k (inner a e rest) ≡ inItems k (inner a e none) + inItems k rest
+Adds k inner = (a e : ℕ) (rest : Items) → itemsHold k (inner a e rest) ≡ itemsHold k (inner a e none) + itemsHold k rest
 
 pub message-adds : (k d : ℕ) (s : List ℕ) → Adds k (messageIn d s)
 message-adds k zero s a e rest = omega arith
 message-adds k (suc d) s a e rest = go (leafAt nameTag anyBytes s a e)
   where
     go : (l : Leaf)
-        → inItems k (onLeaf rest l λ n m. message (span n m) (span m e) (itemsWith (messageIn d s) s (walk s m e)) rest)
-        ≡ inItems k (onLeaf none l λ n m. message (span n m) (span m e) (itemsWith (messageIn d s) s (walk s m e)) none) + inItems k rest
+        → itemsHold k (onLeaf rest l λ n m. message (span n m) (span m e) (itemsWith (messageIn d s) s (walk s m e)) rest)
+        ≡ itemsHold k (onLeaf none l λ n m. message (span n m) (span m e) (itemsWith (messageIn d s) s (walk s m e)) none) + itemsHold k rest
     go Not = omega arith
     go (At n m) = omega arith
 
 pub item-adds : (k : ℕ) (inner : ℕ → ℕ → Items → Items) → Adds k inner → (s : List ℕ) (t a e : ℕ) (rest : Items)
-    → inItems k (itemIn inner s t a e rest) ≡ inItems k (itemIn inner s t a e none) + inItems k rest
+    → itemsHold k (itemIn inner s t a e rest) ≡ itemsHold k (itemIn inner s t a e none) + itemsHold k rest
 unfolding itemIn
 item-adds k inner i s t a e rest =
     go (eqb t messageTag) (eqb t extensionTag) (eqb t enumTag) (eqb t fieldTag) (extensionAt s a e) (messageFieldAt s a e)
@@ -94,7 +94,7 @@ item-adds k inner i s t a e rest =
       ]
     ]
 
-    go : (b b′ b″ b‴ : Bool) (x y : Declared) → inItems k (item b b′ b″ b‴ x y rest) ≡ inItems k (item b b′ b″ b‴ x y none) + inItems k rest
+    go : (b b′ b″ b‴ : Bool) (x y : Declared) → itemsHold k (item b b′ b″ b‴ x y rest) ≡ itemsHold k (item b b′ b″ b‴ x y none) + itemsHold k rest
     go true b′ b″ b‴ x y = i a e rest
     go false true b″ b‴ NoDeclaration y = omega arith
     go false true b″ b‴ (Declares x) y = omega arith
@@ -109,14 +109,14 @@ values-total s done = refl
 values-total s cut = refl
 values-total s (step t a e w) = value-adds s t a e (valuesIn s w) ∙ ap (λ n. valueCount s t a e + n) (values-total s w)
 
-items-total : (k d : ℕ) (s : List ℕ) (w : Walk) → inItems k (itemsIn d s w) ≡ total (itemCount k d s) w
+items-total : (k d : ℕ) (s : List ℕ) (w : Walk) → itemsHold k (itemsIn d s w) ≡ total (itemCount k d s) w
 unfolding itemsIn
 items-total k d s done = refl
 items-total k d s cut = refl
 items-total k d s (step t a e w) =
     item-adds k (messageIn d s) (message-adds k d s) s t a e (itemsIn d s w) ∙ ap (λ n. itemCount k d s t a e + n) (items-total k d s w)
 
-files-total : (k : ℕ) (s : List ℕ) (w : Walk) → inSheet k (filesIn s w) ≡ total (fileCount k s) w
+files-total : (k : ℕ) (s : List ℕ) (w : Walk) → filesHold k (filesIn s w) ≡ total (fileCount k s) w
 files-total k s done = refl
 files-total k s cut = refl
 files-total k s (step t a e w) = file-adds s t a e k (filesIn s w) ∙ ap (λ n. fileCount k s t a e + n) (files-total k s w)
@@ -126,10 +126,10 @@ module _ (s : List ℕ) (from to : ℕ) (h : from ≤ to) (g : to ≤ length s) 
   pub values-start : Tally (length (valuesIn s (walk s from to))) (total (valueCount s)) s from to 0 from
   values-start = tally-start _ (total (valueCount s)) s from to (values-total s (walk s from to)) h g
 
-  pub items-start : (k d : ℕ) → Tally (inItems k (itemsIn d s (walk s from to))) (total (itemCount k d s)) s from to 0 from
+  pub items-start : (k d : ℕ) → Tally (itemsHold k (itemsIn d s (walk s from to))) (total (itemCount k d s)) s from to 0 from
   items-start k d = tally-start _ (total (itemCount k d s)) s from to (items-total k d s (walk s from to)) h g
 
-pub files-start : (k : ℕ) (s : List ℕ) (to : ℕ) → to ≡ length s → Tally (inSheet k (treeOf s)) (total (fileCount k s)) s 0 to 0 0
+pub files-start : (k : ℕ) (s : List ℕ) (to : ℕ) → to ≡ length s → Tally (filesHold k (treeOf s)) (total (fileCount k s)) s 0 to 0 0
 files-start k s to q =
     rw (q, tree-files s)
     (tally-start _ (total (fileCount k s)) s 0 (length s) (files-total k s (walk s 0 (length s))) (omega arith) (omega arith))
@@ -190,22 +190,22 @@ module _ (y z : ℕ) (h : y ≤ 1) where
 pub ruleset holder-laws = (holder-few, holder-fits, leaf-inside)
 
 module _ (k : ℕ) (s : List ℕ) (a e : ℕ) (r : Leaf) (q : r ≡ leafAt nameTag anyBytes s a e) where
-  pub enum-count-unnamed : r ≡ Not → 0 ≡ inItems k (enumIn s a e none)
+  pub enum-count-unnamed : r ≡ Not → 0 ≡ itemsHold k (enumIn s a e none)
   enum-count-unnamed g = rw (enum-unnamed s a e none r q g)
 
   pub enum-count-named : (n m : ℕ) → r ≡ At n m → (x y z : ℕ) → x ≡ one k enumTag → y ≡ one k valueTag
-      → z ≡ length (valuesIn s (walk s m e)) → x + y * z ≡ inItems k (enumIn s a e none)
+      → z ≡ length (valuesIn s (walk s m e)) → x + y * z ≡ itemsHold k (enumIn s a e none)
   enum-count-named n m g x y z p o l = rw (enum-named s a e none r q n m g, p, o, l) (omega arith)
 
   module _ (d : ℕ) where
-    pub message-count-unnamed : r ≡ Not → 0 ≡ inItems k (messageIn d s a e none)
+    pub message-count-unnamed : r ≡ Not → 0 ≡ itemsHold k (messageIn d s a e none)
     message-count-unnamed g = rw (message-unnamed d s a e none r q g)
 
     pub message-count-named : (d ≡ 0 → ⊥) → (n m : ℕ) → r ≡ At n m → (x y : ℕ) → x ≡ one k messageTag
-        → y ≡ inItems k (itemsIn (d - 1) s (walk s m e)) → x + y ≡ inItems k (messageIn d s a e none)
+        → y ≡ itemsHold k (itemsIn (d - 1) s (walk s m e)) → x + y ≡ itemsHold k (messageIn d s a e none)
     message-count-named z n m g x y p o = rw (message-named d s a e none z r q n m g, p, o) (omega arith)
 
-pub message-count-beyond : (k d : ℕ) (s : List ℕ) (a e : ℕ) → d ≡ 0 → 0 ≡ inItems k (messageIn d s a e none)
+pub message-count-beyond : (k d : ℕ) (s : List ℕ) (a e : ℕ) → d ≡ 0 → 0 ≡ itemsHold k (messageIn d s a e none)
 message-count-beyond k d s a e h = rw (message-beyond d s a e none h)
 
 pub ruleset enum-count-laws = (enum-count-unnamed, enum-count-named, part-few, part-fits, holder-laws)
@@ -214,7 +214,7 @@ pub ruleset message-count-laws = (message-count-beyond, message-count-unnamed, m
 
 -- ---- a field of a file or a message
 module _ (k d : ℕ) (s : List ℕ) (t a e n : ℕ) where
-  pub item-count-message : t ≡ messageTag → n ≡ inItems k (messageIn d s a e none) → n ≡ itemCount k d s t a e
+  pub item-count-message : t ≡ messageTag → n ≡ itemsHold k (messageIn d s a e none) → n ≡ itemCount k d s t a e
   item-count-message h p = rw (item-message (messageIn d s) s t a e none h) p
 
   pub item-count-extension : t ≡ extensionTag → (r : Declared) → r ≡ extensionAt s a e → n ≡ declaredCount r k t → n ≡ itemCount k d s t a e
@@ -222,7 +222,7 @@ module _ (k d : ℕ) (s : List ℕ) (t a e n : ℕ) where
   item-count-extension h (Declares x) q p =
       rw (item-extension (messageIn d s) s t a e none h (Declares x) q x refl) (p ∙ rw h (omega arith))
 
-  pub item-count-enum : t ≡ enumTag → n ≡ inItems k (enumIn s a e none) → n ≡ itemCount k d s t a e
+  pub item-count-enum : t ≡ enumTag → n ≡ itemsHold k (enumIn s a e none) → n ≡ itemCount k d s t a e
   item-count-enum h p = rw (item-enum (messageIn d s) s t a e none h) p
 
   pub item-count-field : t ≡ fieldTag → (r : Declared) → r ≡ messageFieldAt s a e → n ≡ declaredCount r k t → n ≡ itemCount k d s t a e
@@ -247,7 +247,7 @@ module _ (k : ℕ) (s : List ℕ) (t a e : ℕ) where
     pub file-count-unnamed : r ≡ Not → 0 ≡ fileCount k s t a e
     file-count-unnamed g = rw (file-unnamed s t a e [] h r q g)
 
-    pub file-count-named : (n m : ℕ) → r ≡ At n m → (x y : ℕ) → x ≡ one k fileTag → y ≡ inItems k (itemsIn mostMessages s (walk s m e))
+    pub file-count-named : (n m : ℕ) → r ≡ At n m → (x y : ℕ) → x ≡ one k fileTag → y ≡ itemsHold k (itemsIn mostMessages s (walk s m e))
         → x + y ≡ fileCount k s t a e
     file-count-named n m g x y p o = rw (file-named s t a e [] h r q n m g, p, o) (omega arith)
 

@@ -2,7 +2,7 @@
 ghost use Rattle.basis.specs.Kit.{_≡_, _+_, _-_, _≤_, length};
 ghost use Rattle.field.specs.Walk.{walk};
 ghost use Rattle.sheet.specs.Tree.{none, valuesIn, enumIn, messageIn, itemsIn, treeOf};
-ghost use Rattle.counts.specs.Declarations.{one as oneOf, inItems, inSheet};
+ghost use Rattle.counts.specs.Declarations.{one as oneOf, itemsHold, filesHold};
 ghost use Rattle.counts.specs.inner.Fields.{declaredCount, valueCount, itemCount, fileCount};
 use field::Field;
 use field::Leaf;
@@ -60,7 +60,7 @@ fn count_values(s: &[u8], from: usize, to: usize) -> usize
 // An enum and its values.
 fn count_enum(s: &[u8], from: usize, to: usize, want: u8) -> usize
     requires { ⌜ (from ≤ to) × (to ≤ length (now s)) ⌝ }
-    ensures { λ r. ⌜ (r ≡ inItems want (enumIn (now (s .entry)) from to none)) × (r ≤ to - from + 1) ⌝ }
+    ensures { λ r. ⌜ (r ≡ itemsHold want (enumIn (now (s .entry)) from to none)) × (r ≤ to - from + 1) ⌝ }
 {
     let Leaf::At { from: _, to: body } = leaf_at(s, from, to, table::NAME) else {
         return 0;
@@ -101,7 +101,7 @@ fn count_item(s: &[u8], tag: u8, from: usize, to: usize, left: usize, want: u8) 
 // A message and what it holds, with `left` levels of messages left.
 fn count_message(s: &[u8], from: usize, to: usize, left: usize, want: u8) -> usize
     requires { ⌜ (from ≤ to) × (to ≤ length (now s)) ⌝ }
-    ensures { λ r. ⌜ (r ≡ inItems want (messageIn left (now (s .entry)) from to none)) × (r ≤ to - from + 1) ⌝ }
+    ensures { λ r. ⌜ (r ≡ itemsHold want (messageIn left (now (s .entry)) from to none)) × (r ≤ to - from + 1) ⌝ }
 {
     if left == 0 {
         return 0;
@@ -115,7 +115,7 @@ fn count_message(s: &[u8], from: usize, to: usize, left: usize, want: u8) -> usi
 // What a file or a message holds between two places, with `left` levels of messages left.
 fn count_items(s: &[u8], from: usize, to: usize, left: usize, want: u8) -> usize
     requires { ⌜ (from ≤ to) × (to ≤ length (now s)) ⌝ }
-    ensures { λ r. ⌜ (r ≡ inItems want (itemsIn left (now (s .entry)) (walk (now (s .entry)) from to))) × (r ≤ to - from) ⌝ }
+    ensures { λ r. ⌜ (r ≡ itemsHold want (itemsIn left (now (s .entry)) (walk (now (s .entry)) from to))) × (r ≤ to - from) ⌝ }
 {
     let mut n = 0;
     let mut at = from;
@@ -150,7 +150,7 @@ fn count_file(s: &[u8], tag: u8, from: usize, to: usize, want: u8) -> usize
 
 // How many declarations of this tag, files too, the sheet has.
 pub fn count(s: &[u8], want: u8) -> usize
-    ensures { λ r. ⌜ r ≡ inSheet want (treeOf (now (s .entry))) ⌝ }
+    ensures { λ r. ⌜ r ≡ filesHold want (treeOf (now (s .entry))) ⌝ }
 {
     let end = s.len();
     let mut n = 0;

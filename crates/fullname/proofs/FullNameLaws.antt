@@ -10,7 +10,7 @@ use Rattle.field.specs.declared.Leaf.the-variants as leaf
 use Rattle.field.specs.Leaf.{span}
 use Rattle.reply.specs.declared.Refusal.the-variants.{MessageNotFound, MessageFoundMoreThanOnce}
 use Rattle.path.specs.Path.{Name, Path, components, parent, last}
-use Rattle.path.specs.inner.Last.{LastAt}
+use Rattle.path.specs.inner.Last.{LastStarts}
 use Rattle.path.proofs.PathLaws.{components-nil}
 use Rattle.sheet.specs.Members.{Enumeration}
 use Rattle.scope.specs.declared.lookup.LookupScope.{LookupScope}
@@ -152,7 +152,7 @@ module _ (s t : List ℕ) where
   unfolding enumsAt
   enums-empty h = rw (components-nil t h)
 
-  pub enums-found : (length t ≡ 0 → ⊥) → (r : ℕ) → LastAt t r → (b : List ℕ) → b ≡ take (r - 1) t
+  pub enums-found : (length t ≡ 0 → ⊥) → (r : ℕ) → LastStarts t r → (b : List ℕ) → b ≡ take (r - 1) t
       → (c : Cursor) → c ≡ startOf (eqb r 0)
       → (v : LookedUpEnum) → v ≡ lookedUpEnum (collect (enumNamed s (part t r (length t))) (ahead s b c))
       → v ≡ lookedUpEnum (enumsAt s (components t))

@@ -8,7 +8,7 @@ use lib.Seq.{drop-cons, drop-length, take-take, take-length, length-take-le}
 use Rattle.path.specs.Ident.{isIdent}
 use Rattle.path.specs.Path.{dot, split, components, spell, allIdent, parent}
 use Rattle.path.specs.inner.Places.{untilDot}
-use Rattle.path.specs.inner.Last.{LastAt}
+use Rattle.path.specs.inner.Last.{LastStarts}
 use Rattle.path.proofs.Pieces.{text, until-other, headed}
 use Rattle.path.proofs.PathLaws.{spell-split, components-nil, components-split, components-snoc}
 use Rattle.path.proofs.PathLaws.{parent-dotless, parent-snoc}
@@ -98,7 +98,7 @@ unfolding untilDot
 tail-start s = record { within = omega arith; clear = rw (drop-length s) }
 
 module _ (s : List ℕ) (i : ℕ) (k : Tail s i) where
-  pub tail-none : i ≤ 0 → LastAt s 0
+  pub tail-none : i ≤ 0 → LastStarts s 0
   tail-none h =
       let z : i ≡ 0 = omega arith in
       let clear : untilDot s ≡ s = rw z at (k .clear) in
@@ -117,7 +117,7 @@ module _ (s : List ℕ) (i : ℕ) (k : Tail s i) where
         let clear = until-other (getD s (i - 1) 0) (drop i s) n ∙ ap (λ (t : List ℕ). getD s (i - 1) 0 ∷ t) (k .clear) in
         record { within = omega (arith, k .within); clear = rw tail-cons clear }
 
-    pub tail-dot : getD s (i - 1) 0 ≡ dot → LastAt s i
+    pub tail-dot : getD s (i - 1) 0 ≡ dot → LastStarts s i
     tail-dot e =
         let cut : s ≡ take (i - 1) s ++ dot ∷ drop i s = sym (take-append-drop (i - 1) s) ∙ rw (tail-cons, e) in
         let names : components s ≡ split (take (i - 1) s) ++ (drop i s ∷ []) =
@@ -136,7 +136,7 @@ pub front-length : (s : List ℕ) (r : ℕ) → r ≤ length s → r ≡ length 
 front-length s r h = sym (length-take-le r s h)
 
 -- ---- parent_end: the parent of the first `end` bytes ends at the dot before their last component
-module _ (s : List ℕ) (end r : ℕ) (k : LastAt (take end s) r) where
+module _ (s : List ℕ) (end r : ℕ) (k : LastStarts (take end s) r) where
   pub parent-none : r ≡ 0 → take 0 s ≡ spell (parent (components (take end s)))
   unfolding spell
   parent-none z = ap spell (sym (names-past [] 1 (omega arith)) ∙ (rw z at (k .before)))

@@ -3,7 +3,7 @@ ghost use Rattle.basis.specs.Kit.{_≡_, _++_, suc, _+_, _-_, _≤_, length, ta
 ghost use Rattle.octets.specs.inner.Laid.{Laid};
 ghost use Rattle.path.specs.inner.Places.{untilDot};
 ghost use Rattle.path.specs.Path.{split, components, spell, allIdent, isRelPath, isRelOrEmpty, parent};
-ghost use Rattle.path.specs.inner.Last.{LastAt};
+ghost use Rattle.path.specs.inner.Last.{LastStarts};
 use crate::protobuf_ident::is_ident;
 use limits::MOST_PATH;
 
@@ -81,7 +81,7 @@ pub fn count(s: &[u8]) -> usize
 
 // Where the last component starts: after the last dot, or at the start.
 pub fn last_at(s: &[u8]) -> usize
-    ensures { λ r. ⌜ LastAt (now (s .entry)) r ⌝ }
+    ensures { λ r. ⌜ LastStarts (now (s .entry)) r ⌝ }
 {
     let mut i = s.len();
     while 0 < i {

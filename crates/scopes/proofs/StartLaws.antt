@@ -8,7 +8,7 @@ use lib.Seq.{take-all}
 use Rattle.octets.specs.Octets.{part}
 use Rattle.path.specs.Path.{components, spell, parent, last}
 use Rattle.path.specs.inner.Places.{namesFrom}
-use Rattle.path.specs.inner.Last.{LastAt}
+use Rattle.path.specs.inner.Last.{LastStarts}
 use Rattle.path.proofs.PathLaws.{spell-components}
 use Rattle.path.proofs.Names.{names-start, names-empty}
 use Rattle.scopes.specs.declared.Cursor.{Cursor}
@@ -39,10 +39,10 @@ front-none : (t : List ℕ) (r : ℕ) → r ≡ 0 → length (take (r - 1) t) �
 front-none t r h = rw (h, length-take) (omega arith)
 
 -- the last name, as the code takes it from the text
-pub last-text : (t : List ℕ) (r : ℕ) → LastAt t r → part t r (length t) ≡ last (components t)
+pub last-text : (t : List ℕ) (r : ℕ) → LastStarts t r → part t r (length t) ≡ last (components t)
 last-text t r k = take-all (length t - r) (drop r t) (omega (arith, length-drop r t)) ∙ k .name
 
-module _ (s t : List ℕ) (r : ℕ) (k : LastAt t r) (b : List ℕ) (q : b ≡ take (r - 1) t) (c : Cursor) (e : c ≡ startOf (eqb r 0)) where
+module _ (s t : List ℕ) (r : ℕ) (k : LastStarts t r) (b : List ℕ) (q : b ≡ take (r - 1) t) (c : Cursor) (e : c ≡ startOf (eqb r 0)) where
   pub start-before-stands : Stands s b c
   start-before-stands = rw q (stands-start s (take (r - 1) t) r (front-none t r) c e)
 

@@ -19,7 +19,7 @@ use Rattle.field.specs.Leaf.{isText}
 use Rattle.reply.specs.declared.Refusal.{Refusal}
 use Rattle.reply.specs.declared.Refusal.the-variants.{ExtensionNotFound, WrongExtensionType}
 use Rattle.path.specs.Path.{Name, Path, spell, components, parent, last, isRelOrEmpty, isPath}
-use Rattle.path.specs.inner.Last.{LastAt}
+use Rattle.path.specs.inner.Last.{LastStarts}
 use Rattle.candidates.specs.Candidates.{candidates, candidate}
 use Rattle.path.proofs.PathLaws.{components-nil}
 use Rattle.candidates.proofs.CandidateLaws.{candidate-components, candidate-text-le}
@@ -84,7 +84,7 @@ module _ (s t : List ℕ) where
   unfolding findExtensionByAbsPath foundAt
   abs-empty h = rw (components-nil t h)
 
-  pub abs-found : (length t ≡ 0 → ⊥) → (r : ℕ) → LastAt t r → (b : List ℕ) → b ≡ take (r - 1) t
+  pub abs-found : (length t ≡ 0 → ⊥) → (r : ℕ) → LastStarts t r → (b : List ℕ) → b ≡ take (r - 1) t
       → (c : Cursor) → c ≡ startOf (eqb r 0)
       → (v : Resolved) → v ≡ namedIn s (part t r (length t)) (ahead s b c) → v ≡ findExtensionByAbsPath s (components t)
   unfolding findExtensionByAbsPath

@@ -10,7 +10,7 @@ use Rattle.basis.specs.Kit.{List, [], ℕ, length}
 use Rattle.sheet.specs.declared.declaration.Declared.{Declared}
 use Rattle.sheet.specs.declared.declaration.Declared.the-variants.{Declares, NoDeclaration}
 use Rattle.sheet.specs.Tree.{none, valueIn, itemIn, messageIn, fileIn}
-use Rattle.counts.specs.Declarations.{one, inItems, inSheet}
+use Rattle.counts.specs.Declarations.{one, itemsHold, filesHold}
 
 abbrev pub declaredCount : Declared → (want tag : ℕ) → ℕ
 declaredCount NoDeclaration k t = 0
@@ -20,7 +20,7 @@ abbrev pub valueCount : (s : List ℕ) (tag from to : ℕ) → ℕ
 valueCount s t a e = length (valueIn s t a e [])
 
 abbrev pub itemCount : (want left : ℕ) (s : List ℕ) (tag from to : ℕ) → ℕ
-itemCount k d s t a e = inItems k (itemIn (messageIn d s) s t a e none)
+itemCount k d s t a e = itemsHold k (itemIn (messageIn d s) s t a e none)
 
 abbrev pub fileCount : (want : ℕ) (s : List ℕ) (tag from to : ℕ) → ℕ
-fileCount k s t a e = inSheet k (fileIn s t a e [])
+fileCount k s t a e = filesHold k (fileIn s t a e [])

@@ -4,7 +4,7 @@ use Rattle.basis.specs.Kit.{ℕ, _+_, _-_, _*_, _<_}
 use Rattle.basis.proofs.Kit.{needs}
 use Rattle.field.specs.Walk.{walk}
 use Rattle.sheet.specs.Tree.{itemsIn}
-use Rattle.counts.specs.Declarations.{inItems}
+use Rattle.counts.specs.Declarations.{itemsHold}
 use Rattle.counts.specs.inner.Fields.{itemCount}
 use Rattle.field.proofs.Tally.{Tally, total}
 use Rattle.counts.proofs.DeclarationLaws.{item-count-laws, items-count-laws, message-count-laws}
@@ -68,7 +68,7 @@ count-message-below t =
 
 abbrev count-items-Inv-loop : count-items-lts.InvT-loop
 count-items-Inv-loop s from to left want n₀ at₀ n at =
-    Tally (inItems want (itemsIn left s (walk s from to))) (total (itemCount want left s)) s from to n at
+    Tally (itemsHold want (itemsIn left s (walk s from to))) (total (itemCount want left s)) s from to n at
 
 abbrev count-items-μ-loop : count-items-lts.MeasureT-loop
 count-items-μ-loop s from to left want n₀ at₀ n at = to - at

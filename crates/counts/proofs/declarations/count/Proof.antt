@@ -3,7 +3,7 @@
 use Rattle.basis.specs.Kit.{_-_}
 use Rattle.basis.proofs.Kit.{needs}
 use Rattle.sheet.specs.Tree.{treeOf}
-use Rattle.counts.specs.Declarations.{inSheet}
+use Rattle.counts.specs.Declarations.{filesHold}
 use Rattle.counts.specs.inner.Fields.{fileCount}
 use Rattle.field.proofs.Tally.{Tally, total}
 use Rattle.counts.proofs.DeclarationLaws.{files-count-laws}
@@ -11,7 +11,7 @@ use Rattle.counts.proofs.declarations.count.Statement.{statement}
 use Rattle.counts.proofs.declarations.count.Tie as tie
 
 abbrev Inv-loop : tie.InvT-loop
-Inv-loop s want end n₀ at₀ n at = Tally (inSheet want (treeOf s)) (total (fileCount want s)) s 0 end n at
+Inv-loop s want end n₀ at₀ n at = Tally (filesHold want (treeOf s)) (total (fileCount want s)) s 0 end n at
 
 abbrev μ-loop : tie.MeasureT-loop
 μ-loop s want end n₀ at₀ n at = end - at
