@@ -29,7 +29,6 @@ beyond = Refused BeyondLimit
 
 -- 01: "Where an answer is an enum, a definition gives this paper's number and values for each of its cases. The promises use that
 -- definition." [REPLY-9]
--- [REPLY-9]
 abbrev pub replyOf : Verdict → ℕ
 replyOf Fine = 0
 replyOf (Refused w) = number w
