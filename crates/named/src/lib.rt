@@ -1,10 +1,11 @@
-// The first declaration of a name in a scope, and the first value of a name in an enum. Names are compared before the rest is read.
+// The first declaration of a name in a scope, whose extension it is, and the first value of a name in an enum. Names are compared before
+// the rest is read.
 ghost use Rattle.basis.specs.Kit.{_≡_, _≤_, length};
 ghost use Rattle.field.specs.Leaf.{isText, Lies};
 ghost use Rattle.field.specs.Walk.{walk};
 ghost use Rattle.sheet.specs.Tree.{valuesIn};
 ghost use Rattle.sheet.specs.declared.declaration.Declared.the-variants.{NoDeclaration};
-ghost use Rattle.scope.specs.Scope.{holding, declarationNamed, valueNamed};
+ghost use Rattle.scope.specs.Scope.{holding, declarationNamed, extends as extendsOf, valueNamed};
 ghost use Rattle.scope.specs.inner.Answers.{InSheet, declared, valued};
 ghost use Rattle.scope.specs.inner.Steps.{declarationAt, tellsDeclared, whose, valueNamedAt};
 use field::Field;
@@ -12,6 +13,7 @@ use field::Leaf;
 use field::Span;
 use scope::lookup::LookupScope;
 use scope::lookup::named_at;
+use sheet::declaration::Declaration;
 use sheet::declaration::Declared;
 use sheet::declaration::Valued;
 use sheet::table;
@@ -69,6 +71,16 @@ pub fn declaration_named(s: &[u8], scope: LookupScope, want: u8, name: &[u8]) ->
         at = to;
     }
     Declared::NoDeclaration
+}
+
+// Whether an extension is of the message of this full name. Its extendee is compared as it is written.
+pub fn extends(s: &[u8], message: &[u8], d: Declaration) -> bool
+    requires { ⌜ Lies (d .extendee) (now s) ⌝ }
+    ensures { λ r. ⌜ r ≡ extendsOf (now (s .entry)) (now (message .entry)) d ⌝ }
+{
+    let from = d.extendee.from;
+    let to = d.extendee.to;
+    octets::same(message, &s[from..to])
 }
 
 // The value that a field of an enum is, where it is of this name.

@@ -16,6 +16,7 @@ use field::Leaf;
 use field::Span;
 use limits::MOST_MESSAGES;
 use named::declaration_at;
+use named::extends;
 use scope::lookup::LookupScope;
 use sheet::declaration::Declared;
 use sheet::table;
@@ -67,9 +68,7 @@ fn extension_numbered_at(s: &[u8], tag: u8, item: Span, message: &[u8], number: 
     if d.shape.number != number {
         return Declared::NoDeclaration;
     }
-    let a = d.extendee.from;
-    let e = d.extendee.to;
-    if !octets::same(message, &s[a..e]) {
+    if !extends(s, message, d) {
         return Declared::NoDeclaration;
     }
     Declared::Declares(d)

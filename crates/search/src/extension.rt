@@ -9,6 +9,7 @@ ghost use Rattle.search.specs.Lookup.{foundIn, orNotFound, findExtension
 use candidates::protobuf_path::candidate;
 use candidates::protobuf_path::candidates;
 use named::declaration_named;
+use named::extends;
 use path::protobuf_rel_path::before;
 use path::protobuf_rel_path::last_at;
 use reply::Refusal;
@@ -124,9 +125,7 @@ pub fn ext_resolve_field_ext(
     match find_extension_by_path(s, scope, path, room) {
         Resolved::Refused(why) => Resolved::Refused(why),
         Resolved::Field(found) => {
-            let from = found.declaration.extendee.from;
-            let to = found.declaration.extendee.to;
-            if !octets::same(message, &s[from..to]) {
+            if !extends(s, message, found.declaration) {
                 return Resolved::Refused(Refusal::WrongExtensionType);
             }
             Resolved::Field(found)
