@@ -87,9 +87,9 @@ def candidates(label, scope, name, want):
     return case("CANDIDATES", label, name.encode(), scope.encode(), want=words(want))
 
 
-# A refusal, by its number and its second word: they give its name, which is the label.
-def refusal(label, reply, second=0):
-    return case("REFUSAL", label, words(reply, second))
+# A refusal, by its place in 01's table: its number, its second word, and the name that these two give, which is the label.
+def refusal(label, place, reply, second=0):
+    return case("REFUSAL", label, words(place), want=words(reply, second))
 
 
 # Bytes that are only printed.
@@ -149,26 +149,26 @@ CASES = [
     candidate(".plant.rank is plant.rank", SCOPE, ".plant.rank", 0, "plant.rank"),
     candidates("and nothing else", SCOPE, ".plant.rank", 1),
     # 01, "Replies": the table, row by row
-    refusal("BadSheet", 1),
-    refusal("BadRequest", 2),
-    refusal("BeyondLimit", 3),
-    refusal("ExtensionNotFound", 4),
-    refusal("WrongExtensionType", 5),
-    refusal("ExtensionIsNotMessage", 6),
-    refusal("MessageNotFound", 7),
-    refusal("MessageFoundMoreThanOnce", 8),
-    refusal("UnknownFieldName", 9),
-    refusal("BuiltinOptionNotFound", 10),
-    refusal("BuiltinOptionPointsToNonSingularField", 10, 1),
-    refusal("MessageFieldRequiresMessageConstant", 11),
-    refusal("UnsupportedExtensionType", 12),
-    refusal("UnknownEnumValue", 13),
-    refusal("ValueRange", 14),
-    refusal("StrLitDecodeError", 15),
-    refusal("RangeEnd", 16),
-    refusal("NoRoom", 17),
-    refusal("BadBytes", 18),
-    refusal("WireMismatch", 19),
+    refusal("BadSheet", 0, 1),
+    refusal("BadRequest", 1, 2),
+    refusal("BeyondLimit", 2, 3),
+    refusal("ExtensionNotFound", 3, 4),
+    refusal("WrongExtensionType", 4, 5),
+    refusal("ExtensionIsNotMessage", 5, 6),
+    refusal("MessageNotFound", 6, 7),
+    refusal("MessageFoundMoreThanOnce", 7, 8),
+    refusal("UnknownFieldName", 8, 9),
+    refusal("BuiltinOptionNotFound", 9, 10),
+    refusal("BuiltinOptionPointsToNonSingularField", 10, 10, 1),
+    refusal("MessageFieldRequiresMessageConstant", 11, 11),
+    refusal("UnsupportedExtensionType", 12, 12),
+    refusal("UnknownEnumValue", 13, 13),
+    refusal("ValueRange", 14, 14),
+    refusal("StrLitDecodeError", 15, 15),
+    refusal("RangeEnd", 16, 16),
+    refusal("NoRoom", 17, 17),
+    refusal("BadBytes", 18, 18),
+    refusal("WireMismatch", 19, 19),
     # bytes as digits: both cases of `glyph` and a digit 0 in either place
     printed("printed ", "12079abcdef0"),
 ]

@@ -53,7 +53,7 @@ fn holds(kind: u32, label: &[u8], c: &[u8]) -> bool {
         10 => lowerings::fields(first, third, want, part(c, AFTER)),
         11 => names::is_candidate(first, second, third, want),
         12 => candidates(second, first) == word_of(want) as usize,
-        13 => replies::is_row(first, label),
+        13 => replies::is_row(first, want, label),
         _ => false,
     }
 }

@@ -1,10 +1,42 @@
-// 01's table of replies: the name that a number and a second word have.
+// 01's table of replies: the number, the second word and the name of each refusal.
 use crate::case::begins;
 use crate::case::word_at;
+use crate::case::word_of;
+use reply::Refusal;
 
-// Whether the refusal that has these two words is named so.
-pub fn is_row(words: &[u8], name: &[u8]) -> bool {
-    let found = reply::name_of(word_at(words, 0), word_at(words, 4));
+// The refusals in the order of the table.
+fn refusal_at(place: u32) -> Refusal {
+    match place {
+        0 => Refusal::BadSheet,
+        1 => Refusal::BadRequest,
+        2 => Refusal::BeyondLimit,
+        3 => Refusal::ExtensionNotFound,
+        4 => Refusal::WrongExtensionType,
+        5 => Refusal::ExtensionIsNotMessage,
+        6 => Refusal::MessageNotFound,
+        7 => Refusal::MessageFoundMoreThanOnce,
+        8 => Refusal::UnknownFieldName,
+        9 => Refusal::BuiltinOptionNotFound,
+        10 => Refusal::BuiltinOptionPointsToNonSingularField,
+        11 => Refusal::MessageFieldRequiresMessageConstant,
+        12 => Refusal::UnsupportedExtensionType,
+        13 => Refusal::UnknownEnumValue,
+        14 => Refusal::ValueRange,
+        15 => Refusal::StrLitDecodeError,
+        16 => Refusal::RangeEnd,
+        17 => Refusal::NoRoom,
+        18 => Refusal::BadBytes,
+        _ => Refusal::WireMismatch,
+    }
+}
+
+// Whether a refusal has this row, writes nothing, and is named so by its numbers.
+pub fn is_row(place: &[u8], want: &[u8], name: &[u8]) -> bool {
+    let a = reply::refused(refusal_at(word_of(place)));
+    let number = word_at(want, 0);
+    let second = word_at(want, 4);
+    let found = reply::name_of(number, second);
     let bytes = found.bytes;
-    begins(&bytes, found.length, name)
+    let named = begins(&bytes, found.length, name);
+    (a.reply == number) & (a.second == second) & (a.absent == 0) & (a.length == 0) & named
 }
