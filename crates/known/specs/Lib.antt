@@ -1,0 +1,2 @@
+pub mod Known
+pub mod inner
