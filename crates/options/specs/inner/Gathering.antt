@@ -1,0 +1,3 @@
+-- What the loops over the options ask and leave.
+--
+-- Assumes nothing.
