@@ -7,16 +7,19 @@
 --     optionMade i m a e == the parts from a place on, the i-th first, and the constant behind them, in the message m
 --         leftOn h at e == what parts left on a field of the shape h lead to
 --          behind h at e == what a declaration of the shape h, whose part ends at a place, leads to
+--         stepped a e v == what a part that came to v and ends at a place leads to
 --         reachOf m a e == what the part at a place leads to in the message m
+--          StepLies s v <-> the type path of the declaration that a part came to lies in the sheet s
 --
 -- Assumes nothing.
-use Rattle.basis.specs.Kit.{true, false, List, ℕ, _+_, eqb, length}
+use Rattle.basis.specs.Kit.{_≡_, true, false, List, ℕ, _+_, eqb, length}
 use Rattle.reply.specs.declared.Refusal.{Refusal}
 use Rattle.reply.specs.declared.Refusal.the-variants.{ExtensionIsNotMessage}
 use Rattle.field.specs.Field.{fieldAt}
-use Rattle.field.specs.Leaf.{text}
+use Rattle.field.specs.Leaf.{text, Lies}
 use Rattle.field.specs.Walk.{walk}
 use Rattle.types.specs.Types.{TYPE_GROUP, TYPE_MESSAGE}
+use Rattle.sheet.specs.declared.declaration.Declaration.{Declaration}
 use Rattle.sheet.specs.declared.declaration.Shape.{Shape}
 use Rattle.scope.specs.declared.lookup.LookupScope.{LookupScope}
 use Rattle.fullname.specs.declared.LookedUp.{LookedUp}
@@ -88,3 +91,6 @@ module _ (L : Lookups) (s r scope : List ℕ) where
 
   unfoldable pub reachOf : Message → (from to : ℕ) → Reach
   reachOf m from to = firstPart m to (partAt r from to)
+
+pub record StepLies (s : List ℕ) (v : Step) : Type 0 where
+  pub lies : (d : Declaration) → v ≡ Found d → Lies (d .shape .path) s

@@ -1,0 +1,4 @@
+pub mod Sheets
+pub mod Asking
+pub mod Examples
+pub mod Controls

@@ -1,0 +1,87 @@
+-- What a name part comes to: the ways through `step_of`, over any look-ups, and where the type path of what was found lies.
+-- Assumes nothing.
+use Rattle.basis.specs.Kit.{_≡_, refl, sym, ap, _∙_, Bool, true, false, List, Option, none, some, ℕ, _≤_, length}
+use Rattle.basis.specs.First.{told}
+use mathlib.Core.Path.{subst}
+use Rattle.basis.proofs.Never.{never}
+use Rattle.reply.specs.declared.Refusal.{Refusal}
+use Rattle.reply.specs.declared.Refusal.the-variants.{UnknownFieldName}
+use Rattle.path.specs.Path.{isPath}
+use Rattle.field.specs.Leaf.{text, Lies}
+use Rattle.sheet.specs.declared.declaration.Declaration.{Declaration}
+use Rattle.sheet.specs.declared.declaration.Declared.{Declared}
+use Rattle.sheet.specs.declared.declaration.Declared.the-variants.{Declares, NoDeclaration}
+use Rattle.scope.specs.declared.lookup.LookupScope.{LookupScope}
+use Rattle.scope.specs.inner.Answers.{InSheet, declared}
+use Rattle.search.specs.declared.extension.Found.{Found as FoundExtension}
+use Rattle.search.specs.declared.extension.Resolved.{Resolved}
+use Rattle.search.specs.declared.extension.Resolved.the-variants.{Field, Refused}
+use Rattle.request.specs.declared.name.Part.{Part}
+use Rattle.constantform.specs.Leaves.{goodPart}
+use Rattle.lookups.specs.Lookups.{Lookups, walking, fieldNamed}
+use Rattle.lookups.proofs.LookupLaws.{field-path-ordered, field-path-within, extension-path-ordered, extension-path-within}
+use Rattle.steps.specs.declared.Step.{Step}
+use Rattle.steps.specs.declared.Step.the-variants.{Found, NotFound}
+use Rattle.steps.specs.Steps.{stepExtension, stepOf}
+use Rattle.steps.specs.inner.Written.{message, StepLies}
+
+-- ---- an extension part
+module _ (L : Lookups) (s r scope n : List ℕ) (c : LookupScope) (p : Part) where
+  module _ (x : p .extension ≡ true) (v : Resolved) (q : v ≡ L .extension scope n (text r (p .name))) where
+    step-searched : stepOf L s r scope (message n c) p ≡ stepExtension v
+    unfolding stepOf
+    step-searched = rw (stepOf, x, q) refl
+
+    pub step-refused : (w : Refusal) → v ≡ Refused w → NotFound w ≡ stepOf L s r scope (message n c) p
+    step-refused w g = sym (step-searched ∙ ap stepExtension g)
+
+    pub step-extension : (f : FoundExtension) → v ≡ Field f → Found (f .declaration) ≡ stepOf L s r scope (message n c) p
+    step-extension f g = sym (step-searched ∙ ap stepExtension g)
+
+  -- ---- a direct part
+  module _ (x : p .extension ≡ false) (v : Declared) (q : v ≡ declared (fieldNamed s (text r (p .name)) c)) where
+    pub step-unknown : v ≡ NoDeclaration → NotFound UnknownFieldName ≡ stepOf L s r scope (message n c) p
+    unfolding stepOf
+    step-unknown g = rw (stepOf, x) (go (fieldNamed s (text r (p .name)) c) (sym q ∙ g))
+      where
+        go : (o : Option Declaration) → declared o ≡ NoDeclaration → NotFound UnknownFieldName ≡ told (NotFound UnknownFieldName) Found o
+        go none e = refl
+        go (some d) e = never cc
+
+    pub step-field : (d : Declaration) → v ≡ Declares d → Found d ≡ stepOf L s r scope (message n c) p
+    unfolding stepOf
+    step-field d g = rw (stepOf, x) (go (fieldNamed s (text r (p .name)) c) (sym q ∙ g))
+      where
+        go : (o : Option Declaration) → declared o ≡ Declares d → Found d ≡ told (NotFound UnknownFieldName) Found o
+        go none e = never cc
+        go (some d′) e = let y : d′ ≡ d = cc in rw y refl
+
+-- ---- what is asked of the name, and where the type path of what was found lies
+pub part-path : (b : Bool) (t : List ℕ) → goodPart b t ≡ true → b ≡ true → isPath t ≡ true
+unfolding goodPart
+part-path b t g x = rw x at g
+
+module _ (s : List ℕ) where
+  pub lies-refused : (w : Refusal) → StepLies s (NotFound w)
+  lies-refused w = record { lies = λ d e. never cc }
+
+  lies-found : (d : Declaration) → Lies (d .shape .path) s → StepLies s (Found d)
+  lies-found d l = record { lies = λ x e. let y : d ≡ x = cc in subst (λ (z : Declaration). Lies (z .shape .path) s) y l }
+
+  pub lies-extension : (scope m n : List ℕ) (v : Resolved) → v ≡ walking s .extension scope m n → (f : FoundExtension) → v ≡ Field f
+      → StepLies s (Found (f .declaration))
+  lies-extension scope m n v q f g =
+      lies-found (f .declaration) (extension-path-ordered s scope m n v q f g, extension-path-within s scope m n v q f g)
+
+  pub lies-field : (c : LookupScope) → InSheet s c → (n : List ℕ) (v : Declared) → v ≡ declared (fieldNamed s n c) → (d : Declaration)
+      → v ≡ Declares d → StepLies s (Found d)
+  lies-field c l n v q d g = lies-found d (field-path-ordered s c l n v q d g, field-path-within s c l n v q d g)
+
+  module _ (v : Step) (l : StepLies s v) (d : Declaration) (g : v ≡ Found d) where
+    pub step-path-ordered : d .shape .path .from ≤ d .shape .path .to
+    step-path-ordered = l .lies d g .0
+
+    pub step-path-within : d .shape .path .to ≤ length s
+    step-path-within = l .lies d g .1
+
+pub ruleset step-laws = (step-refused, step-extension, step-unknown, step-field, part-path, lies-refused, lies-extension, lies-field)
