@@ -8,7 +8,7 @@ ghost use Rattle.constantform.specs.Leaves.{goodPart};
 ghost use Rattle.optionform.specs.inner.Parts.{OptionParts};
 ghost use Rattle.lookups.specs.Lookups.{walking};
 ghost use Rattle.steps.specs.Steps.{stepOf};
-ghost use Rattle.steps.specs.inner.Written.{message as messageOf, leftOn, behind as behindOf, stepped, StepLies, reachOf};
+ghost use Rattle.steps.specs.inner.Written.{message as messageOf, leftOn, behind as behindOf, stepped, StepLies, Led, reachOf};
 use fullname::LookedUp;
 use reply::Refusal;
 use request::name::Part;
@@ -149,8 +149,9 @@ fn reach_of(
     requires { ⌜ OptionParts (now request) from to ⌝ }
     requires { ⌜ isRelOrEmpty (now scope) ≡ true ⌝ }
     requires { ⌜ InSheet (now sheet) place ⌝ }
-    ensures { λ r. ⌜ r ≡ reachOf (walking (now (sheet .entry))) (now (sheet .entry)) (now (request .entry)) (now (scope .entry))
+    ensures is { λ r. ⌜ r ≡ reachOf (walking (now (sheet .entry))) (now (sheet .entry)) (now (request .entry)) (now (scope .entry))
         (messageOf (now (message .entry)) place) from to ⌝ }
+    ensures lies { λ r. ⌜ Led (now (sheet .entry)) (now (request .entry)) from to r ⌝ }
 {
     let Parted::Is(part) = part_at(request, from, to) else {
         return Reach::Nothing;

@@ -10,9 +10,10 @@
 --         stepped a e v == what a part that came to v and ends at a place leads to
 --         reachOf m a e == what the part at a place leads to in the message m
 --          StepLies s v <-> the type path of the declaration that a part came to lies in the sheet s
+--   Led s r a e v <-> what the part at a place leads to, v, stands further on, and lies in the sheet s and the request r
 --
 -- Assumes nothing.
-use Rattle.basis.specs.Kit.{_≡_, true, false, List, ℕ, _+_, eqb, length}
+use Rattle.basis.specs.Kit.{_≡_, true, false, List, ℕ, _+_, _≤_, eqb, length}
 use Rattle.reply.specs.declared.Refusal.{Refusal}
 use Rattle.reply.specs.declared.Refusal.the-variants.{ExtensionIsNotMessage}
 use Rattle.field.specs.Field.{fieldAt}
@@ -22,6 +23,7 @@ use Rattle.types.specs.Types.{TYPE_GROUP, TYPE_MESSAGE}
 use Rattle.sheet.specs.declared.declaration.Declaration.{Declaration}
 use Rattle.sheet.specs.declared.declaration.Shape.{Shape}
 use Rattle.scope.specs.declared.lookup.LookupScope.{LookupScope}
+use Rattle.scope.specs.inner.Answers.{InSheet}
 use Rattle.fullname.specs.declared.LookedUp.{LookedUp}
 use Rattle.fullname.specs.declared.LookedUp.the-variants.{Message as Is, NoMessage}
 use Rattle.request.specs.declared.name.Parted.{Parted}
@@ -29,6 +31,7 @@ use Rattle.request.specs.declared.name.Parted.the-variants.{Is as IsPart, NoPar
 use Rattle.request.specs.Tree.{Constants}
 use Rattle.request.specs.Name.{partAt, partsIn, afterParts}
 use Rattle.request.specs.Request.{constantOfField}
+use Rattle.optionform.specs.inner.Parts.{OptionParts}
 use Rattle.records.specs.Records.{encode}
 use Rattle.records.specs.Made.{Made, made, wrong}
 use Rattle.lookups.specs.Lookups.{Lookups, Message}
@@ -94,3 +97,18 @@ module _ (L : Lookups) (s r scope : List ℕ) where
 
 pub record StepLies (s : List ℕ) (v : Step) : Type 0 where
   pub lies : (d : Declaration) → v ≡ Found d → Lies (d .shape .path) s
+
+-- what stands behind a part: its header has three bytes
+pub record Behind (s : List ℕ) (from to : ℕ) (h : Shape) (at : ℕ) : Type 0 where
+  pub path : Lies (h .path) s
+  pub further : from + 3 ≤ at
+  pub within : at ≤ to
+
+pub record Entered (s r : List ℕ) (from to : ℕ) (h : Shape) (p : LookupScope) (at : ℕ) : Type 0 where
+  pub behind : Behind s from to h at
+  pub parts : OptionParts r at to
+  pub place : InSheet s p
+
+pub record Led (s r : List ℕ) (from to : ℕ) (v : Reach) : Type 0 where
+  pub constant : (h : Shape) (at : ℕ) → v ≡ Constant h at → Behind s from to h at
+  pub inside : (h : Shape) (p : LookupScope) (at : ℕ) → v ≡ Inside h p at → Entered s r from to h p at
