@@ -1,3 +1,5 @@
 pub mod StepLaws
 pub mod ReachLaws
 pub mod OptionLaws
+pub mod LedLaws
+pub mod PutLaws

@@ -22,6 +22,7 @@ use Rattle.steps.specs.declared.Step.the-variants.{Found, NotFound}
 use Rattle.steps.specs.declared.Reach.{Reach}
 use Rattle.steps.specs.declared.Reach.the-variants.{Constant, Inside, Nothing, Fails}
 use Rattle.steps.specs.Steps.{stepOf}
+use Rattle.steps.proofs.LedLaws.{led-nothing, led-step}
 use Rattle.steps.proofs.StepLaws.{step-path-ordered, step-path-within}
 use Rattle.steps.specs.inner.Written.{message, entered, leftOn, followed, behind, stepped, firstPart, reachOf}
 
@@ -87,4 +88,4 @@ module _ (L : Lookups) (s r scope n : List ℕ) (c : LookupScope) (from to : ℕ
   reach-led p g u e y o =
       o ∙ sym (reach-first ∙ ap (firstPart L s r scope (message n c) to) g ∙ ap (stepped L s r (p .name .to) to) (sym e))
 
-pub ruleset reach-laws = (reach-none, reach-led, fine-part-laws)
+pub ruleset reach-laws = (reach-none, reach-led, led-nothing, led-step, fine-part-laws)

@@ -10,12 +10,15 @@
 --         stepped a e v == what a part that came to v and ends at a place leads to
 --         reachOf m a e == what the part at a place leads to in the message m
 --          StepLies s v <-> the type path of the declaration that a part came to lies in the sheet s
+--   Steppable s r scope p a e i <-> the step can go over the parts from a place on, the i-th first: they are those of a fine option, the scope is
+--                            a path or empty, and the place p of the message reached lies in the sheet s
 --   Led s r a e v <-> what the part at a place leads to, v, stands further on, and lies in the sheet s and the request r
 --
 -- Assumes nothing.
-use Rattle.basis.specs.Kit.{_≡_, true, false, List, ℕ, _+_, _≤_, eqb, length}
+use Rattle.basis.specs.Kit.{_≡_, true, false, List, ℕ, _+_, _-_, _^_, _≤_, _<_, eqb, length}
 use Rattle.reply.specs.declared.Refusal.{Refusal}
 use Rattle.reply.specs.declared.Refusal.the-variants.{ExtensionIsNotMessage}
+use Rattle.path.specs.Path.{isRelOrEmpty}
 use Rattle.field.specs.Field.{fieldAt}
 use Rattle.field.specs.Leaf.{text, Lies}
 use Rattle.field.specs.Walk.{walk}
@@ -112,3 +115,11 @@ pub record Entered (s r : List ℕ) (from to : ℕ) (h : Shape) (p : LookupScope
 pub record Led (s r : List ℕ) (from to : ℕ) (v : Reach) : Type 0 where
   pub constant : (h : Shape) (at : ℕ) → v ≡ Constant h at → Behind s from to h at
   pub inside : (h : Shape) (p : LookupScope) (at : ℕ) → v ≡ Inside h p at → Entered s r from to h p at
+
+pub record Steppable (s r scope : List ℕ) (p : LookupScope) (from to part : ℕ) : Type 0 where
+  pub ordered : from ≤ to
+  pub within : to ≤ length r
+  pub parts : OptionParts r from to
+  pub path : isRelOrEmpty scope ≡ true
+  pub place : InSheet s p
+  pub few : part + (to - from) < 2 ^ 62

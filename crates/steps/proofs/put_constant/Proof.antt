@@ -1,0 +1,20 @@
+-- `steps::put_constant` meets its contract.
+-- Assumes nothing.
+use Rattle.steps.proofs.PutLaws.{constant-laws}
+use Rattle.basis.proofs.Kit.{needs}
+use Rattle.steps.proofs.put_constant.Statement.{statement}
+use Rattle.steps.proofs.put_constant.Tie as tie
+
+pub put-constant-spec : {M : Type 1} → statement M
+put-constant-spec = tie.close (tie.spec
+    (λ c κs. search (needs, constant-laws))
+    (λ c. search (needs, constant-laws))
+    (λ c. search (needs, constant-laws))
+    (λ c. search (needs, constant-laws))
+    (λ c κs. search (needs, constant-laws))
+    (λ c. search (needs, constant-laws))
+    (λ c. search (needs, constant-laws))
+    (λ c. search (needs, constant-laws))
+    (λ c. search (needs, constant-laws))
+    (λ c. search (needs, constant-laws))
+    (λ c. search (needs, constant-laws)))
