@@ -1,5 +1,5 @@
--- Look-ups as the option steps ask for them: a message and an enum by full name, an extension by a name in a scope. Steps, listing and query
--- hold for any look-ups; only the public contracts say that these walk over the sheet.
+-- Look-ups as the option steps ask for them: a message and an enum by full name, an extension by a name in a scope. Steps, listing and
+-- query hold for any look-ups; only the public contracts say that these walk over the sheet.
 --
 --              Lookups == what is found, whatever finds it
 --            walking s == the walk over the sheet s

@@ -3,7 +3,7 @@ ghost use Rattle.basis.specs.Kit.{_≡_, [], _∷_, _+_, _^_, _≤_, _<_, lengt
 ghost use mir.Syntax.{w32};
 ghost use mir.Val.{toZ};
 ghost use Rattle.octets.specs.Octets.{sameBytes, bigAt};
-ghost use Rattle.octets.specs.inner.Laid.{Laid};
+ghost use Rattle.octets.specs.inner.Laid.{Laid, Fitting};
 
 // A byte as a number.
 pub fn wide(b: u8) -> usize
@@ -89,15 +89,30 @@ pub fn put(out: &mut [u8], at: usize, b: u8)
     }
 }
 
-// All bytes of `src` from a place on, as far as there is room, and the place after them.
+// How many of n bytes there is room for from a place on.
+fn fitting(room: usize, at: usize, n: usize) -> usize
+    ensures { λ r. ⌜ Fitting room at n r ⌝ }
+{
+    if room <= at {
+        return 0;
+    }
+    let left = room - at;
+    if n <= left {
+        return n;
+    }
+    left
+}
+
+// All bytes of `src` from a place on, as far as there is room, and the place after them. Room is tested once, not at every byte.
 pub fn put_all(out: &mut [u8], at: usize, src: &[u8]) -> usize
     requires { ⌜ at + length (now src) < 2 ^ 64 ⌝ }
     ensures { λ r. ⌜ Laid (now (out .entry)) at (now (src .entry)) (now (out .exit)) r ⌝ }
 {
+    let n = fitting(out.len(), at, src.len());
     let mut i = 0;
-    while i < src.len() {
-        put(out, at + i, src[i]);
+    while i < n {
+        out[at + i] = src[i];
         i += 1;
     }
-    at + i
+    at + src.len()
 }

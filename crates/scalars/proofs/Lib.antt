@@ -1,0 +1,5 @@
+pub mod ScalarLaws
+pub mod ConstantLaws
+pub mod BodyLaws
+pub mod ReadLaws
+pub mod ScalarControls
