@@ -1,1 +1,5 @@
+pub mod RecsLaws
 pub mod RecordLaws
+pub mod MadeLaws
+pub mod EmitsLaws
+pub mod InsideLaws

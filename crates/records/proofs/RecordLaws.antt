@@ -1,9 +1,8 @@
 -- The laws of one record: the ways through the functions that write a number, a head, bytes or a body.
 -- Assumes nothing.
-use Rattle.basis.specs.Kit.{_≡_, refl, sym, List, _++_, ℕ, _+_, _^_, _≤_, _<_, length}
+use Rattle.basis.specs.Kit.{_≡_, List, _++_, ℕ, _+_, _^_, _≤_, _<_, length}
 use Rattle.basis.proofs.Kit.{arith, eq-eqb, ne-eqb}
 use mathlib.Core.List.{append-nil}
-use lib.ListN.{length-append}
 use Rattle.octets.specs.inner.Laid.{Laid}
 use Rattle.octets.proofs.Overlay.{laid-append}
 use Rattle.octets.proofs.Parts.{part-length}
@@ -20,6 +19,7 @@ use Rattle.records.specs.declared.Body.{Body}
 use Rattle.records.specs.declared.Body.the-variants.{Bits, Bytes}
 use Rattle.records.specs.Records.{recordOf, payload, headed, headOf, sized, encode}
 use Rattle.records.specs.inner.Emits.{InBody}
+use Rattle.records.proofs.RecsLaws.{head-few}
 
 -- ---- put_payload
 module _ (t v : ℕ) (l l′ : List ℕ) (at r w : ℕ) (p : w ≡ wireOf t) where
@@ -66,10 +66,6 @@ module _ (l m : List ℕ) (at p v : ℕ) (a : Laid l at (varint v) m p) where
 pub ruleset tag-laws = (tag-next, number-laid, head-laid)
 
 -- ---- put_bytes
-pub head-few : (n k : ℕ) → length (headOf n k) ≤ 20
-unfolding headOf
-head-few n k = rw length-append (omega (arith, varint-few (tagOf n LEN), varint-few k))
-
 module _ (l m : List ℕ) (at p n : ℕ) (bs : List ℕ) (a : Laid l at (headOf n (length bs)) m p) where
   pub bytes-next : at + length bs < 2 ^ 62 → p + length bs < 2 ^ 64
   bytes-next h = omega (arith, a .next, head-few n (length bs))

@@ -7,7 +7,8 @@ ghost use Rattle.records.specs.inner.Emits.{bytesMost, wroteOf, Emits, Roomy};
 ghost use Rattle.lookups.specs.Lookups.{walking};
 ghost use Rattle.scalars.specs.inner.Inside.{Inside};
 ghost use Rattle.values.specs.Values.{scalarMade};
-ghost use Rattle.values.specs.inner.Writers.{mostScalar, kindOf, heldAt, targetOf, valueMade, listMade, pairsMade, pairMade, messageMade};
+ghost use Rattle.values.specs.inner.Writers.{mostScalar, kindOf, heldAt, targetOf, valueMade, listMade, pairsMade, pairMade};
+ghost use Rattle.values.specs.inner.Writers.{messageMade};
 use field::Field;
 use fullname::LookedUp;
 use records::Wrote;
@@ -95,7 +96,8 @@ fn put_message(
     requires { ⌜ (from ≤ to) × (to ≤ length (now request)) ⌝ }
     requires { ⌜ Lies (shape .path) (now sheet) ⌝ }
     requires { ⌜ Roomy at (3 + (to - from)) (now request) ⌝ }
-    ensures { λ r. ⌜ Emits wroteOf (messageMade (walking (now (sheet .entry))) (now (sheet .entry)) (now (request .entry)) shape left from to)
+    ensures { λ r. ⌜ Emits wroteOf
+        (messageMade (walking (now (sheet .entry))) (now (sheet .entry)) (now (request .entry)) shape left from to)
         (bytesMost (3 + (to - from))) (now (out .entry)) at (now (out .exit)) r ⌝ }
 {
     if octets::wide(shape.typ) != TYPE_MESSAGE {
@@ -256,7 +258,8 @@ pub fn put_value(
     requires { ⌜ (from ≤ to) × (to ≤ length (now request)) ⌝ }
     requires { ⌜ Lies (shape .path) (now sheet) ⌝ }
     requires { ⌜ Roomy at (3 + (to - from)) (now request) ⌝ }
-    ensures { λ r. ⌜ Emits wroteOf (valueMade (walking (now (sheet .entry))) (now (sheet .entry)) (now (request .entry)) shape left tag from to)
+    ensures { λ r. ⌜ Emits wroteOf
+        (valueMade (walking (now (sheet .entry))) (now (sheet .entry)) (now (request .entry)) shape left tag from to)
         (bytesMost (3 + (to - from))) (now (out .entry)) at (now (out .exit)) r ⌝ }
 {
     let Held::Holds(c) = held_at(request, left, tag, from, to) else {
