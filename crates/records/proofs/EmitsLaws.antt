@@ -70,4 +70,5 @@ pub emits-more : {W A : Type 0} {answers : ℕ → Made W → A} {m : Made W} {j
     → Emits answers m k l at l′ y → k ≤ j → Emits answers m j l at l′ y
 emits-more k u h = record { answer = u .answer; left = u .left; few = λ x g. le-trans (u .few x g) h }
 
+-- a search over these wants the `Tells` of the writer's enum in its list too
 pub ruleset emits-laws = (emits-next, emits-refused, refuses, emits-laid, writes-none, emits-more)

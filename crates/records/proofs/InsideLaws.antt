@@ -83,5 +83,6 @@ module _ (z l : List ℕ) (empty : length z ≡ 0) where
     pub inside-kept : (m′ : List ℕ) → length m′ ≡ length m → length m′ ≡ length l
     inside-kept m′ r = omega (arith, length-append z l)
 
+-- a search over these wants the `Tells` of the writer's enum in its list too
 pub ruleset inside-laws =
     (inside-refused, inside-write, inside-skip, inside-room, inside-fits, measure-room, at-place, back-kept, head-kept, inside-kept)

@@ -1,6 +1,6 @@
 -- The laws of one record: the ways through the functions that write a number, a head, bytes or a body.
 -- Assumes nothing.
-use Rattle.basis.specs.Kit.{_≡_, List, _++_, ℕ, _+_, _^_, _≤_, _<_, length}
+use Rattle.basis.specs.Kit.{_≡_, sym, _∙_, List, _++_, ℕ, _+_, _^_, _≤_, _<_, length}
 use Rattle.basis.proofs.Kit.{arith, eq-eqb, ne-eqb}
 use mathlib.Core.List.{append-nil}
 use Rattle.octets.specs.inner.Laid.{Laid}
@@ -20,35 +20,31 @@ use Rattle.records.specs.declared.Body.the-variants.{Bits, Bytes}
 use Rattle.records.specs.Records.{recordOf, payload, headed, headOf, sized, encode}
 use Rattle.records.specs.inner.Emits.{InBody}
 use Rattle.records.proofs.RecsLaws.{head-few}
+use Rattle.records.proofs.PayloadLaws.{onType, payload-four, payload-eight, payload-varint}
 
 -- ---- put_payload
 module _ (t v : ℕ) (l l′ : List ℕ) (at r w : ℕ) (p : w ≡ wireOf t) where
-  pub payload-four : w ≡ I32 → (x : ℕ) → x ≡ low32Of v → Laid l at (littleOf 4 x) l′ r → Laid l at (payload t v) l′ r
-  unfolding payload
-  payload-four h x e a = simp (payload, ← p, eq-eqb w I32 h, ← e) a
+  pub four-laid : w ≡ I32 → (x : ℕ) → x ≡ low32Of v → Laid l at (littleOf 4 x) l′ r → Laid l at (payload t v) l′ r
+  four-laid h x e a = rw (payload-four t v (sym p ∙ h), ← e) a
 
-  module _ (d : w ≡ I32 → ⊥) where
-    pub payload-eight : w ≡ I64 → Laid l at (littleOf 8 v) l′ r → Laid l at (payload t v) l′ r
-    unfolding payload
-    payload-eight h a = simp (payload, ← p, ne-eqb w I32 d, eq-eqb w I64 h) a
+  pub eight-laid : w ≡ I64 → Laid l at (littleOf 8 v) l′ r → Laid l at (payload t v) l′ r
+  eight-laid h a = rw (payload-eight t v (sym p ∙ h)) a
 
-    module _ (f : w ≡ I64 → ⊥) where
-      pub payload-sint32 : t ≡ TYPE_SINT32 → (x : ℕ) → x ≡ zigzagOf v → Laid l at (varint x) l′ r → Laid l at (payload t v) l′ r
-      unfolding payload
-      payload-sint32 h x e a = simp (payload, ← p, ne-eqb w I32 d, ne-eqb w I64 f, isAny, eq-eqb t TYPE_SINT32 h, ← e) a
+  module _ (d : w ≡ I32 → ⊥) (f : w ≡ I64 → ⊥) where
+    varint-laid : (x : ℕ) → x ≡ onType t v → Laid l at (varint x) l′ r → Laid l at (payload t v) l′ r
+    varint-laid x e a = rw (payload-varint t v (λ g. d (p ∙ g)) (λ g. f (p ∙ g)), ← e) a
 
-      module _ (g : t ≡ TYPE_SINT32 → ⊥) where
-        pub payload-sint64 : t ≡ TYPE_SINT64 → (x : ℕ) → x ≡ zigzagOf v → Laid l at (varint x) l′ r → Laid l at (payload t v) l′ r
-        unfolding payload
-        payload-sint64 h x e a =
-            simp (payload, ← p, ne-eqb w I32 d, ne-eqb w I64 f, isAny, ne-eqb t TYPE_SINT32 g, eq-eqb t TYPE_SINT64 h, ← e) a
+    module _ (x : ℕ) (e : x ≡ zigzagOf v) (a : Laid l at (varint x) l′ r) where
+      pub sint32-laid : t ≡ TYPE_SINT32 → Laid l at (payload t v) l′ r
+      sint32-laid h = varint-laid x (simp (onType, isAny, eq-eqb t TYPE_SINT32 h) e) a
 
-        pub payload-varint : (t ≡ TYPE_SINT64 → ⊥) → Laid l at (varint v) l′ r → Laid l at (payload t v) l′ r
-        unfolding payload
-        payload-varint h a =
-            simp (payload, ← p, ne-eqb w I32 d, ne-eqb w I64 f, isAny, ne-eqb t TYPE_SINT32 g, ne-eqb t TYPE_SINT64 h) a
+      pub sint64-laid : t ≡ TYPE_SINT64 → Laid l at (payload t v) l′ r
+      sint64-laid h = varint-laid x (rw h e) a
 
-pub ruleset payload-laws = (payload-four, payload-eight, payload-sint32, payload-sint64, payload-varint)
+    pub plain-laid : (t ≡ TYPE_SINT32 → ⊥) → (t ≡ TYPE_SINT64 → ⊥) → Laid l at (varint v) l′ r → Laid l at (payload t v) l′ r
+    plain-laid g h a = varint-laid v (simp (onType, isAny, ne-eqb t TYPE_SINT32 g, ne-eqb t TYPE_SINT64 h)) a
+
+pub ruleset payload-laws = (four-laid, eight-laid, sint32-laid, sint64-laid, plain-laid)
 
 -- ---- put_number and put_head: a tag, and what follows it
 module _ (l m : List ℕ) (at p v : ℕ) (a : Laid l at (varint v) m p) where

@@ -1,18 +1,15 @@
 -- Records one after the other, and how many bytes they have.
 -- Assumes nothing.
-use Rattle.basis.specs.Kit.{_≡_, refl, ap, Bool, true, false, List, [], _∷_, _++_, ℕ, _+_, _≤_, eqb, length}
+use Rattle.basis.specs.Kit.{_≡_, refl, ap, List, _++_, ℕ, _+_, _≤_, length}
 use Rattle.basis.proofs.Kit.{arith}
 use mathlib.Core.List.{append-nil, append-assoc}
 use lib.ListN.{length-append}
 use Rattle.limits.specs.Figures.{mostVarint}
-use Rattle.types.specs.Types.{isAny, wireOf, I32, I64, LEN, TYPE_SINT32, TYPE_SINT64}
-use Rattle.varint.specs.Varint.{varint}
+use Rattle.types.specs.Types.{wireOf, LEN}
 use Rattle.varint.proofs.VarintLaws.{varint-few}
-use Rattle.wire.specs.Fixed.{littleOf}
-use Rattle.wire.specs.Numbers.{zigzagOf, low32Of}
 use Rattle.wire.specs.Tag.{tagOf}
-use Rattle.wire.proofs.FixedLaws.{little-of-length}
-use Rattle.records.specs.Records.{Recs, nil, number, bytes, message, append, payload, headOf, encode}
+use Rattle.records.specs.Records.{Recs, nil, number, bytes, message, append, headOf, encode}
+use Rattle.records.proofs.PayloadLaws.{payload-few}
 
 pub append-nil-right : (a : Recs) → append a nil ≡ a
 append-nil-right nil = refl
@@ -37,19 +34,6 @@ encode-append (message n i r) b = simp (encode-append r b, append-assoc)
 pub head-few : (n k : ℕ) → length (headOf n k) ≤ 20
 unfolding headOf
 head-few n k = rw length-append (omega (arith, varint-few (tagOf n LEN), varint-few k))
-
-pub payload-few : (t v : ℕ) → length (payload t v) ≤ mostVarint
-unfolding payload
-payload-few t v = go (eqb (wireOf t) I32) (eqb (wireOf t) I64) (isAny t (TYPE_SINT32 ∷ TYPE_SINT64 ∷ []))
-  where
-    go : (x y z : Bool) → length {A = ℕ} (elim x [
-      | true ↦ littleOf 4 (low32Of v)
-      | false ↦ elim y [ true ↦ littleOf 8 v | false ↦ elim z [ true ↦ varint (zigzagOf v) | false ↦ varint v ] ]
-    ]) ≤ mostVarint
-    go true y z = omega (arith, little-of-length 4 (low32Of v))
-    go false true z = omega (arith, little-of-length 8 v)
-    go false false true = varint-few (zigzagOf v)
-    go false false false = varint-few v
 
 -- a record by itself
 module _ (n : ℕ) where

@@ -24,7 +24,7 @@ module _ (w : ℕ) (h : 8 ≤ w) where
   wire-read-not : wireRead w ≡ false
   wire-read-not = rw (eqb-below 0 (omega arith), eqb-below 1 (omega arith), eqb-below 2 (omega arith), eqb-below 5 (omega arith))
 
-wire-read-lt : (w : ℕ) → wireRead w ≡ true → w < 8
+pub wire-read-lt : (w : ℕ) → wireRead w ≡ true → w < 8
 wire-read-lt w r = elim (decLt w 8) [
   | yes h ↦ h
   | no h ↦ absurd (false≢true (sym (wire-read-not w (omega arith)) ∙ r))
