@@ -36,7 +36,7 @@ use Rattle.builtins.specs.declared.Built.{Built}
 use Rattle.builtins.specs.declared.Built.the-variants.{Skipped, Sets, Wrong}
 use Rattle.builtins.specs.Builtins.{repeated, isSkipped, builtOf, builtinOn, builtinField, builtinOf, builtRecs}
 use Rattle.builtins.specs.inner.Inside.{InBuilt}
-use Rattle.builtins.proofs.BuiltinLaws.{plain, held-plain, held-other}
+use Rattle.builtins.proofs.BuiltinLaws.{plain, inside, held-plain, held-other}
 
 -- ---- put_builtin
 module _ (r : List ℕ) (x : Built) where
@@ -76,9 +76,9 @@ module _ (L : Lookups) (s r : List ℕ) (h : Shape) (b : Body) where
       go false p = let o : unsupported ≡ Fits b = held-other L s r h inner c p ∙ q in never cc
 
   on-read : (t a e : ℕ) (v : Held) → v ≡ constantOf r t a e
-      → builtinOn L s r h (ifHeld (constantIn 15 r) r unnamed noConstant v) ≡ Fits b → Read L s r h t a e b
+      → builtinOn L s r h (ifHeld (inside r) r unnamed noConstant v) ≡ Fits b → Read L s r h t a e b
   on-read t a e NoConstant q g = never cc
-  on-read t a e (Holds c) q g = record { constant = c; held = q; fits = sym (held-fits (constantIn 15 r) c g) }
+  on-read t a e (Holds c) q g = record { constant = c; held = q; fits = sym (held-fits (inside r) c g) }
 
   module _ (k : Constants) where
     shape-sets : (x : Shape) (y : Scalar) → builtOf x y ≡ Sets h b → (x ≡ h) × (y ≡ Fits b)
@@ -136,3 +136,5 @@ module _ (L : Lookups) (s r : List ℕ) (m : Message) (n : List ℕ) (t a e : �
   built-few Skipped q = omega arith
   built-few (Wrong w) q = omega arith
   built-few (Sets h b) q = read-few L s r h t a e b (read-of h b q)
+
+pub ruleset built-laws = (built-inside, built-few)

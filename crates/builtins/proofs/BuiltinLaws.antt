@@ -1,6 +1,6 @@
 -- Builtins, over any look-ups: the ways through the functions that say what a constant on one comes to.
 -- Assumes nothing.
-use Rattle.basis.specs.Kit.{_≡_, refl, sym, ap, _∙_, Bool, true, false, _&&_, _||_, List, [], _∷_, some, ℕ, eqb}
+use Rattle.basis.specs.Kit.{_≡_, refl, sym, ap, _∙_, Bool, true, false, _&&_, _||_, List, [], _∷_, some, ℕ, _-_, eqb}
 use Rattle.basis.proofs.Kit.{eq-eqb, ne-eqb}
 use Rattle.octets.specs.Octets.{sameBytes}
 use Rattle.octets.specs.Ascii.{ascii}
@@ -54,6 +54,10 @@ plain-is t = go (eqb t TYPE_BOOL) (eqb t TYPE_ENUM) (eqb t TYPE_STRING)
     go false false false = refl
 
 -- ---- builtin_on
+-- what reads the constants that the outermost one holds
+abbrev pub inside : List ℕ → ConstantReader
+inside r = constantIn (mostConstants - 1) r
+
 module _ (L : Lookups) (s r : List ℕ) (h : Shape) where
   pub held-plain : (inner : ConstantReader) (c : Constant) → isAny (h .typ) plain ≡ true
       → scalarOn L s r UnsupportedExtensionType h c ≡ builtinOn L s r h (grown inner r unnamed noConstant c)
@@ -79,28 +83,27 @@ module _ (L : Lookups) (s r : List ℕ) (h : Shape) where
   held-other inner (ListOf p) e = refl
 
   module _ (t a e : ℕ) (v : Held) (q : v ≡ constantOf r t a e) where
-    -- the outermost constant, with all levels but one left
-    on-held : builtinOn L s r h (ifHeld (constantIn 15 r) r unnamed noConstant v)
+    on-held : builtinOn L s r h (ifHeld (inside r) r unnamed noConstant v)
         ≡ builtinOn L s r h (constantIn mostConstants r unnamed t a e noConstant)
-    on-held = ap (λ u. builtinOn L s r h (ifHeld (constantIn 15 r) r unnamed noConstant u)) q
+    on-held = ap (λ u. builtinOn L s r h (ifHeld (inside r) r unnamed noConstant u)) q
 
     pub on-none : v ≡ NoConstant → Misfit UnsupportedExtensionType ≡ builtinOn L s r h (constantIn mostConstants r unnamed t a e noConstant)
-    on-none g = sym (ap (λ u. builtinOn L s r h (ifHeld (constantIn 15 r) r unnamed noConstant u)) g) ∙ on-held
+    on-none g = sym (ap (λ u. builtinOn L s r h (ifHeld (inside r) r unnamed noConstant u)) g) ∙ on-held
 
     module _ (c : Constant) (g : v ≡ Holds c) (k : ℕ) (o : k ≡ h .typ) (b : Bool) (p : b ≡ isAny k plain) where
       plain-type : isAny (h .typ) plain ≡ b
       plain-type = rw (← o) (sym p)
 
-      held-on : builtinOn L s r h (grown (constantIn 15 r) r unnamed noConstant c)
+      held-on : builtinOn L s r h (grown (inside r) r unnamed noConstant c)
           ≡ builtinOn L s r h (constantIn mostConstants r unnamed t a e noConstant)
-      held-on = sym (ap (λ u. builtinOn L s r h (ifHeld (constantIn 15 r) r unnamed noConstant u)) g) ∙ on-held
+      held-on = sym (ap (λ u. builtinOn L s r h (ifHeld (inside r) r unnamed noConstant u)) g) ∙ on-held
 
       pub on-plain : b ≡ true → (x : Scalar) → x ≡ scalarOn L s r UnsupportedExtensionType h c
           → x ≡ builtinOn L s r h (constantIn mostConstants r unnamed t a e noConstant)
-      on-plain d x y = y ∙ held-plain (constantIn 15 r) c (plain-type ∙ d) ∙ held-on
+      on-plain d x y = y ∙ held-plain (inside r) c (plain-type ∙ d) ∙ held-on
 
       pub on-other : b ≡ false → Misfit UnsupportedExtensionType ≡ builtinOn L s r h (constantIn mostConstants r unnamed t a e noConstant)
-      on-other d = held-other (constantIn 15 r) c (plain-type ∙ d) ∙ held-on
+      on-other d = held-other (inside r) c (plain-type ∙ d) ∙ held-on
 
 pub ruleset on-laws = (on-none, on-plain, on-other, read-inside)
 
