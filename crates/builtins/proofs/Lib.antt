@@ -1,0 +1,3 @@
+pub mod BuiltinLaws
+pub mod BuiltLaws
+pub mod BuiltinControls

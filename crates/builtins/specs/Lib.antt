@@ -1,1 +1,2 @@
 pub mod Builtins
+pub mod inner

@@ -1,0 +1,5 @@
+pub mod NoteLaws
+pub mod KnownLaws
+pub mod NotedLaws
+pub mod WritingLaws
+pub mod KnownControls

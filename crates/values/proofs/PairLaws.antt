@@ -276,8 +276,8 @@ module _ (L : Lookups) (s r : List ℕ) (c : LookupScope) (d from to : ℕ) wher
 
         pub pairs-falls : (n : ℕ) → 4 * (to - from) ≡ n → 4 * (z .constant .to - z .constant .from) + 4 < n
         pairs-falls n o =
-            let b = front-less v (pairsOf L s r c d) r from to i l m at p k (z .constant .to - z .constant .from) (z .constant .to) pair-header
-            (pair-constant-inside r i to x q z g) in
+            let b = front-less v (pairsOf L s r c d) r from to i l m at p k (z .constant .to - z .constant .from) (z .constant .to)
+            pair-header (pair-constant-inside r i to x q z g) in
             omega arith
 
         module _ (m′ : List ℕ) (y : Wrote)

@@ -1,5 +1,5 @@
--- The six writers of constants, which call each other, meet their contracts. The measure is four times the bytes of constant, and one, two,
--- three or four more.
+-- The six writers of constants, which call each other, meet their contracts. The measure is four times the bytes of constant, and up
+-- to four more, so that it falls where the same bytes are handed on.
 -- Assumes nothing.
 use Rattle.basis.specs.Kit.{ℕ, _+_, _-_, _*_, _<_}
 use Rattle.basis.proofs.Kit.{needs}
@@ -106,14 +106,16 @@ put-value-below t =
 
 abbrev put-list-Inv-loop : put-list-lts.InvT-loop
 put-list-Inv-loop sheet request shape from to left out₀ at p₀ i₀ out p i =
-    Front (listMade (walking sheet) sheet request shape left from to) (listOf (walking sheet) sheet request shape left) request from to i out₀ out at p
+    Front (listMade (walking sheet) sheet request shape left from to) (listOf (walking sheet) sheet request shape left)
+    request from to i out₀ out at p
 
 abbrev put-list-μ-loop : put-list-lts.MeasureT-loop
 put-list-μ-loop sheet request shape from to left out₀ at p₀ i₀ out p i = to - i
 
 abbrev put-pairs-Inv-loop : put-pairs-lts.InvT-loop
 put-pairs-Inv-loop sheet request scope from to left out₀ at p₀ i₀ out p i =
-    Front (pairsMade (walking sheet) sheet request scope left from to) (pairsOf (walking sheet) sheet request scope left) request from to i out₀ out at p
+    Front (pairsMade (walking sheet) sheet request scope left from to) (pairsOf (walking sheet) sheet request scope left)
+    request from to i out₀ out at p
 
 abbrev put-pairs-μ-loop : put-pairs-lts.MeasureT-loop
 put-pairs-μ-loop sheet request scope from to left out₀ at p₀ i₀ out p i = to - i
