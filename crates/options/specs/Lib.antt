@@ -1,2 +1,1 @@
 pub mod Options
-pub mod inner

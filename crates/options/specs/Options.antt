@@ -1,71 +1,28 @@
 -- What the options of a request come to in the options message, from 01's "Option steps".
 --
---                Settled == what one option comes to: a builtin that is set, other records, or a fault
---         builtinPart ps == the part that is the whole name of a builtin
---               settle o == what the option o comes to
---               Gathered == what the options come to: the known builtins and the other records, or the first fault and its place
---             stopAt i f == the fault f of the i-th option
---     gather i ks x os == the options os, the i-th first, after the known builtins ks and the other records x
+--           Gathered == what the options come to: the known builtins and the other records, or the first refusal and its place
+--   gather i ks x os == the options os, the i-th first, after the known builtins ks and the other records x
 --
 -- Assumes nothing.
-use Rattle.basis.specs.Kit.{List, [], _∷_, Option, none, some, ℕ, _+_}
-use Rattle.basis.specs.First.{onlyIf, told}
-use Rattle.field.specs.Leaf.{text}
-use Rattle.request.specs.declared.name.Part.{Part}
-use Rattle.request.specs.Request as tree
-use Rattle.records.specs.Records.{Recs, nil, append, recordOf}
-use Rattle.records.specs.Made.{Made, made, wrong}
+use Rattle.basis.specs.Kit.{List, [], _∷_, ℕ, _+_}
+use Rattle.request.specs.Request.{Option}
+use Rattle.records.specs.Records.{Recs, append}
 use Rattle.lookups.specs.Lookups.{Lookups, Message}
 use Rattle.known.specs.Known.{Known, setKnown}
-use Rattle.steps.specs.declared.Fault.{Fault}
-use Rattle.steps.specs.Steps.{faultAt, optionFrom}
-use Rattle.builtins.specs.declared.Built.{Built}
-use Rattle.builtins.specs.declared.Built.the-variants.{Skipped, Sets, Wrong}
-use Rattle.builtins.specs.Builtins.{builtinOf}
-use Rattle.options.specs.declared.Stop.{Stop}
-use Rattle.options.specs.declared.Place.the-variants.{Inside}
-
--- ---- one option
-pub data Settled : Type 0 where
-  known : Known → Settled
-  others : Recs → Settled
-  fails : Fault → Settled
-
-abbrev pub settledBuilt : (request : List ℕ) → Built → Settled
-settledBuilt r Skipped = others nil
-settledBuilt r (Sets h b) = known (record { field = h .number; made = recordOf r h b })
-settledBuilt r (Wrong w) = fails (faultAt 0 w)
-
-abbrev pub settled : Made Fault → Settled
-settled (made x) = others x
-settled (wrong f) = fails f
-
--- "A single direct part is a builtin."
-abbrev pub builtinPart : List Part → Option Part
-builtinPart [] = none
-builtinPart (p ∷ []) = onlyIf (p .extension) none (some p)
-builtinPart (p ∷ q ∷ ps) = none
+use Rattle.settle.specs.declared.Stop.{Stop}
+use Rattle.settle.specs.Settle.{Settled, known, others, fails, stopAt, settle}
 
 pub data Gathered : Type 0 where
   gathered : (knowns : List Known) (rest : Recs) → Gathered
   stopped : Stop → Gathered
 
-abbrev pub stopAt : (option : ℕ) → Fault → Stop
-stopAt i f = record { place = Inside i (f .part); why = f .why }
+-- "Otherwise options go in order and the first refused option ends the work."
+abbrev pub next : (option : ℕ) → List Known → Recs → Settled → (List Known → Recs → Gathered) → Gathered
+next i ks x (known k) f = f (setKnown k ks) x
+next i ks x (others y) f = f ks (append x y)
+next i ks x (fails e) f = stopped (stopAt i e)
 
 module _ (L : Lookups) (s r scope : List ℕ) (m : Message) where
-  -- "Other names resolve the first part in the options message"
-  unfoldable pub settle : tree.Option → Settled
-  settle o =
-      told (settled (optionFrom L s r scope 0 m (o .parts) (o .constant)))
-      (λ p. settledBuilt r (builtinOf L s r m (text r (p .name)) (o .constant))) (builtinPart (o .parts))
-
-  -- "Otherwise options go in order and the first refused option ends the work."
-  abbrev pub next : (option : ℕ) → List Known → Recs → Settled → (List Known → Recs → Gathered) → Gathered
-  next i ks x (known k) f = f (setKnown k ks) x
-  next i ks x (others y) f = f ks (append x y)
-  next i ks x (fails e) f = stopped (stopAt i e)
-
-  abbrev pub gather : (option : ℕ) → List Known → Recs → List tree.Option → Gathered
+  abbrev pub gather : (option : ℕ) → List Known → Recs → List Option → Gathered
   gather i ks x [] = gathered ks x
-  gather i ks x (o ∷ os) = next i ks x (settle o) λ ks′ x′. gather (i + 1) ks′ x′ os
+  gather i ks x (o ∷ os) = next i ks x (settle L s r scope m o) λ ks′ x′. gather (i + 1) ks′ x′ os

@@ -3,7 +3,7 @@
 use Rattle.basis.specs.Kit.{List, ℕ}
 use lib.Ieee.{span, climb, size, odd, units, round, ofInt, ofFields, ofBits, nanBits, toBits}
 use Rattle.reply.specs.Reply.{number, second}
-use Rattle.options.specs.declared.Place.{Place}
+use Rattle.settle.specs.declared.Place.{Place}
 use Rattle.lookups.specs.Lookups.{walking}
 use Rattle.octets.specs.Octets.{sameBytes, bigAt}
 use Rattle.field.specs.Field.{fieldAt}
@@ -33,7 +33,7 @@ use Rattle.scalars.specs.Scalars.{scalarOn}
 use Rattle.values.specs.Values.{scalarMade}
 use Rattle.steps.specs.Steps.{stepOf}
 use Rattle.builtins.specs.Builtins.{isSkipped, builtinOf}
-use Rattle.options.specs.Options.{settle}
+use Rattle.settle.specs.Settle.{settle}
 use Rattle.resolver.specs.Resolve.{Steps, records, absent as none, refused as refusedFor, stepsOf, resolvingBy, resolving}
 use Rattle.declform.specs.Declarations.{goodTypePath, goodShape, goodField, isField, isExtension, isValue}
 use Rattle.messageform.specs.Form.{judgeValue, judgeEnum, judgeItem, judgeItems}

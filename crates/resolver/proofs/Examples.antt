@@ -5,7 +5,7 @@ use mathlib.Core.List.{List, [], _∷_, _++_, map}
 use Prim.Native.Nat.{ℕ}
 use Prim.Native.String.{String}
 use Rattle.octets.specs.Ascii.{ascii}
-use Rattle.options.specs.declared.Place.the-variants.{Nowhere, Inside}
+use Rattle.settle.specs.declared.Place.the-variants.{Nowhere, Inside}
 use Rattle.resolver.proofs.Asking.{Example, asks, bytes, absent, refused, answer, stepped}
 use Rattle.resolver.proofs.Sheets.{file, message, extension, extensionTo, field, fieldTo, fieldWith, value, enum}
 use Rattle.resolver.proofs.Sheets.{request, option, direct, ext, boolean, unsigned, signed, float, string, ident, messageOf}

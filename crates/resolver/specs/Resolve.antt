@@ -25,8 +25,8 @@ use Rattle.request.specs.Request.{Option, Request, requestOf}
 use Rattle.records.specs.Records.{Recs, nil, append, encode}
 use Rattle.lookups.specs.Lookups.{Lookups, walking}
 use Rattle.known.specs.Known.{knownRecs}
-use Rattle.options.specs.declared.Stop.{Stop}
-use Rattle.options.specs.declared.Place.the-variants.{Nowhere}
+use Rattle.settle.specs.declared.Stop.{Stop}
+use Rattle.settle.specs.declared.Place.the-variants.{Nowhere}
 use Rattle.options.specs.Options.{Gathered, gathered, stopped, gather}
 
 abbrev pub nowhere : Refusal → Stop

@@ -1,3 +1,0 @@
--- What the loops over the options ask and leave.
---
--- Assumes nothing.
