@@ -86,7 +86,7 @@ module _ {A : Type 0} where
   empty-front [] l h = refl
   empty-front (x ∷ z) l h = absurd (omega arith)
 
-  sets-front : (es l : List A) → length es ≤ length l → sets l 0 es ≡ es ++ drop (length es) l
+  pub sets-front : (es l : List A) → length es ≤ length l → sets l 0 es ≡ es ++ drop (length es) l
   sets-front es l h = sets-eq es l 0 (rw zero-add h) ∙ ap (λ n. es ++ drop n l) (zero-add (length es))
 
   -- the room that was lent to measure was empty, so it came back as it was

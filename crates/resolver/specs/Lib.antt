@@ -1,2 +1,2 @@
 pub mod Resolve
-pub mod Levels
+pub mod inner

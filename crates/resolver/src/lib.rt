@@ -1,1 +1,199 @@
-// Top.
+// The call `resolve`: of a sheet and a request the bytes of its options. What there is to write is measured first, in no room, which finds
+// every refusal and the length; then it is written, so that a refusal writes nothing and NoRoom comes last.
+ghost use Rattle.basis.specs.Kit.{_≡_, _≤_, length};
+ghost use Rattle.limits.specs.Figures.{mostOptions, mostRequest};
+ghost use Rattle.reply.specs.declared.Verdict.the-variants.{Fine};
+ghost use Rattle.reply.specs.Outcome.{Answered};
+ghost use Rattle.requestform.specs.Form.{judgeRequest};
+ghost use Rattle.lookups.specs.Lookups.{walking};
+ghost use Rattle.settle.specs.inner.Settling.{Started};
+ghost use Rattle.options.specs.inner.Gathering.{gatheredBy, FineFrom};
+ghost use Rattle.resolver.specs.Resolve.{nowhere as nowhereOf, stepsIn, stepsOf, outcomeOf, resolving, resolvingTested, resolveBytes, resolveTested};
+ghost use Rattle.resolver.specs.inner.Measuring.{judgedOf, Opens, Ready, Measures};
+use fullname::LookedUp;
+use limits::MOST_OPTIONS;
+use options::gather;
+use options::put_known;
+use reply::Answer;
+use reply::Refusal;
+use reply::Verdict;
+use request::heading::Headed;
+use request::heading::heading_of;
+use settle::Place;
+use settle::Settling;
+use settle::Start;
+use settle::Stop;
+
+// The verdict without room: how many bytes there are to write, Absent, or why the request is refused, and where.
+pub enum Judged {
+    Fine(usize),
+    Absent,
+    Refused(Stop),
+}
+
+// What the options start with, if there are any and the options type is found.
+pub enum Opening {
+    At(Start),
+    Absent,
+    Refused(Stop),
+}
+
+// What there is to write: how many options there are, and the bytes of the known builtins and of the others.
+pub struct Measured {
+    pub start: Start,
+    pub count: usize,
+    pub known: usize,
+    pub others: usize,
+}
+
+// The verdict, with what was measured.
+pub enum Measure {
+    Fine(Measured),
+    Absent,
+    Refused(Stop),
+}
+
+// This refusal, nowhere in the request.
+fn nowhere(why: Refusal) -> Stop
+    ensures { λ r. ⌜ r ≡ nowhereOf why ⌝ }
+{
+    Stop {
+        place: Place::Nowhere,
+        why: why,
+    }
+}
+
+// What the options of a fine request start with.
+fn open(sheet: &[u8], request: &[u8]) -> Opening
+    requires { ⌜ judgeRequest (now request) ≡ Fine ⌝ }
+    ensures { λ r. ⌜ Opens (now (sheet .entry)) (now (request .entry)) r ⌝ }
+{
+    let Headed::Heads(heading) = heading_of(request) else {
+        return Opening::Absent;
+    };
+    if request.len() <= heading.options {
+        return Opening::Absent;
+    }
+    let from = heading.options_type.from;
+    let to = heading.options_type.to;
+    match lookups::message(sheet, &request[from..to]) {
+        LookedUp::NoMessage(why) => Opening::Refused(nowhere(why)),
+        LookedUp::Message(place) => Opening::At(Start {
+            scope: heading.scope,
+            options_type: heading.options_type,
+            options: heading.options,
+            place: place,
+        }),
+    }
+}
+
+// The options measured, in the room `none`, which is empty.
+fn measure_from(
+    sheet: &[u8],
+    request: &[u8],
+    start: Start,
+    notes: &mut [usize],
+    none: &mut [u8],
+) -> Measure
+    requires { ⌜ Started (now sheet) (now request) start ⌝ }
+    requires { ⌜ FineFrom (now request) start ⌝ }
+    requires { ⌜ mostOptions ≤ length (now notes) ⌝ }
+    requires { ⌜ length (now request) ≤ mostRequest ⌝ }
+    ensures { λ r. ⌜ Measures (now (sheet .entry)) (now (request .entry))
+        (stepsIn (gatheredBy (walking (now (sheet .entry))) (now (sheet .entry)) (now (request .entry)) start)) (now (notes .exit)) r ⌝ }
+{
+    match gather(sheet, request, start, notes, none, 0) {
+        Settling::Fails(stop) => Measure::Refused(stop),
+        Settling::Gives {
+            note: count,
+            next: others,
+        } => {
+            let known = put_known(sheet, request, start, notes, count, none, 0);
+            Measure::Fine(Measured {
+                start: start,
+                count: count,
+                known: known,
+                others: others,
+            })
+        }
+    }
+}
+
+// The verdict on a fine request, before anything is written.
+fn measure_all(sheet: &[u8], request: &[u8], notes: &mut [usize], none: &mut [u8]) -> Measure
+    requires { ⌜ judgeRequest (now request) ≡ Fine ⌝ }
+    requires { ⌜ mostOptions ≤ length (now notes) ⌝ }
+    ensures { λ r. ⌜ Measures (now (sheet .entry)) (now (request .entry)) (stepsOf (walking (now (sheet .entry))) (now (sheet .entry)) (now (request .entry)))
+        (now (notes .exit)) r ⌝ }
+{
+    match open(sheet, request) {
+        Opening::Absent => Measure::Absent,
+        Opening::Refused(stop) => Measure::Refused(stop),
+        Opening::At(start) => measure_from(sheet, request, start, notes, none),
+    }
+}
+
+// What was measured, written: the known builtins first, then the others in order of writing.
+fn write(
+    sheet: &[u8],
+    request: &[u8],
+    measured: Measured,
+    notes: &mut [usize],
+    out: &mut [u8],
+) -> Answer
+    requires { ⌜ Ready (now sheet) (now request) (now notes) measured ⌝ }
+    requires { ⌜ mostOptions ≤ length (now notes) ⌝ }
+    requires { ⌜ length (now request) ≤ mostRequest ⌝ }
+    ensures { λ r. ⌜ Answered (outcomeOf (stepsIn (gatheredBy (walking (now (sheet .entry))) (now (sheet .entry)) (now (request .entry)) (measured .start))))
+        (now (out .entry)) (now (out .exit)) r ⌝ }
+{
+    let length = measured.known + measured.others;
+    if out.len() < length {
+        return reply::refused(Refusal::NoRoom);
+    }
+    let start = measured.start;
+    let next = put_known(sheet, request, start, notes, measured.count, out, 0);
+    gather(sheet, request, start, notes, out, next);
+    reply::done(length as u32)
+}
+
+// The answer for a fine request.
+fn resolve_over(sheet: &[u8], request: &[u8], notes: &mut [usize], out: &mut [u8]) -> Answer
+    requires { ⌜ judgeRequest (now request) ≡ Fine ⌝ }
+    requires { ⌜ mostOptions ≤ length (now notes) ⌝ }
+    ensures { λ r. ⌜ Answered (outcomeOf (stepsOf (walking (now (sheet .entry))) (now (sheet .entry)) (now (request .entry))))
+        (now (out .entry)) (now (out .exit)) r ⌝ }
+{
+    match measure_all(sheet, request, notes, &mut out[..0]) {
+        Measure::Absent => reply::absent(),
+        Measure::Refused(stop) => {
+            let why = stop.why;
+            reply::refused(why)
+        }
+        Measure::Fine(measured) => write(sheet, request, measured, notes, out),
+    }
+}
+
+// As `resolve`, of a sheet whose form was tested before, for whoever asks many times of one sheet: of that its length alone is tested here.
+pub fn resolve_tested(sheet: &[u8], request: &[u8], out: &mut [u8]) -> Answer
+    ensures { λ r. ⌜ Answered (resolveTested (now (sheet .entry)) (now (request .entry))) (now (out .entry)) (now (out .exit)) r ⌝ }
+{
+    if let Verdict::Refused(why) = sheetform::check_length(sheet) {
+        return reply::refused(why);
+    }
+    if let Verdict::Refused(why) = requestform::check_request(request) {
+        return reply::refused(why);
+    }
+    let mut notes = [0usize; MOST_OPTIONS];
+    resolve_over(sheet, request, &mut notes, out)
+}
+
+// The bytes of the options of a request, under a sheet.
+pub fn resolve(sheet: &[u8], request: &[u8], out: &mut [u8]) -> Answer
+    ensures { λ r. ⌜ Answered (resolveBytes (now (sheet .entry)) (now (request .entry))) (now (out .entry)) (now (out .exit)) r ⌝ }
+{
+    if let Verdict::Refused(why) = sheetform::check_sheet(sheet) {
+        return reply::refused(why);
+    }
+    resolve_tested(sheet, request, out)
+}

@@ -6,10 +6,10 @@ use Prim.Native.Nat.{ℕ}
 use Prim.Native.String.{String}
 use Rattle.octets.specs.Ascii.{ascii}
 use Rattle.settle.specs.declared.Place.the-variants.{Nowhere, Inside}
-use Rattle.resolver.proofs.Asking.{Example, asks, bytes, absent, refused, answer, stepped}
-use Rattle.resolver.proofs.Sheets.{file, message, extension, extensionTo, field, fieldTo, fieldWith, value, enum}
-use Rattle.resolver.proofs.Sheets.{request, option, direct, ext, boolean, unsigned, signed, float, string, ident, messageOf}
-use Rattle.resolver.proofs.Sheets.{pair, pairExt, pairUrl, list}
+use Rattle.promises.proofs.Asking.{Example, asks, bytes, absent, refused, answer, stepped}
+use Rattle.promises.proofs.Sheets.{file, message, extension, extensionTo, field, fieldTo, fieldWith, value, enum}
+use Rattle.promises.proofs.Sheets.{request, option, direct, ext, boolean, unsigned, signed, float, string, ident, messageOf}
+use Rattle.promises.proofs.Sheets.{pair, pairExt, pairUrl, list}
 
 -- ---- the sheets
 abbrev fieldOptions : String

@@ -38,8 +38,8 @@ use Rattle.scalars.proofs.BodyLaws.{bytes-of}
 use Rattle.values.specs.Values.{madeOf, Holder, on, within, Asked, field, passed, refused as askedWrong, asked, onAsked, reached, inMessage}
 use Rattle.values.specs.Values.{scalarMade, records}
 use Rattle.values.proofs.ValueLaws.{constant-first}
-use Rattle.resolver.proofs.SmallLaws.{Small, small-nil, SmallMade, small, refused, made-more, both-small, holding-small}
-use Rattle.resolver.proofs.WidthLaws.{width, width-walk}
+use Rattle.promises.proofs.SmallLaws.{Small, small-nil, SmallMade, small, refused, made-more, both-small, holding-small}
+use Rattle.promises.proofs.WidthLaws.{width, width-walk}
 
 part-few : (s : List ℕ) (a e : ℕ) → length (part s a e) ≤ e - a
 part-few s a e = omega (arith, length-take (e - a) (drop a s))

@@ -12,7 +12,7 @@ use Rattle.records.specs.Records.{Recs, nil, number, bytes, message, append, en
 use Rattle.records.specs.Made.{Made, made, wrong, both, holding}
 use Rattle.records.proofs.RecsLaws.{encode-append, message-few}
 use Rattle.known.specs.Known.{Known, setKnown, knownRecs}
-use Rattle.resolver.specs.Levels.{deepest}
+use Rattle.promises.specs.Levels.{deepest}
 
 pub deepest-append : (a b : Recs) → deepest (append a b) ≡ max (deepest a) (deepest b)
 deepest-append nil b = omega arith

@@ -17,9 +17,9 @@ use Rattle.requestform.specs.Fine.{goodOptions}
 use Rattle.requestform.proofs.FineLaws.{fine-good}
 use Rattle.records.specs.Records.{Recs}
 use Rattle.lookups.specs.Lookups.{Lookups, walking}
 use Rattle.resolver.specs.Resolve.{records, stepsOf, resolvingBy}
-use Rattle.resolver.specs.Levels.{deepest}
-use Rattle.resolver.proofs.Bounds.{longest, records-small, resolved-fine, resolved-steps}
+use Rattle.promises.specs.Levels.{deepest}
+use Rattle.promises.proofs.Bounds.{longest, records-small, resolved-fine, resolved-steps}
 
 parts-few : (r : List ℕ) (o : Option) → goodOption r o ≡ true → length (o .parts) ≤ mostParts
 parts-few r o = go (leb 1 n) (leb n mostParts) refl (goodParts r (o .parts)) (eqb (countOf (o .constant)) 1) (goodConstants r (o .constant))

@@ -2,7 +2,7 @@
 -- Assumes nothing.
 use Rattle.basis.specs.Kit.{_≡_, refl, [], _∷_}
 use Rattle.records.specs.Records.{nil, number, bytes, message}
-use Rattle.resolver.specs.Levels.{deepest}
+use Rattle.promises.specs.Levels.{deepest}
 
 no-level : deepest nil ≡ 0
 no-level = refl

@@ -31,13 +31,14 @@ use Rattle.requestform.specs.Form.{judgeRequest}
 use Rattle.requestform.proofs.RequestLaws.{request-long}
 use Rattle.lookups.specs.Lookups.{Lookups, Message, walking}
 use Rattle.known.specs.Known.{Known, setKnown, knownRecs}
-use Rattle.options.specs.declared.Stop.{Stop}
-use Rattle.options.specs.Options.{Settled, Gathered, gathered, stopped, next, gather}
+use Rattle.settle.specs.declared.Stop.{Stop}
+use Rattle.settle.specs.Settle.{Settled}
+use Rattle.options.specs.Options.{Gathered, gathered, stopped, next, gather}
 use Rattle.resolver.specs.Resolve.{Steps, records, absent, refused, stepsIn, onType, someOptions, stepsOf, unless, resolvingBy}
-use Rattle.resolver.proofs.SmallLaws.{deepest-append, length-encode-append}
-use Rattle.resolver.proofs.SmallLaws.{Small, small-nil, small-self, small-more, small-append, set-small}
-use Rattle.resolver.proofs.WidthLaws.{width, width-walk}
-use Rattle.resolver.proofs.OptionBounds.{SmallSettled, sets, writes as writing, faulty, settle-small}
+use Rattle.promises.proofs.SmallLaws.{deepest-append, length-encode-append}
+use Rattle.promises.proofs.SmallLaws.{Small, small-nil, small-self, small-more, small-append, set-small}
+use Rattle.promises.proofs.WidthLaws.{width, width-walk}
+use Rattle.promises.proofs.OptionBounds.{SmallSettled, sets, writes as writing, faulty, settle-small}
 
 abbrev pub longest : List Option → ℕ
 longest [] = 0

@@ -50,11 +50,11 @@ use Rattle.steps.specs.declared.Step.the-variants.{Found, NotFound}
 use Rattle.steps.specs.Steps.{faultAt, at, onStep, reached, left, stepOf, optionFrom}
 use Rattle.builtins.specs.declared.Built.the-variants.{Skipped, Wrong}
 use Rattle.builtins.specs.Builtins.{repeated, isSkipped, builtOf, builtinOn, builtinField, builtinOf}
-use Rattle.options.specs.Options.{Settled, known, others, fails, settledBuilt, settled, builtinPart, settle}
-use Rattle.resolver.proofs.SmallLaws.{Small, small-nil, small-more}
-use Rattle.resolver.proofs.SmallLaws.{SmallMade, small, refused, made-more, holding-small}
-use Rattle.resolver.proofs.WidthLaws.{parts-width}
-use Rattle.resolver.proofs.ConstantBounds.{record-small, constant-small}
+use Rattle.settle.specs.Settle.{Settled, known, others, fails, settledBuilt, settled, builtinPart, settle}
+use Rattle.promises.proofs.SmallLaws.{Small, small-nil, small-more}
+use Rattle.promises.proofs.SmallLaws.{SmallMade, small, refused, made-more, holding-small}
+use Rattle.promises.proofs.WidthLaws.{parts-width}
+use Rattle.promises.proofs.ConstantBounds.{record-small, constant-small}
 
 -- ---- the parts of a name
 module _ {k n : ℕ} where

@@ -1,0 +1,1 @@
+// The promises of the resolver, as statements: proofs alone.
