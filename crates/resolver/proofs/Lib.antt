@@ -2,3 +2,10 @@ pub mod Sheets
 pub mod Asking
 pub mod Examples
 pub mod Controls
+pub mod SmallLaws
+pub mod WidthLaws
+pub mod ConstantBounds
+pub mod OptionBounds
+pub mod Bounds
+pub mod LevelControls
+pub mod Levels

@@ -1,0 +1,2 @@
+pub mod BuiltinPartLaws
+pub mod SettleLaws

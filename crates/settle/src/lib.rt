@@ -163,13 +163,16 @@ fn settle_named(
             note: 0,
             next: next,
         },
-        Stepped::Refused(fault) => Settling::Fails(Stop {
-            place: Place::Inside {
-                option: option,
-                part: fault.part,
-            },
-            why: fault.why,
-        }),
+        Stepped::Refused(fault) => {
+            let why = fault.why;
+            Settling::Fails(Stop {
+                place: Place::Inside {
+                    option: option,
+                    part: fault.part,
+                },
+                why: why,
+            })
+        }
     }
 }
 

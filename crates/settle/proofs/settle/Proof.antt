@@ -1,0 +1,18 @@
+-- `settle::settle` meets its contract.
+-- Assumes nothing.
+use Rattle.settle.proofs.SettleLaws.{settle-laws}
+use Rattle.basis.proofs.Kit.{needs}
+use Rattle.settle.proofs.settle.Statement.{statement}
+use Rattle.settle.proofs.settle.Tie as tie
+
+pub settle-spec : {M : Type 1} → statement M
+settle-spec = tie.close (tie.spec
+    (λ c κs. search (needs, settle-laws))
+    (λ c. search (needs, settle-laws))
+    (λ c. search (needs, settle-laws))
+    (λ c κs. search (needs, settle-laws))
+    (λ c. search (needs, settle-laws))
+    (λ c. search (needs, settle-laws))
+    (λ c κs. (search (needs, settle-laws), (search (needs, settle-laws), (search (needs, settle-laws), search (needs, settle-laws)))))
+    (λ c κs. search (needs, settle-laws))
+    (λ c. search (needs, settle-laws)))

@@ -1,0 +1,17 @@
+-- `settle::settled_built` meets its contract.
+-- Assumes nothing.
+use Rattle.settle.proofs.SettleLaws.{settled-built-laws}
+use Rattle.basis.proofs.Kit.{needs}
+use Rattle.settle.proofs.settled_built.Statement.{statement}
+use Rattle.settle.proofs.settled_built.Tie as tie
+
+pub settled-built-spec : {M : Type 1} → statement M
+settled-built-spec = tie.close (tie.spec
+    (λ c. search (needs, settled-built-laws))
+    (λ c. search (needs, settled-built-laws))
+    (λ c. search (needs, settled-built-laws))
+    (λ c. search (needs, settled-built-laws))
+    (λ c. search (needs, settled-built-laws))
+    (λ c. search (needs, settled-built-laws))
+    (λ c. search (needs, settled-built-laws))
+    (λ c. search (needs, settled-built-laws)))
