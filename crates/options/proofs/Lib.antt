@@ -1,0 +1,5 @@
+pub mod ReachedLaws
+pub mod SetLaws
+pub mod GatherLaws
+pub mod HeldLaws
+pub mod KnownLaws

@@ -1,0 +1,71 @@
+-- How many bytes the record of the builtin has that an option sets.
+-- Assumes nothing.
+use Rattle.basis.specs.Kit.{_≡_, refl, sym, ap, _∙_, List, Option, none, some, ℕ, _+_, _-_, _≤_, length}
+use Rattle.basis.proofs.Kit.{arith}
+use mathlib.Core.Path.{subst}
+use Rattle.basis.specs.First.{told}
+use Rattle.limits.specs.Figures.{mostConstants}
+use Rattle.field.specs.declared.Field.{Field}
+use Rattle.field.specs.declared.Field.the-variants.{Whole}
+use Rattle.field.specs.Field.{fieldAt}
+use Rattle.field.specs.Leaf.{text}
+use Rattle.field.specs.Walk.{walk}
+use Rattle.field.proofs.FieldLaws.{field-bounds}
+use Rattle.request.specs.declared.name.Part.{Part}
+use Rattle.request.specs.Name.{partsIn, afterParts}
+use Rattle.request.specs.Tree.{Constants, none as noConstant, unnamed, constantIn}
+use Rattle.request.specs.Request.{constantOfField, optionOf}
+use Rattle.request.proofs.RequestLaws.{after-from}
+use Rattle.optionform.specs.inner.Parts.{OptionParts}
+use Rattle.records.specs.Records.{encode}
+use Rattle.records.specs.Made.{Made, made, wrong}
+use Rattle.records.specs.inner.Emits.{bytesMost}
+use Rattle.lookups.specs.Lookups.{Lookups}
+use Rattle.steps.specs.declared.Fault.{Fault}
+use Rattle.steps.specs.Steps.{optionFrom}
+use Rattle.builtins.specs.declared.Built.{Built}
+use Rattle.builtins.specs.declared.Built.the-variants.{Skipped, Sets, Wrong}
+use Rattle.builtins.specs.Builtins.{builtinOf, builtRecs}
+use Rattle.builtins.proofs.BuiltLaws.{built-few}
+use Rattle.settle.specs.declared.Start.{Start}
+use Rattle.settle.specs.Settle.{settledBuilt, settled, builtinPart, settle}
+use Rattle.settle.specs.inner.Settling.{messageOf, settledAt, setRecs}
+
+set-built : (r : List ℕ) (b : Built) → setRecs (settledBuilt r b) ≡ builtRecs r b
+set-built r Skipped = refl
+set-built r (Sets h b) = refl
+set-built r (Wrong w) = refl
+
+-- the steps set no builtin
+set-stepped : (m : Made Fault) (k : ℕ) → length (encode (setRecs (settled m))) ≤ k
+unfolding encode
+set-stepped (made x) k = omega arith
+set-stepped (wrong f) k = omega arith
+
+module _ (L : Lookups) (s r : List ℕ) (h : Start) (a e : ℕ) (o : a ≤ e) (k : OptionParts r a e) where
+  constant : Constants
+  constant = constantOfField r (fieldAt r (afterParts a (walk r a e)) e)
+
+  part-few : (p : Part)
+      → length (encode (setRecs (settledBuilt r (builtinOf L s r (messageOf r h) (text r (p .name)) constant)))) ≤ bytesMost (e - a)
+  unfolding constant
+  part-few p =
+      let x = afterParts a (walk r a e) in
+      let f = k .follows in
+      let b = field-bounds r x e (fieldAt r x e) refl (f .tag) (f .from) (f .to) (f .whole) in
+      let v = builtinOf L s r (messageOf r h) (text r (p .name)) (constantIn mostConstants r unnamed (f .tag) (f .from) (f .to) noConstant) in
+      let few = built-few L s r (messageOf r h) (text r (p .name)) (f .tag) (f .from) (f .to) v refl in
+      rw (f .whole, set-built r v) (omega (arith, few, b .starts, b .ordered, b .inside, after-from r a e x refl o))
+
+  pub set-few : length (encode (setRecs (settledAt L s r h a e))) ≤ bytesMost (e - a)
+  unfolding settledAt settle optionOf constant
+  set-few = go (builtinPart (partsIn (walk r a e)))
+    where
+      steps : Made Fault
+      steps = optionFrom L s r (text r (h .scope)) 0 (messageOf r h) (partsIn (walk r a e)) constant
+
+      go : (b : Option Part)
+          → length (encode (setRecs (told (settled steps) (λ p. settledBuilt r (builtinOf L s r (messageOf r h) (text r (p .name)) constant)) b)))
+          ≤ bytesMost (e - a)
+      go none = set-stepped steps (bytesMost (e - a))
+      go (some p) = part-few p
