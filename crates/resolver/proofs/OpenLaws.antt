@@ -33,6 +33,7 @@ use Rattle.requestform.proofs.RequestLaws.{request-long}
 use Rattle.lookups.specs.Lookups.{walking}
 use Rattle.lookups.proofs.LookupLaws.{message-lies}
 use Rattle.settle.specs.declared.Start.{Start}
+use Rattle.settle.specs.declared.Stop.{Stop}
 use Rattle.options.specs.inner.Gathering.{optionsOf, gatheredBy}
 use Rattle.resolver.specs.declared.Opening.{Opening}
 use Rattle.resolver.specs.declared.Opening.the-variants.{At, Absent, Refused}
@@ -86,21 +87,24 @@ module _ (s r : List ℕ) (f : judgeRequest r ≡ Fine) (v : Headed) (q : v ≡ 
           let o = some-at r (h .options) fine-here c (fieldAt r (h .options) (length r)) refl in
           steps-with ∙ rw g (ap (someOptions (walking s) s r (requestWith r (Heads h))) (o .is) ∙ ap (onType (walking s) s r (requestWith r (Heads h))) (sym e))
 
-      pub open-lost : (w : Refusal) → u ≡ NoMessage w → Opens s r (Refused (nowhere w))
-      open-lost w z = lost (steps-on ∙ ap (onType (walking s) s r (requestWith r (Heads h))) z)
+      pub open-lost : (w : Refusal) → u ≡ NoMessage w → (y : Stop) → y ≡ nowhere w → Opens s r (Refused y)
+      open-lost w z y k = lost (steps-on ∙ ap (onType (walking s) s r (requestWith r (Heads h))) z ∙ ap refused (sym k))
 
-      pub open-at : (p : LookupScope) → u ≡ Message p
-          → Opens s r (At (record { scope = h .scope; «options_type» = h .«options_type»; options = h .options; place = p }))
+      pub open-at : (p : LookupScope) → u ≡ Message p → (y : Start) → y .scope ≡ h .scope → y .«options_type» ≡ h .«options_type»
+          → y .options ≡ h .options → y .place ≡ p → Opens s r (At y)
       unfolding gatheredBy optionsOf
-      open-at p z = at (record {
-        steps = steps-on ∙ ap (onType (walking s) s r (requestWith r (Heads h))) z;
-        started = record {
-          place = message-lies s (text r (h .«options_type»)) u e p z;
-          scope = (scope-ordered r v q h g, scope-inside r v q h g);
-          type = (options-type-ordered r v q h g, options-type-inside r v q h g);
-          path = fine-scope r f v q h g;
-        };
-        fine = record { inside = options-inside r v q h g; fine = fine-here };
-      })
+      open-at p z y i j k o =
+          let same : record { scope = h .scope; «options_type» = h .«options_type»; options = h .options; place = p } ≡ y =
+          rw (← i, ← j, ← k, ← o) refl in
+          subst (λ (x : Start). Opens s r (At x)) same (at (record {
+            steps = steps-on ∙ ap (onType (walking s) s r (requestWith r (Heads h))) z;
+            started = record {
+              place = message-lies s (text r (h .«options_type»)) u e p z;
+              scope = (scope-ordered r v q h g, scope-inside r v q h g);
+              type = (options-type-ordered r v q h g, options-type-inside r v q h g);
+              path = fine-scope r f v q h g;
+            };
+            fine = record { inside = options-inside r v q h g; fine = fine-here };
+          }))
 
 pub ruleset open-laws = (open-none, open-empty, open-lost, open-at, heading-spans)

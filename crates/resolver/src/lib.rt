@@ -1,15 +1,16 @@
 // The call `resolve`: of a sheet and a request the bytes of its options. What there is to write is measured first, in no room, which finds
 // every refusal and the length; then it is written, so that a refusal writes nothing and NoRoom comes last.
-ghost use Rattle.basis.specs.Kit.{_≡_, _≤_, length};
+ghost use Rattle.basis.specs.Kit.{_≡_, _≤_, length, sets};
 ghost use Rattle.limits.specs.Figures.{mostOptions, mostRequest};
 ghost use Rattle.reply.specs.declared.Verdict.the-variants.{Fine};
 ghost use Rattle.reply.specs.Outcome.{Answered};
 ghost use Rattle.requestform.specs.Form.{judgeRequest};
+ghost use Rattle.records.specs.Records.{encode};
 ghost use Rattle.lookups.specs.Lookups.{walking};
 ghost use Rattle.settle.specs.inner.Settling.{Started};
 ghost use Rattle.options.specs.inner.Gathering.{gatheredBy, FineFrom};
 ghost use Rattle.resolver.specs.Resolve.{nowhere as nowhereOf, stepsIn, stepsOf, outcomeOf, resolving, resolvingTested, resolveBytes, resolveTested};
-ghost use Rattle.resolver.specs.inner.Measuring.{judgedOf, Opens, Ready, Measures};
+ghost use Rattle.resolver.specs.inner.Measuring.{allOf, Opens, Counted, Tallies, Ready, Measures};
 use fullname::LookedUp;
 use limits::MOST_OPTIONS;
 use options::gather;
@@ -74,20 +75,75 @@ fn open(sheet: &[u8], request: &[u8]) -> Opening
     if request.len() <= heading.options {
         return Opening::Absent;
     }
-    let from = heading.options_type.from;
-    let to = heading.options_type.to;
+    let scope = heading.scope;
+    let options_type = heading.options_type;
+    let from = options_type.from;
+    let to = options_type.to;
     match lookups::message(sheet, &request[from..to]) {
         LookedUp::NoMessage(why) => Opening::Refused(nowhere(why)),
         LookedUp::Message(place) => Opening::At(Start {
-            scope: heading.scope,
-            options_type: heading.options_type,
+            scope: scope,
+            options_type: options_type,
             options: heading.options,
             place: place,
         }),
     }
 }
 
-// The options measured, in the room `none`, which is empty.
+// The known builtins measured, when the options are gathered, in the room `none`, which is empty.
+fn measure_known(
+    sheet: &[u8],
+    request: &[u8],
+    start: Start,
+    notes: &mut [usize],
+    count: usize,
+    others: usize,
+    none: &mut [u8],
+) -> Measure
+    requires { ⌜ Counted (now sheet) (now request) (now notes) start count others ⌝ }
+    requires { ⌜ Started (now sheet) (now request) start ⌝ }
+    requires { ⌜ FineFrom (now request) start ⌝ }
+    requires { ⌜ mostOptions ≤ length (now notes) ⌝ }
+    requires { ⌜ length (now request) ≤ mostRequest ⌝ }
+    ensures { λ r. ⌜ Measures (now (sheet .entry)) (now (request .entry))
+        (stepsIn (gatheredBy (walking (now (sheet .entry))) (now (sheet .entry)) (now (request .entry)) start)) (now (notes .exit)) r ⌝ }
+{
+    let known = put_known(sheet, request, start, notes, count, none, 0);
+    Measure::Fine(Measured {
+        start: start,
+        count: count,
+        known: known,
+        others: others,
+    })
+}
+
+// What the loop over the options answered, measured.
+fn measure_gathered(
+    sheet: &[u8],
+    request: &[u8],
+    start: Start,
+    notes: &mut [usize],
+    settling: Settling,
+    none: &mut [u8],
+) -> Measure
+    requires { ⌜ Tallies (now sheet) (now request) (now notes) start settling ⌝ }
+    requires { ⌜ Started (now sheet) (now request) start ⌝ }
+    requires { ⌜ FineFrom (now request) start ⌝ }
+    requires { ⌜ mostOptions ≤ length (now notes) ⌝ }
+    requires { ⌜ length (now request) ≤ mostRequest ⌝ }
+    ensures { λ r. ⌜ Measures (now (sheet .entry)) (now (request .entry))
+        (stepsIn (gatheredBy (walking (now (sheet .entry))) (now (sheet .entry)) (now (request .entry)) start)) (now (notes .exit)) r ⌝ }
+{
+    match settling {
+        Settling::Fails(stop) => Measure::Refused(stop),
+        Settling::Gives {
+            note: count,
+            next: others,
+        } => measure_known(sheet, request, start, notes, count, others, none),
+    }
+}
+
+// The options measured, likewise.
 fn measure_from(
     sheet: &[u8],
     request: &[u8],
@@ -102,21 +158,8 @@ fn measure_from(
     ensures { λ r. ⌜ Measures (now (sheet .entry)) (now (request .entry))
         (stepsIn (gatheredBy (walking (now (sheet .entry))) (now (sheet .entry)) (now (request .entry)) start)) (now (notes .exit)) r ⌝ }
 {
-    match gather(sheet, request, start, notes, none, 0) {
-        Settling::Fails(stop) => Measure::Refused(stop),
-        Settling::Gives {
-            note: count,
-            next: others,
-        } => {
-            let known = put_known(sheet, request, start, notes, count, none, 0);
-            Measure::Fine(Measured {
-                start: start,
-                count: count,
-                known: known,
-                others: others,
-            })
-        }
-    }
+    let settling = gather(sheet, request, start, notes, none, 0);
+    measure_gathered(sheet, request, start, notes, settling, none)
 }
 
 // The verdict on a fine request, before anything is written.
@@ -133,7 +176,26 @@ fn measure_all(sheet: &[u8], request: &[u8], notes: &mut [usize], none: &mut [u8
     }
 }
 
-// What was measured, written: the known builtins first, then the others in order of writing.
+// The records of what was measured: the known builtins first, then the others in order of writing.
+fn put_records(
+    sheet: &[u8],
+    request: &[u8],
+    measured: Measured,
+    notes: &mut [usize],
+    out: &mut [u8],
+)
+    requires { ⌜ Ready (now sheet) (now request) (now notes) measured ⌝ }
+    requires { ⌜ mostOptions ≤ length (now notes) ⌝ }
+    requires { ⌜ length (now request) ≤ mostRequest ⌝ }
+    ensures { λ _. ⌜ now (out .exit) ≡ sets (now (out .entry)) 0
+        (encode (allOf (gatheredBy (walking (now (sheet .entry))) (now (sheet .entry)) (now (request .entry)) (measured .start)))) ⌝ }
+{
+    let start = measured.start;
+    let next = put_known(sheet, request, start, notes, measured.count, out, 0);
+    gather(sheet, request, start, notes, out, next);
+}
+
+// What was measured, written where there is room for all of it.
 fn write(
     sheet: &[u8],
     request: &[u8],
@@ -151,10 +213,9 @@ fn write(
     if out.len() < length {
         return reply::refused(Refusal::NoRoom);
     }
-    let start = measured.start;
-    let next = put_known(sheet, request, start, notes, measured.count, out, 0);
-    gather(sheet, request, start, notes, out, next);
-    reply::done(length as u32)
+    let answer = reply::done(length as u32);
+    put_records(sheet, request, measured, notes, out);
+    answer
 }
 
 // The answer for a fine request.

@@ -52,8 +52,15 @@ pub enum Stepped {
 // What a part leads to: the constant behind it, on a field of that shape; more parts, inside the message of that path and place, in a record
 // of that number; nothing, where there is no part, or parts are left on a group; or a fault. `from` is where the part ends.
 pub enum Reach {
-    Constant { shape: Shape, from: usize },
-    Inside { shape: Shape, place: LookupScope, from: usize },
+    Constant {
+        shape: Shape,
+        from: usize,
+    },
+    Inside {
+        shape: Shape,
+        place: LookupScope,
+        from: usize,
+    },
     Nothing,
     Fails(Refusal),
 }
@@ -224,7 +231,16 @@ fn put_inside(
         (now (out .entry)) at (now (out .exit)) r ⌝ }
 {
     let measured = put_option(
-        sheet, request, scope, message, place, from, to, part, &mut out[..0], 0,
+        sheet,
+        request,
+        scope,
+        message,
+        place,
+        from,
+        to,
+        part,
+        &mut out[..0],
+        0,
     );
     let Stepped::Next(n) = measured else {
         return measured;
@@ -232,7 +248,16 @@ fn put_inside(
     let q = put_head(out, at, number, n);
     if q < out.len() {
         return put_option(
-            sheet, request, scope, message, place, from, to, part, out, q,
+            sheet,
+            request,
+            scope,
+            message,
+            place,
+            from,
+            to,
+            part,
+            out,
+            q,
         );
     }
     Stepped::Next(q + n)

@@ -2,21 +2,27 @@
 --
 --      judgedOf o ==  the verdict without room: how many bytes there are, Absent, or the refusal and its place
 --       Opens s r v <-> v is what the options of the request r start with in the sheet s
---     Ready s r ns m <-> the options are gathered, m says how many bytes they have, and the notes ns which of them set the known builtins
+--   Counted s r ns h n o <-> the options that start with h are gathered: they are n, the others have o bytes, and the notes ns say which of
+--                            them set the known builtins
+--       Tallies s r ns h y <-> y is the answer that says so, or says why they are not gathered
+--               allOf g ==  all records that the options come to; of a refusal none
+--     Ready s r ns m <-> so it is of what was measured, m, which says how many bytes the known builtins have
 --   Measures s r o ns v <-> v was answered of what the request comes to, o
 --
 -- Assumes nothing.
 use Rattle.basis.specs.Kit.{_≡_, List, ℕ, _≤_, length}
 use Rattle.limits.specs.Figures.{mostOptions}
-use Rattle.records.specs.Records.{Recs, append, encode}
+use Rattle.records.specs.Records.{Recs, nil, append, encode}
 use Rattle.records.specs.inner.Emits.{bytesMost}
 use Rattle.lookups.specs.Lookups.{walking}
 use Rattle.known.specs.Known.{Known, knownRecs}
 use Rattle.known.specs.inner.Notes.{Noted}
 use Rattle.settle.specs.declared.Start.{Start}
 use Rattle.settle.specs.declared.Stop.{Stop}
+use Rattle.settle.specs.declared.Settling.{Settling}
+use Rattle.settle.specs.declared.Settling.the-variants.{Gives, Fails}
 use Rattle.settle.specs.inner.Settling.{Started}
-use Rattle.options.specs.Options.{gathered}
+use Rattle.options.specs.Options.{Gathered, gathered, stopped}
 use Rattle.options.specs.inner.Gathering.{gatheredBy, madeAt, FineFrom}
 use Rattle.resolver.specs.declared.Judged.{Judged}
 use Rattle.resolver.specs.declared.Judged.the-variants as judged
@@ -32,6 +38,10 @@ judgedOf (records x) = judged.Fine (length (encode x))
 judgedOf absent = judged.Absent
 judgedOf (refused e) = judged.Refused e
 
+abbrev pub allOf : Gathered → Recs
+allOf (gathered ks x) = append (knownRecs ks) x
+allOf (stopped e) = nil
+
 pub record Open (s r : List ℕ) (h : Start) : Type 0 where
   pub steps : stepsOf (walking s) s r ≡ stepsIn (gatheredBy (walking s) s r h)
   pub started : Started s r h
@@ -42,17 +52,25 @@ pub data Opens (s r : List ℕ) : Opening → Type 0 where
   none : stepsOf (walking s) s r ≡ absent → Opens s r opening.Absent
   lost : {e : Stop} → stepsOf (walking s) s r ≡ refused e → Opens s r (opening.Refused e)
 
-pub record Ready (s r ns : List ℕ) (m : Measured) : Type 0 where
+pub record Counted (s r ns : List ℕ) (h : Start) (n o : ℕ) : Type 0 where
   pub knowns : List Known
   pub rest : Recs
-  pub gathers : gatheredBy (walking s) s r (m .start) ≡ gathered knowns rest
+  pub gathers : gatheredBy (walking s) s r h ≡ gathered knowns rest
+  pub noted : Noted (madeAt (walking s) s r h) ns n knowns
+  pub count : n ≤ mostOptions
+  pub others : o ≡ length (encode rest)
+  pub few : length (encode (append (knownRecs knowns) rest)) ≤ bytesMost (length r)
+
+-- what the loop over the options answered of them
+pub record Tallies (s r ns : List ℕ) (h : Start) (y : Settling) : Type 0 where
+  pub stops : (e : Stop) → y ≡ Fails e → gatheredBy (walking s) s r h ≡ stopped e
+  pub counts : (n o : ℕ) → y ≡ Gives n o → Counted s r ns h n o
+
+pub record Ready (s r ns : List ℕ) (m : Measured) : Type 0 where
+  pub counted : Counted s r ns (m .start) (m .count) (m .others)
   pub started : Started s r (m .start)
   pub fine : FineFrom r (m .start)
-  pub noted : Noted (madeAt (walking s) s r (m .start)) ns (m .count) knowns
-  pub count : m .count ≤ mostOptions
-  pub known : m .known ≡ length (encode (knownRecs knowns))
-  pub others : m .others ≡ length (encode rest)
-  pub few : length (encode (append (knownRecs knowns) rest)) ≤ bytesMost (length r)
+  pub known : m .known ≡ length (encode (knownRecs (counted .knowns)))
 
 pub data Measures (s r : List ℕ) : Steps → (ns : List ℕ) → Measure → Type 0 where
   fine : {ns : List ℕ} {m : Measured} → Ready s r ns m → Measures s r (stepsIn (gatheredBy (walking s) s r (m .start))) ns (measure.Fine m)

@@ -42,7 +42,7 @@ put-option-below t =
 pub +put-inside+put-option-spec : {M : Type 1} → statement M
 +put-inside+put-option-spec = close μ-put-inside μ-put-option
     (λ t. put-inside-lts.spec (put-option-below t, put-option.Post, put-head-reads.Asked, put-head-reads.Learnt)
-      (put-inside-at t) put-inside.Post
+    (put-inside-at t) put-inside.Post
     (λ c. search (needs, put-inside-laws))
     (λ c. search (needs, put-inside-laws))
     (λ c κs. search (needs, put-inside-laws))
@@ -57,8 +57,14 @@ pub +put-inside+put-option-spec : {M : Type 1} → statement M
     (λ c. search (needs, put-inside-laws))
     (λ c. search (needs, put-inside-laws))
     (λ c. search (needs, put-inside-laws)))
-    λ t. put-option-lts.spec (reach-of-reads.Asked, reach-of-reads.Learnt, put-constant-reads.Asked,
-      put-constant-reads.Learnt, put-inside-below t, put-inside.Post) (put-option-at t) put-option.Post
+    λ t. put-option-lts.spec (
+      reach-of-reads.Asked,
+      reach-of-reads.Learnt,
+      put-constant-reads.Asked,
+      put-constant-reads.Learnt,
+      put-inside-below t,
+      put-inside.Post,
+    ) (put-option-at t) put-option.Post
     (λ c κs. search (needs, put-option-laws))
     (λ c. search (needs, put-option-laws))
     (λ c. search (needs, put-option-laws))

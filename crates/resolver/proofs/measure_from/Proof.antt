@@ -1,0 +1,14 @@
+-- `resolver::measure_from` meets its contract.
+-- Assumes nothing.
+use Rattle.resolver.proofs.MeasureLaws.{gathers-tallies, measure-from-laws}
+use Rattle.basis.proofs.Kit.{needs}
+use Rattle.resolver.proofs.measure_from.Statement.{statement}
+use Rattle.resolver.proofs.measure_from.Tie as tie
+
+pub measure-from-spec : {M : Type 1} → statement M
+measure-from-spec = tie.close (tie.spec
+    (λ c κs. (search (needs, measure-from-laws), (search (needs, measure-from-laws), (search (needs, measure-from-laws), search (needs, measure-from-laws)))))
+    (λ c κs. (gathers-tallies _ _ _ _ _ _ _ (c .before .before .before .before .before .before .gather .ensures), (search (needs, measure-from-laws), (search (needs, measure-from-laws), (search (needs, measure-from-laws), search (needs, measure-from-laws))))))
+    (λ c. search (needs, measure-from-laws))
+    (λ c. search (needs, measure-from-laws))
+    (λ c. search (needs, measure-from-laws)))

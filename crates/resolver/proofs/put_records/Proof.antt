@@ -1,0 +1,14 @@
+-- `resolver::put_records` meets its contract.
+-- Assumes nothing.
+use Rattle.resolver.proofs.WriteLaws.{put-records-laws}
+use Rattle.basis.proofs.Kit.{needs}
+use Rattle.resolver.proofs.put_records.Statement.{statement}
+use Rattle.resolver.proofs.put_records.Tie as tie
+
+pub put-records-spec : {M : Type 1} → statement M
+put-records-spec = tie.close (tie.spec
+    (λ c κs. (search (needs, put-records-laws), (search (needs, put-records-laws), (search (needs, put-records-laws), (search (needs, put-records-laws), (search (needs, put-records-laws), (search (needs, put-records-laws), search (needs, put-records-laws))))))))
+    (λ c κs. (search (needs, put-records-laws), (search (needs, put-records-laws), (search (needs, put-records-laws), search (needs, put-records-laws)))))
+    (λ c. search (needs, put-records-laws))
+    (λ c. search (needs, put-records-laws))
+    (λ c. search (needs, put-records-laws)))
