@@ -1,11 +1,11 @@
 -- The loop of `gather`: the options before a place are gathered, and one more is.
 --
---   Gathering L s r h l m ns₀ ns at p n i <-> the n options before the place i are gathered: what they wrote is laid over l, from `at` up to
---                                            p, the notes, ns₀ at first, are those of the builtins that they set; and what all come to is
---                                            what the options that are left come to after them
+--   Gathering L s r h l m ns₀ ns at p n i <-> the n options before the place i are gathered: what they wrote is laid over l, from `at` up
+--                                            to p, the notes, ns₀ at first, are those of the builtins that they set; and what all come
+--                                            to is what the options that are left come to after them
 --
 -- Assumes nothing.
-use Rattle.basis.specs.Kit.{_≡_, refl, sym, ap, _∙_, List, [], _∷_, ℕ, _+_, _-_, _≤_, _<_, length, drop}
+use Rattle.basis.specs.Kit.{_≡_, refl, sym, ap, _∙_, List, [], ℕ, _+_, _-_, _≤_, _<_, length, drop}
 use Rattle.basis.proofs.Kit.{arith}
 use native.Mathlib.Nat.{add-zero}
 use lib.ListN.{length-append}
@@ -20,7 +20,7 @@ use Rattle.field.specs.Leaf.{text}
 use Rattle.field.proofs.FieldLaws.{field-ordered, field-place-laws}
 use Rattle.request.specs.Request.{Option}
 use Rattle.records.specs.Records.{Recs, nil, append, encode}
-use Rattle.records.specs.Made.{made, wrong}
+use Rattle.records.specs.Made.{made}
 use Rattle.records.specs.inner.Emits.{bytesMost, Emits, Roomy}
 use Rattle.records.proofs.RecsLaws.{append-nil-right, encode-append}
 use Rattle.lookups.specs.Lookups.{Lookups}
@@ -35,10 +35,10 @@ use Rattle.settle.specs.declared.Settling.{Settling}
 use Rattle.settle.specs.declared.Settling.the-variants.{Gives, Fails}
 use Rattle.settle.specs.Settle.{Settled, known, others, fails}
 use Rattle.settle.specs.inner.Settling.{messageOf, settledAt, othersOf, noteIn, setRecs, settlingOf}
-use Rattle.options.specs.Options.{Gathered, gathered, stopped, next, gather}
+use Rattle.options.specs.Options.{Gathered, stopped, next, gather}
 use Rattle.options.specs.inner.Gathering.{optionsOf, gatheredBy, madeAt, FineFrom, Gathers, gives, stops}
 use Rattle.options.proofs.ReachedLaws.{Reached, reached-start, reached-end, reached-cut, reached-parts, reached-few, reached-fits}
-use Rattle.options.proofs.ReachedLaws.{reached-noted, reached-first, reached-made, reached-next, reached-size}
+use Rattle.options.proofs.ReachedLaws.{reached-first, reached-made, reached-next, reached-size}
 use Rattle.options.proofs.SetLaws.{set-few}
 
 abbrev gatherFrom : Lookups → (s r : List ℕ) → Start → (option : ℕ) → List Known → Recs → List Option → Gathered
@@ -75,7 +75,7 @@ laid-more : (l m m′ : List ℕ) (at p q : ℕ) (x y : Recs) → Laid l at (enc
     → Laid l at (encode (append x y)) m′ q
 laid-more l m m′ at p q x y a b = rw (encode-append x y) (laid-append (encode x) (encode y) a b)
 
-append-size : (x y : Recs) → length (encode (append x y)) ≡ length (encode x) + length (encode y)
+pub append-size : (x y : Recs) → length (encode (append x y)) ≡ length (encode x) + length (encode y)
 append-size x y = ap length (encode-append x y) ∙ length-append (encode x) (encode y)
 
 module _ (L : Lookups) (s r : List ℕ) (h : Start) (l m ns₀ ns : List ℕ) (at p n i : ℕ) (u : Gathering L s r h l m ns₀ ns at p n i) where
@@ -165,15 +165,15 @@ module _ (L : Lookups) (s r : List ℕ) (h : Start) (l m ns₀ ns : List ℕ) (a
             }
         next-by (fails k) w note z ns′ b d j = let c = b .answer in never cc
 
-        module _
-            (b : Emits (settlingOf n (noteIn (settledAt L s r h a e))) (othersOf (settledAt L s r h a e)) (bytesMost (e - a)) m p m′ y) where
-          pub gathering-refused : (stop : Stop) → y ≡ Fails stop
-              → Gathers (madeAt L s r h) (bytesMost (length r)) (gatheredBy L s r h) at l m′ ns y
-          gathering-refused stop z = rw (refused-by (settledAt L s r h a e) refl stop b z, z) stops
+        module _ (b : Emits (settlingOf n (noteIn (settledAt L s r h a e))) (othersOf (settledAt L s r h a e)) (bytesMost (e - a)) m p m′ y)
+          where
+            pub gathering-refused : (stop : Stop) → y ≡ Fails stop
+                → Gathers (madeAt L s r h) (bytesMost (length r)) (gatheredBy L s r h) at l m′ ns y
+            gathering-refused stop z = rw (refused-by (settledAt L s r h a e) refl stop b z, z) stops
 
-          pub gathering-next : (note z : ℕ) → y ≡ Gives note z → (ns′ : List ℕ) → ns′ ≡ noted n note ns
-              → Gathering L s r h l m′ ns₀ ns′ at z (n + 1) e
-          gathering-next note z d ns′ j = next-by (settledAt L s r h a e) refl note z ns′ b d j
+            pub gathering-next : (note z : ℕ) → y ≡ Gives note z → (ns′ : List ℕ) → ns′ ≡ noted n note ns
+                → Gathering L s r h l m′ ns₀ ns′ at z (n + 1) e
+            gathering-next note z d ns′ j = next-by (settledAt L s r h a e) refl note z ns′ b d j
 
 pub ruleset gather-laws = (
   gathering-start,

@@ -20,7 +20,7 @@ use Rattle.field.proofs.FieldLaws.{field-bounds}
 use Rattle.field.proofs.WalkLaws.{walk-done, walk-cut, walk-step}
 use Rattle.form.specs.Each.{eachFrom}
 use Rattle.request.specs.Table.{optionTag}
-use Rattle.request.specs.Request.{Option, optionOf, optionIn, optionsIn}
+use Rattle.request.specs.Request.{optionOf, optionIn, optionsIn}
 use Rattle.optionform.specs.Form.{judgeOption}
 use Rattle.optionform.specs.inner.Parts.{OptionParts}
 use Rattle.optionform.proofs.FineLaws.{option-tagged, option-few, fine-option-parts}

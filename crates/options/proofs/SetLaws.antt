@@ -1,12 +1,9 @@
 -- How many bytes the record of the builtin has that an option sets.
 -- Assumes nothing.
-use Rattle.basis.specs.Kit.{_≡_, refl, sym, ap, _∙_, List, Option, none, some, ℕ, _+_, _-_, _≤_, length}
+use Rattle.basis.specs.Kit.{_≡_, refl, List, Option, none, some, ℕ, _-_, _≤_, length}
 use Rattle.basis.proofs.Kit.{arith}
-use mathlib.Core.Path.{subst}
 use Rattle.basis.specs.First.{told}
 use Rattle.limits.specs.Figures.{mostConstants}
-use Rattle.field.specs.declared.Field.{Field}
-use Rattle.field.specs.declared.Field.the-variants.{Whole}
 use Rattle.field.specs.Field.{fieldAt}
 use Rattle.field.specs.Leaf.{text}
 use Rattle.field.specs.Walk.{walk}
@@ -28,7 +25,7 @@ use Rattle.builtins.specs.declared.Built.the-variants.{Skipped, Sets, Wrong}
 use Rattle.builtins.specs.Builtins.{builtinOf, builtRecs}
 use Rattle.builtins.proofs.BuiltLaws.{built-few}
 use Rattle.settle.specs.declared.Start.{Start}
-use Rattle.settle.specs.Settle.{settledBuilt, settled, builtinPart, settle}
+use Rattle.settle.specs.Settle.{Settled, settledBuilt, settled, builtinPart, settle}
 use Rattle.settle.specs.inner.Settling.{messageOf, settledAt, setRecs}
 
 set-built : (r : List ℕ) (b : Built) → setRecs (settledBuilt r b) ≡ builtRecs r b
@@ -43,17 +40,21 @@ set-stepped (made x) k = omega arith
 set-stepped (wrong f) k = omega arith
 
 module _ (L : Lookups) (s r : List ℕ) (h : Start) (a e : ℕ) (o : a ≤ e) (k : OptionParts r a e) where
+  -- the option's constant, and what the builtin of a part comes to by it
   constant : Constants
   constant = constantOfField r (fieldAt r (afterParts a (walk r a e)) e)
 
-  part-few : (p : Part)
-      → length (encode (setRecs (settledBuilt r (builtinOf L s r (messageOf r h) (text r (p .name)) constant)))) ≤ bytesMost (e - a)
+  abbrev builtBy : Constants → Part → Settled
+  builtBy c p = settledBuilt r (builtinOf L s r (messageOf r h) (text r (p .name)) c)
+
+  part-few : (p : Part) → length (encode (setRecs (builtBy constant p))) ≤ bytesMost (e - a)
   unfolding constant
   part-few p =
       let x = afterParts a (walk r a e) in
       let f = k .follows in
       let b = field-bounds r x e (fieldAt r x e) refl (f .tag) (f .from) (f .to) (f .whole) in
-      let v = builtinOf L s r (messageOf r h) (text r (p .name)) (constantIn mostConstants r unnamed (f .tag) (f .from) (f .to) noConstant) in
+      let c = constantIn mostConstants r unnamed (f .tag) (f .from) (f .to) noConstant in
+      let v = builtinOf L s r (messageOf r h) (text r (p .name)) c in
       let few = built-few L s r (messageOf r h) (text r (p .name)) (f .tag) (f .from) (f .to) v refl in
       rw (f .whole, set-built r v) (omega (arith, few, b .starts, b .ordered, b .inside, after-from r a e x refl o))
 
@@ -64,8 +65,6 @@ module _ (L : Lookups) (s r : List ℕ) (h : Start) (a e : ℕ) (o : a ≤ e) (k
       steps : Made Fault
       steps = optionFrom L s r (text r (h .scope)) 0 (messageOf r h) (partsIn (walk r a e)) constant
 
-      go : (b : Option Part)
-          → length (encode (setRecs (told (settled steps) (λ p. settledBuilt r (builtinOf L s r (messageOf r h) (text r (p .name)) constant)) b)))
-          ≤ bytesMost (e - a)
+      go : (b : Option Part) → length (encode (setRecs (told (settled steps) (builtBy constant) b))) ≤ bytesMost (e - a)
       go none = set-stepped steps (bytesMost (e - a))
       go (some p) = part-few p

@@ -1,14 +1,15 @@
 -- What the functions of the options of a request answer and leave.
 --
---                 optionsOf r h ==  the options of the request r, which start as h says
---            gatheredBy L s r h ==  what they come to
---                    knownsOf g ==  the builtins that are known by then; of a refusal none
---              madeAt L s r h i ==  the record of the builtin that the i-th option sets
---            heldFrom v ns i os ==  the record of the first of the options os, the i-th first, whose note is v
---            heldBy L s r h ns v ==  that of all the options
---                  FineFrom r h <-> the options stand in the request r, and are fine
---   Gathers made k g at l l′ ns y <-> the options came to g, and y was answered: where they are gathered, the other records are laid over l, from
---                                    `at` on, the notes ns are those of the known builtins, and all of them have at most k bytes
+--                   optionsOf r h ==  the options of the request r, which start as h says
+--              gatheredBy L s r h ==  what they come to
+--                      knownsOf g ==  the builtins that are known by then; of a refusal none
+--                 setBy L s r h o ==  the record of the builtin that the option o sets
+--                madeAt L s r h i ==  the record of the builtin that the i-th option sets
+--              heldFrom v ns i os ==  the record of the first of the options os, the i-th first, whose note is v
+--             heldBy L s r h ns v ==  that of all the options
+--                    FineFrom r h <-> the options stand in the request r, and are fine
+--   Gathers made k g at l l′ ns y <-> the options came to g, and y was answered: where they are gathered, the other records are laid over
+--                                    l, from `at` on, the notes ns are those of the known builtins, and all have at most k bytes
 --
 -- Assumes nothing.
 use Rattle.basis.specs.Kit.{_≡_, List, [], _∷_, ℕ, _+_, _≤_, eqb, length, getD}
