@@ -2,7 +2,7 @@
 """Times the resolver beside the same steps in Rust, and beside the original's own code, in one run, and prints ratios.
 
 usage: resolve.py [ROUNDS] [--program PROGRAM] [--original FOLDER]
-       resolve.py worst [OPTIONS] [--program PROGRAM] [--original FOLDER]
+       resolve.py search|nesting [SIZE] [--program PROGRAM] [--original FOLDER]
        resolve.py input
 
 `input` prints benchresolve's stored input: the sheet, and 20 of the requests once. Its stored output is what resolve.rs prints for it.
@@ -17,7 +17,8 @@ bench/original.rs is built there as one more binary, in release mode; that file 
 Time is the least of ROUNDS runs of each program, taken in turn, less that of a run that resolves nothing; where valgrind is there,
 instructions are counted as well. Run it from the root of the repository.
 
-`worst` measures one request that costs as much as any, of as many OPTIONS, 1 if none are given; 113 of them fill a request of 8,192 bytes.
+`search` and `nesting` measure one request that is made to cost much: by the look-ups of its name parts, of SIZE options, at most 113; by a
+constant in it 16 deep, of SIZE pairs, at most 1,002. Instructions are counted where SIZE is 1, since a full one takes hours to count.
 """
 import argparse
 import os
@@ -152,16 +153,31 @@ def requests(where):
     return out, total
 
 
-def worst(options):
+def filled(last, room, other):
+    """As many of the others as there is room for, then the last."""
+    return other * ((room - len(last)) // len(other)) + last
+
+
+def search(options):
     """A sheet and a request. The scope has 128 components, and each part of a name is an extension that only the last of the 129 candidates
     finds; for each candidate the whole sheet is walked, which is filled with messages of another name. Each name has 16 parts: a part is
     looked up again for each message around it, which is measured before it is written."""
     last = member(3, b"x", 1, MESSAGE, extendee=b"M", path=b"M") + f(2, f(0x11, b"M"))
-    other = f(2, f(0x11, b"b"))
-    data = f(1, f(0x10) + other * ((32768 - 6 - len(last)) // len(other)) + last)
+    data = f(1, f(0x10) + filled(last, 32762, f(2, f(0x11, b"b"))))
     query = f(0x18, b".".join([b"a"] * 128)) + f(0x19, b"M") + f(8, f(0x1B, b"x") * 16 + f(0x26)) * options
-    assert len(data) <= 32768 and len(query) <= 8192
-    return data, [f(0x41, query)]
+    return data, query
+
+
+def nesting(pairs):
+    """A sheet and a request of one option: a name of 16 parts, then a constant 16 deep, whose innermost message has the pairs. Each pair is
+    an identifier on an enum: field and enum stand behind all else in their message, which fills the sheet. A pair is written once, and
+    measured for each of the 30 messages around it and once before."""
+    last = enum(b"E", [b"v"]) + member(5, b"n", 1, MESSAGE, path=b"M") + member(5, b"e", 2, ENUM, path=b"M.E")
+    data = f(1, f(0x10) + f(2, f(0x11, b"M") + filled(last, 32755, f(4, f(0x11, b"b")))))
+    value = (f(0x27, b"e") + f(0x25, b"v")) * pairs
+    for _ in range(14):
+        value = f(0x27, b"n") + f(0x26, value)
+    return data, f(0x18) + f(0x19, b"M") + f(8, f(0x1A, b"n") * 16 + f(0x26, value))
 
 
 def text_of(data, times, once, queries):
@@ -239,13 +255,16 @@ def main():
     parser.add_argument("--program", default="target/bin/benchresolve")
     parser.add_argument("--original")
     args = parser.parse_args()
-    if args.what[0] == "worst":
-        total = int(args.what[1]) if len(args.what) > 1 else 1
-        data, queries = worst(total)
-    print("sheet %d bytes; requests %d, %d bytes, %d options" % (len(data), len(queries), sum(map(len, queries)), total))
+    made = {"search": (search, 113), "nesting": (nesting, 1002)}.get(args.what[0])
+    if made:
+        total = int(args.what[1]) if len(args.what) > 1 else made[1]
+        data, query = made[0](total)
+        assert len(data) <= 32768 and len(query) <= 8192
+        queries = [f(0x41, query)]
+    print("sheet %d bytes; requests %d, %d bytes; size %d" % (len(data), len(queries), sum(map(len, queries)), total))
     with tempfile.TemporaryDirectory() as folder:
         names = built(args, folder)
-        if args.what[0] == "worst":
+        if made:
             compare(names, data, queries, 1, 1, 1, total == 1)
             return
         compare(names, data, queries, 1, TIMES, int(args.what[0]), True)
