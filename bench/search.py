@@ -83,9 +83,8 @@ def timed(program, text):
     return time.perf_counter() - start, out
 
 
-def instructions(program, text, folder):
-    out = os.path.join(folder, "callgrind.out")
-    command = ["valgrind", "--tool=callgrind", "--callgrind-out-file=" + out, program]
+def instructions(program, text):
+    command = ["valgrind", "--tool=callgrind", "--callgrind-out-file=" + os.devnull, program]
     run = subprocess.run(command, input=text, capture_output=True, check=True)
     return int(re.search(rb"Collected : (\d+)", run.stderr).group(1))
 
@@ -115,7 +114,7 @@ def main():
         spent = [(best[p, TIMES] - best[p, 0]) / (TIMES * 1000) * 1e6 for p in programs]
         print("time a look-up: here %.2f us, Rust %.2f us, ratio %.2f" % (*spent, spent[0] / spent[1]))
         if shutil.which("valgrind"):
-            counts = [(instructions(p, texts[1], folder) - instructions(p, texts[0], folder)) / 1000 for p in programs]
+            counts = [(instructions(p, texts[1]) - instructions(p, texts[0])) / 1000 for p in programs]
             print("instructions a look-up: here %.0f, Rust %.0f, ratio %.2f" % (*counts, counts[0] / counts[1]))
 
 

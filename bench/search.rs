@@ -1,65 +1,71 @@
 // The search in Rust: the same walk over the same bytes, function by function, in the order of the Rattle code and by its names. Reads the
-// same input as benchfind and prints the same line. Bytes are compared and copied by the standard library's functions.
+// same input as benchfind and prints the same line. Bytes are compared and copied by the standard library's functions. resolve.rs has this
+// file as a module.
 use std::io::Read;
 
-const FILE: u8 = 0x01;
-const MESSAGE: u8 = 0x02;
-const EXTENSION: u8 = 0x03;
-const PACKAGE: u8 = 0x10;
-const NAME: u8 = 0x11;
-const EXTENDEE: u8 = 0x12;
-const NUMBER: u8 = 0x13;
-const TYPE: u8 = 0x14;
-const LABEL: u8 = 0x15;
-const TYPE_PATH: u8 = 0x16;
-const MOST_MESSAGES: usize = 16;
-const MOST_CANDIDATE: usize = 511;
+pub const FILE: u8 = 0x01;
+pub const MESSAGE: u8 = 0x02;
+pub const EXTENSION: u8 = 0x03;
+pub const ENUM: u8 = 0x04;
+pub const FIELD: u8 = 0x05;
+pub const VALUE: u8 = 0x06;
+pub const PACKAGE: u8 = 0x10;
+pub const NAME: u8 = 0x11;
+pub const EXTENDEE: u8 = 0x12;
+pub const NUMBER: u8 = 0x13;
+pub const TYPE: u8 = 0x14;
+pub const LABEL: u8 = 0x15;
+pub const TYPE_PATH: u8 = 0x16;
+pub const SIGNED_NUMBER: u8 = 0x17;
+pub const MOST_MESSAGES: usize = 16;
+pub const MOST_CANDIDATE: usize = 511;
 
 #[derive(Clone, Copy)]
-struct Span {
-    from: usize,
-    to: usize,
+pub struct Span {
+    pub from: usize,
+    pub to: usize,
 }
 
 #[derive(Clone, Copy)]
-struct LookupScope {
-    file: usize,
-    body: Span,
-    left: usize,
+pub struct LookupScope {
+    pub file: usize,
+    pub message: bool,
+    pub body: Span,
+    pub left: usize,
 }
 
 #[derive(Clone, Copy)]
-struct Cursor {
-    next: usize,
-    at: usize,
-    file: usize,
-}
-
-#[allow(dead_code)]
-#[derive(Clone, Copy)]
-struct Shape {
-    number: u32,
-    typ: u8,
-    label: u8,
-    path: Span,
+pub struct Cursor {
+    pub next: usize,
+    pub at: usize,
+    pub file: usize,
 }
 
 #[allow(dead_code)]
 #[derive(Clone, Copy)]
-struct Declaration {
-    name: Span,
-    extendee: Span,
-    shape: Shape,
+pub struct Shape {
+    pub number: u32,
+    pub typ: u8,
+    pub label: u8,
+    pub path: Span,
 }
 
 #[allow(dead_code)]
-struct Found {
-    file: usize,
-    declaration: Declaration,
+#[derive(Clone, Copy)]
+pub struct Declaration {
+    pub name: Span,
+    pub extendee: Span,
+    pub shape: Shape,
+}
+
+#[allow(dead_code)]
+pub struct Found {
+    pub file: usize,
+    pub declaration: Declaration,
 }
 
 // ---- fields
-fn field_at(s: &[u8], at: usize, end: usize) -> Option<(u8, usize, usize)> {
+pub fn field_at(s: &[u8], at: usize, end: usize) -> Option<(u8, usize, usize)> {
     if end - at < 3 {
         return None;
     }
@@ -71,7 +77,7 @@ fn field_at(s: &[u8], at: usize, end: usize) -> Option<(u8, usize, usize)> {
     Some((s[at], from, from + n))
 }
 
-fn leaf_at(s: &[u8], at: usize, end: usize, tag: u8) -> Option<Span> {
+pub fn leaf_at(s: &[u8], at: usize, end: usize, tag: u8) -> Option<Span> {
     let (found, from, to) = field_at(s, at, end)?;
     if found != tag {
         return None;
@@ -79,11 +85,11 @@ fn leaf_at(s: &[u8], at: usize, end: usize, tag: u8) -> Option<Span> {
     Some(Span { from, to })
 }
 
-fn sized_at(s: &[u8], at: usize, end: usize, tag: u8, size: usize) -> Option<Span> {
+pub fn sized_at(s: &[u8], at: usize, end: usize, tag: u8, size: usize) -> Option<Span> {
     leaf_at(s, at, end, tag).filter(|p| p.to - p.from == size)
 }
 
-fn shape_at(s: &[u8], at: usize, end: usize) -> Option<Shape> {
+pub fn shape_at(s: &[u8], at: usize, end: usize) -> Option<Shape> {
     let n = sized_at(s, at, end, NUMBER, 4)?;
     let t = sized_at(s, n.to, end, TYPE, 1)?;
     let l = sized_at(s, t.to, end, LABEL, 1)?;
@@ -101,28 +107,31 @@ fn shape_at(s: &[u8], at: usize, end: usize) -> Option<Shape> {
     Some(Shape { number, typ, label: s[l.from], path })
 }
 
-fn extension_at(s: &[u8], from: usize, to: usize) -> Option<Declaration> {
+pub fn extension_at(s: &[u8], from: usize, to: usize) -> Option<Declaration> {
     let name = leaf_at(s, from, to, NAME)?;
     let extendee = leaf_at(s, name.to, to, EXTENDEE)?;
     let shape = shape_at(s, extendee.to, to)?;
     Some(Declaration { name, extendee, shape })
 }
 
+pub fn message_field_at(s: &[u8], from: usize, to: usize) -> Option<Declaration> {
+    let name = leaf_at(s, from, to, NAME)?;
+    let shape = shape_at(s, name.to, to)?;
+    Some(Declaration { name, extendee: Span { from: 0, to: 0 }, shape })
+}
+
 // ---- one scope
-fn named_at(s: &[u8], from: usize, to: usize, name: &[u8]) -> Option<Span> {
+pub fn named_at(s: &[u8], from: usize, to: usize, name: &[u8]) -> Option<Span> {
     leaf_at(s, from, to, NAME).filter(|p| &s[p.from..p.to] == name)
 }
 
-fn down(s: &[u8], scope: LookupScope, name: &[u8]) -> Option<LookupScope> {
-    if scope.left == 0 {
-        return None;
-    }
+pub fn body_named(s: &[u8], scope: LookupScope, want: u8, name: &[u8]) -> Option<Span> {
     let mut at = scope.body.from;
     while at < scope.body.to {
         let (tag, from, to) = field_at(s, at, scope.body.to)?;
-        if tag == MESSAGE {
+        if tag == want {
             if let Some(p) = named_at(s, from, to, name) {
-                return Some(LookupScope { file: scope.file, body: Span { from: p.to, to }, left: scope.left - 1 });
+                return Some(Span { from: p.to, to });
             }
         }
         at = to;
@@ -130,12 +139,28 @@ fn down(s: &[u8], scope: LookupScope, name: &[u8]) -> Option<LookupScope> {
     None
 }
 
-fn extension_named(s: &[u8], scope: LookupScope, name: &[u8]) -> Option<Declaration> {
+pub fn down(s: &[u8], scope: LookupScope, name: &[u8]) -> Option<LookupScope> {
+    if scope.left == 0 {
+        return None;
+    }
+    let body = body_named(s, scope, MESSAGE, name)?;
+    Some(LookupScope { file: scope.file, message: true, body, left: scope.left - 1 })
+}
+
+pub fn declaration_at(s: &[u8], from: usize, to: usize, want: u8) -> Option<Declaration> {
+    if want == EXTENSION {
+        extension_at(s, from, to)
+    } else {
+        message_field_at(s, from, to)
+    }
+}
+
+pub fn declaration_named(s: &[u8], scope: LookupScope, want: u8, name: &[u8]) -> Option<Declaration> {
     let mut at = scope.body.from;
     while at < scope.body.to {
         let (tag, from, to) = field_at(s, at, scope.body.to)?;
-        if named_at(s, from, to, name).is_some() && tag == EXTENSION {
-            if let Some(d) = extension_at(s, from, to) {
+        if named_at(s, from, to, name).is_some() && tag == want {
+            if let Some(d) = declaration_at(s, from, to, want) {
                 return Some(d);
             }
         }
@@ -145,7 +170,7 @@ fn extension_named(s: &[u8], scope: LookupScope, name: &[u8]) -> Option<Declarat
 }
 
 // ---- the scopes at a path
-fn component_end(s: &[u8], at: usize) -> usize {
+pub fn component_end(s: &[u8], at: usize) -> usize {
     let mut i = at;
     while i < s.len() && s[i] != b'.' {
         i += 1;
@@ -153,14 +178,14 @@ fn component_end(s: &[u8], at: usize) -> usize {
     i
 }
 
-fn before(s: &[u8], at: usize) -> &[u8] {
+pub fn before(s: &[u8], at: usize) -> &[u8] {
     if at == 0 {
         return &s[..0];
     }
     &s[..at - 1]
 }
 
-fn follow(s: &[u8], names: &[u8], next: usize, scope: LookupScope) -> Option<LookupScope> {
+pub fn follow(s: &[u8], names: &[u8], next: usize, scope: LookupScope) -> Option<LookupScope> {
     let mut reached = scope;
     let mut at = next;
     while at <= names.len() {
@@ -171,7 +196,7 @@ fn follow(s: &[u8], names: &[u8], next: usize, scope: LookupScope) -> Option<Loo
     Some(reached)
 }
 
-fn next_here(s: &[u8], names: &[u8], cursor: Cursor) -> Option<(LookupScope, Cursor)> {
+pub fn next_here(s: &[u8], names: &[u8], cursor: Cursor) -> Option<(LookupScope, Cursor)> {
     let mut at = cursor.at;
     let mut file = cursor.file;
     while at < s.len() {
@@ -186,7 +211,7 @@ fn next_here(s: &[u8], names: &[u8], cursor: Cursor) -> Option<(LookupScope, Cur
         let index = file;
         file += 1;
         if &s[p.from..p.to] == before(names, cursor.next) {
-            let scope = LookupScope { file: index, body: Span { from: p.to, to }, left: MOST_MESSAGES };
+            let scope = LookupScope { file: index, message: false, body: Span { from: p.to, to }, left: MOST_MESSAGES };
             if let Some(reached) = follow(s, names, cursor.next, scope) {
                 return Some((reached, Cursor { next: cursor.next, at, file }));
             }
@@ -195,7 +220,7 @@ fn next_here(s: &[u8], names: &[u8], cursor: Cursor) -> Option<(LookupScope, Cur
     None
 }
 
-fn next_scope(s: &[u8], names: &[u8], cursor: Cursor) -> Option<(LookupScope, Cursor)> {
+pub fn next_scope(s: &[u8], names: &[u8], cursor: Cursor) -> Option<(LookupScope, Cursor)> {
     let mut c = cursor;
     loop {
         if let Some(next) = next_here(s, names, c) {
@@ -209,7 +234,7 @@ fn next_scope(s: &[u8], names: &[u8], cursor: Cursor) -> Option<(LookupScope, Cu
 }
 
 // ---- extensions
-fn find_extension_by_abs_path(s: &[u8], path: &[u8]) -> Option<Found> {
+pub fn find_extension_by_abs_path(s: &[u8], path: &[u8]) -> Option<Found> {
     if path.is_empty() {
         return None;
     }
@@ -219,25 +244,25 @@ fn find_extension_by_abs_path(s: &[u8], path: &[u8]) -> Option<Found> {
     loop {
         let (scope, rest) = next_scope(s, names, c)?;
         c = rest;
-        if let Some(declaration) = extension_named(s, scope, &path[last..]) {
+        if let Some(declaration) = declaration_named(s, scope, EXTENSION, &path[last..]) {
             return Some(Found { file: scope.file, declaration });
         }
     }
 }
 
-fn count(s: &[u8]) -> usize {
+pub fn count(s: &[u8]) -> usize {
     if s.is_empty() {
         return 0;
     }
     s.iter().filter(|b| **b == b'.').count() + 1
 }
 
-fn put_all(room: &mut [u8], at: usize, bytes: &[u8]) -> usize {
+pub fn put_all(room: &mut [u8], at: usize, bytes: &[u8]) -> usize {
     room[at..at + bytes.len()].copy_from_slice(bytes);
     at + bytes.len()
 }
 
-fn candidate(scope: &[u8], path: &[u8], i: usize, room: &mut [u8]) -> usize {
+pub fn candidate(scope: &[u8], path: &[u8], i: usize, room: &mut [u8]) -> usize {
     if path.first() == Some(&b'.') {
         return put_all(room, 0, &path[1..]);
     }
@@ -253,14 +278,14 @@ fn candidate(scope: &[u8], path: &[u8], i: usize, room: &mut [u8]) -> usize {
     put_all(room, 0, path)
 }
 
-fn candidates(scope: &[u8], path: &[u8]) -> usize {
+pub fn candidates(scope: &[u8], path: &[u8]) -> usize {
     if path.first() == Some(&b'.') {
         return 1;
     }
     count(scope) + 1
 }
 
-fn find_extension_by_path(s: &[u8], scope: &[u8], path: &[u8], room: &mut [u8]) -> Option<Found> {
+pub fn find_extension_by_path(s: &[u8], scope: &[u8], path: &[u8], room: &mut [u8]) -> Option<Found> {
     for i in 0..candidates(scope, path) {
         let n = candidate(scope, path, i, room);
         if let Some(found) = find_extension_by_abs_path(s, &room[..n]) {
@@ -271,15 +296,15 @@ fn find_extension_by_path(s: &[u8], scope: &[u8], path: &[u8], room: &mut [u8]) 
 }
 
 // ---- the same tests of form as benchfind makes
-fn is_ident(s: &[u8]) -> bool {
+pub fn is_ident(s: &[u8]) -> bool {
     !s.is_empty() && s.len() <= 64 && !s[0].is_ascii_digit() && s.iter().all(|b| b.is_ascii_alphanumeric() || *b == b'_')
 }
 
-fn is_rel_path(s: &[u8]) -> bool {
+pub fn is_rel_path(s: &[u8]) -> bool {
     s.len() <= 255 && s.split(|b| *b == b'.').all(is_ident)
 }
 
-fn is_path(s: &[u8]) -> bool {
+pub fn is_path(s: &[u8]) -> bool {
     s.len() <= 255 && is_rel_path(s.strip_prefix(b".").unwrap_or(s))
 }
 

@@ -1,0 +1,16 @@
+-- `benchresolve::run` meets its contract.
+-- Assumes nothing.
+use Rattle.basis.proofs.Kit.{needs}
+use Rattle.benchresolve.proofs.CaseLaws.{case-laws}
+use Rattle.benchresolve.proofs.run.Statement.{statement}
+use Rattle.benchresolve.proofs.run.Tie as tie
+
+pub run-spec : {M : Type 1} → statement M
+run-spec = tie.close (tie.spec
+    (λ c κs. search (needs, case-laws))
+    (λ c. search (needs, case-laws))
+    (λ c. search (needs, case-laws))
+    (λ c. search (needs, case-laws))
+    (λ c κs. search (needs, case-laws))
+    (λ c. search (needs, case-laws))
+    (λ c. search (needs, case-laws)))

@@ -1,0 +1,26 @@
+-- `optlower::resolve_case` meets its contract.
+-- Assumes nothing.
+use Rattle.basis.proofs.Kit.{needs}
+use Rattle.optlower.proofs.CaseLaws.{case-laws}
+use Rattle.optlower.proofs.resolve_case.Statement.{statement}
+use Rattle.optlower.proofs.resolve_case.Tie as tie
+
+pub resolve-case-spec : {M : Type 1} → statement M
+resolve-case-spec = tie.close (tie.spec
+    (λ c κs. search (needs, case-laws))
+    (λ c. search (needs, case-laws))
+    (λ c. search (needs, case-laws))
+    (λ c. search (needs, case-laws))
+    (λ c κs. search (needs, case-laws))
+    (λ c. search (needs, case-laws))
+    (λ c. search (needs, case-laws))
+    (λ c. search (needs, case-laws))
+    (λ c. search (needs, case-laws))
+    (λ c. search (needs, case-laws))
+    (λ c. search (needs, case-laws))
+    (λ c. search (needs, case-laws))
+    (λ c. search (needs, case-laws))
+    (λ c. search (needs, case-laws))
+    (λ c κs. search (needs, case-laws))
+    (λ c. search (needs, case-laws))
+    (λ c. search (needs, case-laws)))
