@@ -40,6 +40,13 @@ def float_bits():
     return rnd.getrandbits(64)
 
 
+def middle():
+    """The middle between two floats or two doubles, or just beside it, where two roundings would not be as one."""
+    width = rnd.choice((24, 24, 53))
+    more = rnd.choice((1, 63 - width, 64 - width, rnd.randint(1, 64 - width)))
+    return rnd.choice((1, 1, -1)) * ((rnd.getrandbits(width) << more) + (1 << more - 1) + rnd.choice((-1, 0, 1, 1)))
+
+
 def integer(n=None):
     if n is None:
         how = rnd.random()
@@ -47,11 +54,6 @@ def integer(n=None):
             n = rnd.choice((0, 1, -1, 7, 127, 128, 300, 16383, 16384, -2))
         elif how < 0.6:
             n = rnd.choice((2**24, 2**53, 2**31, 2**32, 2**63, 2**64)) + rnd.choice((-2, -1, 0, 1, 2, 3))
-        elif how < 0.8:
-            # the middle between two floats or two doubles, or just beside it, where two roundings would not be as one
-            width = rnd.choice((24, 24, 53))
-            more = rnd.randint(1, 64 - width)
-            n = (rnd.getrandbits(width) << more) + (1 << more - 1) + rnd.choice((-1, 0, 1, 1))
         else:
             n = rnd.getrandbits(rnd.randint(1, 64)) * rnd.choice((1, -1))
     if n > 2**64 - 1 or n < -(2**63):
@@ -117,7 +119,8 @@ def value(plan, kind, path, depth):
     if kind in HOLDS:
         return integer_for(kind)
     if kind in (1, 2):
-        return integer() if rnd.random() < 0.4 else constant(plan, FLOAT, kind, path, depth)
+        how = rnd.random()
+        return integer(middle()) if how < 0.35 else integer() if how < 0.55 else constant(plan, FLOAT, kind, path, depth)
     return constant(plan, {8: BOOL, 9: STRING, 12: STRING, 14: IDENT, 11: MESSAGE}[kind], kind, path, depth)
 
 
@@ -298,7 +301,7 @@ def cases():
                 plan, what = Plan(google=True), "descriptor.proto's"
             elif how < 0.84:
                 plan, what = Plan(google=rnd.random() < 0.2, wide=True), "every type"
-            elif how < 0.88:
+            elif how < 0.89:
                 plan, what = crossed(Plan(google=rnd.random() < 0.2)), "names of extensions meet"
             elif how < 0.94:
                 plan, what = spoiled(Plan(google=rnd.random() < 0.1)), "not clean"
