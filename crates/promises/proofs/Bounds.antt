@@ -56,11 +56,11 @@ set-among a ks x u v =
     small-more (omega arith) (omega (arith, length-encode-append (knownRecs ks) x))
     (small-append (set-small a u ks (omega arith)) (small-self x (omega arith)))
 
-module _ (L : Lookups) (s r scope : List ℕ) (m : Message) {k n b c : ℕ} where
+module _ {k n b c : ℕ} where
   next-small : (i : ℕ) (ks : List Known) (x : Recs) {y : Settled} → Small k n (append (knownRecs ks) x) → SmallSettled k b y
       → (f : List Known → Recs → Gathered)
       → ((ks : List Known) (x : Recs) → Small k (b + n) (append (knownRecs ks) x) → SmallGathered k c (f ks x))
-      → SmallGathered k c (next L s r scope m i ks x y f)
+      → SmallGathered k c (next i ks x y f)
   next-small i ks x u (sets {x = a} v) f g = g (setKnown a ks) x (set-among a ks x v u)
   next-small i ks x u (writing {x = y} v) f g =
       g ks (append x y) (rw (← append-append) (small-more (omega arith) (omega arith) (small-append u v)))
@@ -85,7 +85,7 @@ module _ (L : Lookups) (s r scope : List ℕ) (m : Message) (k c : ℕ) where
           → FromHere (elim b [ true ↦ optionOf r a e ∷ optionsIn r w | false ↦ optionsIn r w ]) (bytesMost (width (step t a e w)))
       go false rest l n h i ks x u = rest l n (omega arith) i ks x u
       go true rest l n h i ks x u =
-          next-small L s r scope m i ks x u (settle-small L s r scope m a e k (omega arith)) _
+          next-small i ks x u (settle-small L s r scope m a e k (omega arith)) _
           (rest (omega arith) (bytesMost (e - a) + n) (omega arith) (i + 1))
 
 -- ---- a request

@@ -43,7 +43,7 @@ abbrev crossed : List ℕ
 crossed = file "a.b" (extension "x" fieldOptions 101 13) ++ file "a" (message "b" (extension "x" fieldOptions 102 13)) ++ google
 
 -- ---- the table
-abbrev p1-to-p9 : List Example
+abbrev pub p1-to-p9 : List Example
 p1-to-p9 =
     -- P1
     asks first (request "p" "o.F" (option (ext "x") (unsigned 7))) (bytes (0x28 ∷ 0x07 ∷ []))
@@ -71,6 +71,6 @@ p1-to-p9 =
     ∷ asks ranks (request "" fieldOptions (option (ext ".plant.rank") (unsigned 4294967296))) (refused 14 0 (Inside 0 0))
     ∷ []
 
-table : map answer p1-to-p9 ≡ map (λ x. x .says) p1-to-p9
+pub table : map answer p1-to-p9 ≡ map (λ x. x .says) p1-to-p9
 unfolding answer
 table = refl

@@ -9,3 +9,5 @@ pub mod OptionBounds
 pub mod Bounds
 pub mod LevelControls
 pub mod Levels
+pub mod Theorems
+pub mod Main
