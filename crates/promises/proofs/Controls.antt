@@ -1,23 +1,15 @@
 -- Closed cases of the option steps, which the checker computes: of each reply from 4 to 15 one or more, and of each rule one that holds.
 -- Assumes nothing.
-use mathlib.Core.Path.{_≡_, refl}
-use mathlib.Core.List.{List, [], _∷_, _++_, map}
-use Prim.Native.Nat.{ℕ}
-use Prim.Native.String.{String}
+use Rattle.basis.specs.Kit.{_≡_, refl, List, [], _∷_, _++_, map, ℕ}
 use Rattle.octets.specs.Ascii.{ascii}
 use Rattle.settle.specs.declared.Place.the-variants.{Nowhere, Inside}
-use Rattle.promises.proofs.Asking.{Example, asks, bytes, absent, refused, answer, stepped}
-use Rattle.promises.proofs.Sheets.{file, message, extension, extensionTo, field, fieldTo, fieldWith, value, enum}
+use Rattle.promises.proofs.Asking.{Example, asks, bytes, refused, stepped}
+use Rattle.scopes.proofs.Sheets.{file, message, value, enum}
+use Rattle.promises.proofs.Sheets.{extension, extensionTo, field, fieldTo, fieldWith}
 use Rattle.promises.proofs.Sheets.{request, option, direct, ext, boolean, unsigned, signed, float, string, ident, messageOf}
 use Rattle.promises.proofs.Sheets.{pair, pairExt, pairUrl, list}
 
 -- ---- the sheets
-abbrev fieldOptions : String
-fieldOptions = "google.protobuf.FieldOptions"
-
-abbrev messageOptions : String
-messageOptions = "google.protobuf.MessageOptions"
-
 -- one sheet for all: a message F of options, a message M of values, an enum K
 abbrev sample : List ℕ
 sample = file "o" (message "F" (field "flag" 3 8 ++ field "note" 1 9 ++ fieldTo "kind" 2 14 "o.K" ++ fieldWith 3 "many" 4 8 "" ++ field

@@ -1,23 +1,14 @@
 -- 01's examples P1 to P9, as one table under one statement, which the checker computes. P1 and P8 are of the whole call.
 -- Assumes nothing.
-use mathlib.Core.Path.{_≡_, refl}
-use mathlib.Core.List.{List, [], _∷_, _++_, map}
-use Prim.Native.Nat.{ℕ}
-use Prim.Native.String.{String}
-use Rattle.octets.specs.Ascii.{ascii}
-use Rattle.settle.specs.declared.Place.the-variants.{Nowhere, Inside}
-use Rattle.promises.proofs.Asking.{Example, asks, bytes, absent, refused, answer, stepped}
-use Rattle.promises.proofs.Sheets.{file, message, extension, extensionTo, field, fieldTo, fieldWith, value, enum}
-use Rattle.promises.proofs.Sheets.{request, option, direct, ext, boolean, unsigned, signed, float, string, ident, messageOf}
-use Rattle.promises.proofs.Sheets.{pair, pairExt, pairUrl, list}
+use Rattle.basis.specs.Kit.{_≡_, refl, List, [], _∷_, _++_, map, ℕ}
+use Rattle.settle.specs.declared.Place.the-variants.{Inside}
+use Rattle.promises.proofs.Asking.{Example, asks, bytes, absent, refused, answer}
+use Rattle.scopes.proofs.Sheets.{file, message}
+use Rattle.promises.proofs.Sheets.{fieldOptions, messageOptions, extension, field}
+use Rattle.promises.proofs.Sheets.{request, option, direct, ext, unsigned}
+use Rattle.promises.proofs.Sheets.{list}
 
 -- ---- the sheets
-abbrev fieldOptions : String
-fieldOptions = "google.protobuf.FieldOptions"
-
-abbrev messageOptions : String
-messageOptions = "google.protobuf.MessageOptions"
-
 abbrev google : List ℕ
 google = file "google.protobuf" (message "FieldOptions" [] ++ message "MessageOptions" [])
 

@@ -1,43 +1,31 @@
--- Builders of sheets and requests, for the examples and the closed cases: written as 01's table of tags has them.
+-- Builders of sheets with types and labels, and of requests, for the examples and the closed cases: written as 01's table of tags has them.
+-- What a sheet has besides comes from the crate `scopes`.
 --
---          tagged t p == the field of the tag t and the payload p
---        four, eight n == the bytes of a number
---         file p body == a file of the package p
---      message n body == a message of the name n
---    shaped k t l p == number, type, label and type path, which is left out where p is empty
---     extension n m k t == an optional extension of the name n, the number k and the type t, of the message m
---   extensionTo .. p == likewise, with the type path p
---   field, fieldTo == a field of a message, likewise; fieldWith by its label
---           value n k == a value of an enum, by the 32 bits of its number
---       enum n values == an enum of the name n
---   request c t options == a request of the scope c and the options type t
---    option parts const == an option; direct and ext are parts, pair, pairExt and pairUrl the pairs of a message constant
+--                eight n == the eight bytes of a number
+--           shaped k t l p == number, type, label and type path, which is left out where p is empty
+--        extension n m k t == an optional extension of the name n, the number k and the type t, of the message m
+--         extensionTo .. p == likewise, with the type path p
+--           field, fieldTo == a field of a message, likewise; fieldWith by its label
+--      request c t options == a request of the scope c and the options type t
+--       option parts const == an option; direct and ext are parts, pair, pairExt and pairUrl the pairs of a message constant
 --
 -- Assumes nothing.
-use mathlib.Core.Bool.{true, false}
-use mathlib.Core.List.{List, [], _∷_, _++_}
-use Prim.Native.Nat.{ℕ, _/_, _%_}
+use Rattle.basis.specs.Kit.{List, [], _∷_, _++_, ℕ, _/_, _%_}
 use Prim.Native.String.{String}
-use lib.ListN.{length}
 use Rattle.octets.specs.Ascii.{ascii}
-use Rattle.sheet.specs.Table.{fileTag, messageTag, extensionTag, enumTag, fieldTag, valueTag, packageTag, nameTag}
-use Rattle.sheet.specs.Table.{extendeeTag, numberTag, typeTag, labelTag, typePathTag, signedNumberTag}
+use Rattle.sheet.specs.Table.{extensionTag, fieldTag, nameTag, extendeeTag, numberTag, typeTag, labelTag, typePathTag}
 use Rattle.request.specs.Table as tags
+use Rattle.scopes.proofs.Sheets.{tagged, four}
 
-abbrev pub tagged : ℕ → List ℕ → List ℕ
-tagged t p = t ∷ length p / 256 ∷ length p % 256 ∷ p
+-- ---- sheets
+abbrev pub fieldOptions : String
+fieldOptions = "google.protobuf.FieldOptions"
 
-abbrev pub four : ℕ → List ℕ
-four n = n / 16777216 ∷ n / 65536 % 256 ∷ n / 256 % 256 ∷ n % 256 ∷ []
+abbrev pub messageOptions : String
+messageOptions = "google.protobuf.MessageOptions"
 
 abbrev pub eight : ℕ → List ℕ
 eight n = four (n / 4294967296) ++ four (n % 4294967296)
-
-abbrev pub file : String → List ℕ → List ℕ
-file name body = tagged fileTag (tagged packageTag (ascii name) ++ body)
-
-abbrev pub message : String → List ℕ → List ℕ
-message name body = tagged messageTag (tagged nameTag (ascii name) ++ body)
 
 abbrev pub typePath : List ℕ → List ℕ
 typePath [] = []
@@ -60,12 +48,6 @@ fieldTo name n t p = fieldWith 1 name n t p
 
 abbrev pub field : String → ℕ → ℕ → List ℕ
 field name n t = fieldWith 1 name n t ""
-
-abbrev pub value : String → ℕ → List ℕ
-value name n = tagged valueTag (tagged nameTag (ascii name) ++ tagged signedNumberTag (four n))
-
-abbrev pub enum : String → List ℕ → List ℕ
-enum name values = tagged enumTag (tagged nameTag (ascii name) ++ values)
 
 -- ---- requests
 abbrev pub request : String → String → List ℕ → List ℕ
