@@ -1,4 +1,4 @@
--- 01's examples P1 to P9, as one table under one statement, which the checker computes. P1 and P8 are of the whole call.
+-- 01's examples P1 to P9, as one table under one statement, which the checker computes: each is of the whole call, the tests of form too.
 -- Assumes nothing.
 use Rattle.basis.specs.Kit.{_≡_, refl, List, [], _∷_, _++_, map, ℕ}
 use Rattle.settle.specs.declared.Place.the-variants.{Inside}

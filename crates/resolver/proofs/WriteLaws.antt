@@ -61,7 +61,7 @@ module _ (s r ns : List ℕ) (m : Measured) (k : Ready s r ns m) where
   outcome-is : outcomeOf (stepsIn (gatheredBy (walking s) s r (m .start))) ≡ give (encode (append (knownRecs knowns) rest))
   outcome-is = ap (λ (g : Gathered). outcomeOf (stepsIn g)) (k .counted .gathers)
 
-  size-is : m .known + m .others ≡ length (encode (append (knownRecs knowns) rest))
+  pub size-is : m .known + m .others ≡ length (encode (append (knownRecs knowns) rest))
   size-is =
       omega (
         arith,
@@ -127,12 +127,12 @@ pub ruleset put-records-laws =
 pub ruleset write-laws = (write-sum, write-length, write-no-room, write-done)
 
 -- ---- resolve_over: the room that was lent to measure was empty, so the lent memory is as it was
-measured-absent : {s r : List ℕ} {o : Steps} {ns : List ℕ} {v : Measure} → Measures s r o ns v → v ≡ measure.Absent → o ≡ absent
+pub measured-absent : {s r : List ℕ} {o : Steps} {ns : List ℕ} {v : Measure} → Measures s r o ns v → v ≡ measure.Absent → o ≡ absent
 measured-absent (fine k) e = never cc
 measured-absent none e = refl
 measured-absent refuses e = never cc
 
-measured-stop : {s r : List ℕ} {o : Steps} {ns : List ℕ} {v : Measure} → Measures s r o ns v → (w : Stop) → v ≡ measure.Refused w → o ≡ refused w
+pub measured-stop : {s r : List ℕ} {o : Steps} {ns : List ℕ} {v : Measure} → Measures s r o ns v → (w : Stop) → v ≡ measure.Refused w → o ≡ refused w
 measured-stop (fine k) w z = never cc
 measured-stop none w z = never cc
 measured-stop (refuses {ns} {e}) w z = let i : e ≡ w = cc in ap refused i
@@ -143,7 +143,7 @@ measured-ready (fine {ns} {m} k) n e = let i : m ≡ n = cc in rw i at k
 measured-ready none n e = never cc
 measured-ready refuses n e = never cc
 
-measured-steps : {s r : List ℕ} {o : Steps} {ns : List ℕ} {v : Measure} → Measures s r o ns v → (m : Measured) → v ≡ measure.Fine m
+pub measured-steps : {s r : List ℕ} {o : Steps} {ns : List ℕ} {v : Measure} → Measures s r o ns v → (m : Measured) → v ≡ measure.Fine m
     → o ≡ stepsIn (gatheredBy (walking s) s r (m .start))
 measured-steps {s} {r} (fine {ns} {m} k) n e = let i : m ≡ n = cc in ap (λ (y : Measured). stepsIn (gatheredBy (walking s) s r (y .start))) i
 measured-steps none n e = never cc

@@ -25,13 +25,6 @@ use settle::Settling;
 use settle::Start;
 use settle::Stop;
 
-// The verdict without room: how many bytes there are to write, Absent, or why the request is refused, and where.
-pub enum Judged {
-    Fine(usize),
-    Absent,
-    Refused(Stop),
-}
-
 // What the options start with, if there are any and the options type is found.
 pub enum Opening {
     At(Start),
@@ -55,7 +48,7 @@ pub enum Measure {
 }
 
 // This refusal, nowhere in the request.
-fn nowhere(why: Refusal) -> Stop
+pub fn nowhere(why: Refusal) -> Stop
     ensures { λ r. ⌜ r ≡ nowhereOf why ⌝ }
 {
     Stop {
@@ -163,7 +156,7 @@ fn measure_from(
 }
 
 // The verdict on a fine request, before anything is written.
-fn measure_all(sheet: &[u8], request: &[u8], notes: &mut [usize], none: &mut [u8]) -> Measure
+pub fn measure_all(sheet: &[u8], request: &[u8], notes: &mut [usize], none: &mut [u8]) -> Measure
     requires { ⌜ judgeRequest (now request) ≡ Fine ⌝ }
     requires { ⌜ mostOptions ≤ length (now notes) ⌝ }
     ensures { λ r. ⌜ Measures (now (sheet .entry)) (now (request .entry)) (stepsOf (walking (now (sheet .entry))) (now (sheet .entry)) (now (request .entry)))

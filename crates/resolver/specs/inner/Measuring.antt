@@ -1,6 +1,5 @@
 -- What is found and measured before anything is written.
 --
---      judgedOf o ==  the verdict without room: how many bytes there are, Absent, or the refusal and its place
 --       Opens s r v <-> v is what the options of the request r start with in the sheet s
 --   Counted s r ns h n o <-> the options that start with h are gathered: they are n, the others have o bytes, and the notes ns say which of
 --                            them set the known builtins
@@ -24,19 +23,12 @@ use Rattle.settle.specs.declared.Settling.the-variants.{Gives, Fails}
 use Rattle.settle.specs.inner.Settling.{Started}
 use Rattle.options.specs.Options.{Gathered, gathered, stopped}
 use Rattle.options.specs.inner.Gathering.{gatheredBy, madeAt, FineFrom}
-use Rattle.resolver.specs.declared.Judged.{Judged}
-use Rattle.resolver.specs.declared.Judged.the-variants as judged
 use Rattle.resolver.specs.declared.Opening.{Opening}
 use Rattle.resolver.specs.declared.Opening.the-variants as opening
 use Rattle.resolver.specs.declared.Measured.{Measured}
 use Rattle.resolver.specs.declared.Measure.{Measure}
 use Rattle.resolver.specs.declared.Measure.the-variants as measure
 use Rattle.resolver.specs.Resolve.{Steps, records, absent, refused, stepsIn, stepsOf}
-
-abbrev pub judgedOf : Steps → Judged
-judgedOf (records x) = judged.Fine (length (encode x))
-judgedOf absent = judged.Absent
-judgedOf (refused e) = judged.Refused e
 
 abbrev pub allOf : Gathered → Recs
 allOf (gathered ks x) = append (knownRecs ks) x
