@@ -11,12 +11,24 @@ def lines(*fields):
     return "".join(x.hex().upper() + "\n" for x in fields)
 
 
-FIELD = b"google.protobuf.FieldOptions"
+def laid(data, depth=0):
+    """A field a line, what it holds below it and further in: for a reader. A program passes over blanks."""
+    out = ""
+    while data:
+        size = int.from_bytes(data[1:3], "big")
+        payload, data, head = data[3 : 3 + size], data[3 + size :], data[:3].hex().upper()
+        inner = head[:2] in ("40", "41", "01", "02", "03", "08")
+        out += "  " * depth + head[:2] + " " + head[2:] + ("\n" if inner else " " + payload.hex().upper() + "\n")
+        out += laid(payload, depth + 1) if inner else ""
+    return out
 
 
-def order(number):
+FIELD, MESSAGE = b"google.protobuf.FieldOptions", b"google.protobuf.MessageOptions"
+
+
+def order(number, on=FIELD):
     shape = f(0x13, struct.pack(">I", number)) + f(0x14, b"\x0d") + f(0x15, b"\x01")
-    return f(0x03, f(0x11, b"order") + f(0x12, FIELD) + shape)
+    return f(0x03, f(0x11, b"order") + f(0x12, on) + shape)
 
 
 def words(*ws):
@@ -29,11 +41,23 @@ OPTIONS = f(0x01, f(0x10, b"google.protobuf") + f(0x02, f(0x11, b"FieldOptions")
 SHEET = f(0x40, PLANT + OPTIONS)
 SCOPE = f(0x42, b"plant.Dispatch")
 
-# [(order) = 7] on a field of Dispatch, as a request
-SEVEN = f(0x08, f(0x1B, b"order") + f(0x21, struct.pack(">Q", 7)))
-REQUEST = f(0x41, f(0x18, b"plant.Dispatch") + f(0x19, FIELD) + SEVEN)
+# the same, but Dispatch's own is one of messages: extend google.protobuf.MessageOptions { optional uint32 order = 50002; }
+MISTAKEN = f(0x01, f(0x10, b"plant") + order(50001) + f(0x02, f(0x11, b"Dispatch") + order(50002, MESSAGE)))
+BOTH = f(0x01, f(0x10, b"google.protobuf") + f(0x02, f(0x11, b"FieldOptions")) + f(0x02, f(0x11, b"MessageOptions")))
+MISTAKEN_SHEET = f(0x40, MISTAKEN + BOTH)
+
+
+def seven(name):
+    """[(NAME) = 7] on a field of Dispatch, as a request"""
+    option = f(0x08, f(0x1B, name) + f(0x21, struct.pack(">Q", 7)))
+    return f(0x41, f(0x18, b"plant.Dispatch") + f(0x19, FIELD) + option)
+
+
+REQUEST = seven(b"order")
 
 FILES = {
+    # (order), (.plant.order), and (order) where Dispatch's own is none of fields
+    "lower.hex": laid(SHEET + REQUEST) + laid(SHEET + seven(b".plant.order")) + laid(MISTAKEN_SHEET + REQUEST),
     "find.hex": lines(SHEET, SCOPE + f(0x43, b"order"), SHEET, SCOPE + f(0x43, b".plant.order")),
     "check.hex": lines(SHEET, REQUEST),
     # reserved 100 to 199, 300, 1000 to max; of a message
