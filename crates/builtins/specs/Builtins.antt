@@ -32,7 +32,7 @@ repeated = 3
 abbrev pub fieldOptions : List ℕ
 fieldOptions = ascii "google.protobuf.FieldOptions"
 
--- "On google.protobuf.FieldOptions, `default` and `json_name` are skipped with any constant."
+-- "On google.protobuf.FieldOptions, `default` and `json_name` are skipped with any constant." [BUILTIN-1]
 unfoldable pub isSkipped : (message name : List ℕ) → Bool
 isSkipped m n = sameBytes m fieldOptions && (sameBytes n (ascii "default") || sameBytes n (ascii "json_name"))
 
@@ -41,7 +41,8 @@ builtOf h (Misfit w) = Wrong w
 builtOf h (Fits b) = Sets h b
 
 module _ (L : Lookups) (s r : List ℕ) where
-  -- "be bool, enum or string with a matching constant; a misfit or unlisted enum name is 12, a string not UTF-8 is 15"
+  -- "be bool, enum or string with a matching constant; a misfit or unlisted enum name is 12, a string not UTF-8 is 15" [BUILTIN-4,
+  -- BUILTIN-5, BUILTIN-6]
   abbrev pub builtinOn : Shape → Constants → Scalar
   builtinOn h noConstant = unsupported
   builtinOn h (scalar n c rest) = elim (isAny (h .typ) (TYPE_BOOL ∷ TYPE_ENUM ∷ TYPE_STRING ∷ [])) [
@@ -51,7 +52,7 @@ module _ (L : Lookups) (s r : List ℕ) where
   builtinOn h (list n inside rest) = unsupported
   builtinOn h (message n inside rest) = unsupported
 
-  -- "Else the field must exist, not be repeated"
+  -- "Else the field must exist, not be repeated" [BUILTIN-2, BUILTIN-3]
   abbrev pub builtinField : Constants → Option Declaration → Built
   builtinField c none = Wrong BuiltinOptionNotFound
   builtinField c (some d) = elim (eqb (d .shape .label) repeated) [

@@ -40,7 +40,7 @@ pub record Message : Type 0 where
   pub name : List ℕ
   pub place : LookupScope
 
--- 01, The search: "Of equal field or value names the first counts." [LOOKUP-5]
+-- 01, The search: "Of equal field or value names the first counts." [LOOKUP-6]
 abbrev pub fieldNamed : (s name : List ℕ) → LookupScope → Option Declaration
 fieldNamed s n p = declarationNamed fieldTag s n (holding s p)
 

@@ -16,7 +16,7 @@ pub data Gathered : Type 0 where
   gathered : (knowns : List Known) (rest : Recs) → Gathered
   stopped : Stop → Gathered
 
--- "Otherwise options go in order and the first refused option ends the work."
+-- "Otherwise options go in order and the first refused option ends the work." [STEP-3]
 abbrev pub next : (option : ℕ) → List Known → Recs → Settled → (List Known → Recs → Gathered) → Gathered
 next i ks x (known k) f = f (setKnown k ks) x
 next i ks x (others y) f = f ks (append x y)

@@ -13,7 +13,7 @@ pub data Made (W : Type 0) : Type 0 where
   made : Recs → Made W
   wrong : W → Made W
 
--- 01, Replies: "a constant's parts as written, the first fault answered"
+-- 01, Replies: "a constant's parts as written, the first fault answered" [VALUE-14]
 abbrev pub after : {W : Type 0} (front : Recs) → Made W → Made W
 after a (made b) = made (append a b)
 after a (wrong w) = wrong w

@@ -38,7 +38,7 @@ abbrev pub recordOf : (request : List ℕ) → Shape → Body → Recs
 recordOf r h (Bits v) = number (h .number) (h .typ) v nil
 recordOf r h (Bytes p) = bytes (h .number) (h .typ) (text r p) nil
 
--- Encoding, "Signed Integers": sint32 and sint64 by zigzag; "Non-varint Numbers": four or eight bytes; the others are varints
+-- Encoding, "Signed Integers": sint32 and sint64 by zigzag; "Non-varint Numbers": four or eight bytes; the others are varints [BYTES-2]
 unfoldable pub payload : (typ bits : ℕ) → List ℕ
 payload t v = elim (eqb (wireOf t) I32) [
   | true ↦ littleOf 4 (low32Of v)
@@ -48,11 +48,11 @@ payload t v = elim (eqb (wireOf t) I32) [
   ]
 ]
 
--- Encoding, "Message Structure": the field number and the wire type
+-- Encoding, "Message Structure": the field number and the wire type [BYTES-1]
 abbrev pub headed : (field typ : ℕ) → List ℕ
 headed n t = varint (tagOf n (wireOf t))
 
--- Encoding, "Length-Delimited Records"
+-- Encoding, "Length-Delimited Records" [BYTES-2]
 unfoldable pub headOf : (field size : ℕ) → List ℕ
 headOf n k = varint (tagOf n LEN) ++ varint k
 

@@ -37,7 +37,7 @@ pub data Steps : Type 0 where
   absent : Steps
   refused : Stop → Steps
 
--- "Known builtins come first by rising number, then the rest in order of writing."
+-- "Known builtins come first by rising number, then the rest in order of writing." [BYTES-3]
 abbrev pub stepsIn : Gathered → Steps
 stepsIn (gathered ks x) = records (append (knownRecs ks) x)
 stepsIn (stopped e) = refused e
@@ -48,7 +48,7 @@ module _ (L : Lookups) (s r : List ℕ) where
   onType q (Is p) =
       stepsIn (gather L s r (text r (q .scope)) (record { name = text r (q .optionsType); place = p }) 0 [] nil (q .options))
 
-  -- "No options: Absent, before the options type is looked for."
+  -- "No options: Absent, before the options type is looked for." [STEP-1, STEP-2]
   abbrev pub someOptions : Request → List Option → Steps
   someOptions q [] = absent
   someOptions q (o ∷ os) = onType q (L .message (text r (q .optionsType)))
@@ -56,7 +56,7 @@ module _ (L : Lookups) (s r : List ℕ) where
   unfoldable pub stepsOf : Steps
   stepsOf = someOptions (requestOf r) (requestOf r .options)
 
--- ---- the call: 01, Replies, "Inputs in the order a call names them, the sheet first"
+-- ---- the call: 01, Replies, "Inputs in the order a call names them, the sheet first" [ORDER-1]
 abbrev pub unless : Verdict → Steps → Steps
 unless Fine o = o
 unless (Refused w) o = refused (nowhere w)
@@ -70,7 +70,7 @@ resolving s r = resolvingBy (judgeSheet s) s r
 abbrev pub resolvingTested : (s r : List ℕ) → Steps
 resolvingTested s r = resolvingBy (judgeLength s) s r
 
--- "0 done: bytes and length, or Absent"
+-- "0 done: bytes and length, or Absent" [RESOLVE-2]
 abbrev pub outcomeOf : Steps → Outcome ℕ
 outcomeOf (records x) = give (encode x)
 outcomeOf absent = nothing

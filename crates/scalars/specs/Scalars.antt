@@ -65,7 +65,7 @@ unfoldable pub patternOf : Bool → ℕ → ℕ
 patternOf true n = (2 ^ 64 - n) % 2 ^ 64
 patternOf false n = n
 
--- "Integers fit any integer type that holds them, else 14; on float and double they round to nearest, ties to even."
+-- "Integers fit any integer type that holds them, else 14; on float and double they round to nearest, ties to even." [VALUE-2, VALUE-3]
 unfoldable pub integerOn : ℕ → Bool → ℕ → Scalar
 integerOn t minus n = elim (isInteger t) [
   | true ↦ elim (leb n (mostOf minus t)) [ true ↦ fits (patternOf minus n) | false ↦ Misfit ValueRange ]
@@ -75,14 +75,14 @@ integerOn t minus n = elim (isInteger t) [
   ]
 ]
 
--- ---- "A float constant fits double exactly and float by the same rounding, overflow to infinity, NaN to 7FC00000.": by its 64 bits
+-- ---- "A float constant fits double exactly and float by the same rounding, overflow to infinity, NaN to 7FC00000.": by its 64 bits [VALUE-4]
 unfoldable pub floatOn : ℕ → ℕ → Scalar
 floatOn t b = elim (eqb t TYPE_DOUBLE) [
   | true ↦ fits b
   | false ↦ elim (eqb t TYPE_FLOAT) [ true ↦ fits (narrowBits b) | false ↦ unsupported ]
 ]
 
--- ---- "Strings fit string (UTF-8, else 15) and bytes. Bools fit bool, identifiers enum."
+-- ---- "Strings fit string (UTF-8, else 15) and bytes. Bools fit bool, identifiers enum." [VALUE-5, VALUE-6]
 unfoldable pub stringOn : List ℕ → ℕ → Span → Scalar
 stringOn r t p = elim (eqb t TYPE_STRING) [
   | true ↦ elim (isUtf8 (text r p)) [ true ↦ Fits (Bytes p) | false ↦ Misfit StrLitDecodeError ]
@@ -102,7 +102,7 @@ among unlisted s n (NoEnum w) = Misfit w
 among unlisted s n (Values vs) = listed unlisted (valueIn s n vs)
 
 module _ (L : Lookups) (s r : List ℕ) (unlisted : Refusal) (h : Shape) where
-  -- "A type path is looked up only for .. an identifier on an enum."
+  -- "A type path is looked up only for .. an identifier on an enum." [STEP-11, VALUE-7]
   unfoldable pub identOn : Span → Scalar
   identOn p = elim (eqb (h .typ) TYPE_ENUM) [
     | true ↦ among unlisted s (text r p) (L .enumeration (text s (h .path)))

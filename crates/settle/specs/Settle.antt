@@ -38,7 +38,7 @@ abbrev pub settled : Made Fault → Settled
 settled (made x) = others x
 settled (wrong f) = fails f
 
--- "A single direct part is a builtin."
+-- "A single direct part is a builtin." [STEP-4]
 abbrev pub builtinPart : List Part → Option Part
 builtinPart [] = none
 builtinPart (p ∷ []) = onlyIf (p .extension) none (some p)
@@ -48,7 +48,7 @@ abbrev pub stopAt : (option : ℕ) → Fault → Stop
 stopAt i f = record { place = Inside i (f .part); why = f .why }
 
 module _ (L : Lookups) (s r scope : List ℕ) (m : Message) where
-  -- "Other names resolve the first part in the options message"
+  -- "Other names resolve the first part in the options message" [STEP-5]
   unfoldable pub settle : tree.Option → Settled
   settle o =
       told (settled (optionFrom L s r scope 0 m (o .parts) (o .constant)))

@@ -51,7 +51,7 @@ reached i n name (NoMessage w) f = wrong (faultAt i w)
 reached i n name (Is p) f = holding n (f (record { name = name; place = p }))
 
 module _ (L : Lookups) (s r scope : List ℕ) where
-  -- "a direct part as a field, an extension part by search from the request's scope"
+  -- "a direct part as a field, an extension part by search from the request's scope" [STEP-5, STEP-6]
   unfoldable pub stepOf : Message → Part → Step
   stepOf m p = elim (p .extension) [
     | true ↦ stepExtension (L .extension scope (m .name) (text r (p .name)))
@@ -59,14 +59,14 @@ module _ (L : Lookups) (s r scope : List ℕ) where
   ]
 
   -- "Parts left on a message go inside it; on a group nothing is written there and the rest is unread (messages around it are written, the
-  -- innermost empty); on any other type 6."
+  -- innermost empty); on any other type 6." [STEP-7, STEP-8, STEP-9]
   abbrev pub left : (part : ℕ) → Shape → (Message → Made Fault) → Made Fault
   left i h f = elim (eqb (h .typ) TYPE_MESSAGE) [
     | true ↦ reached i (h .number) (text s (h .path)) (L .message (text s (h .path))) f
     | false ↦ elim (eqb (h .typ) TYPE_GROUP) [ true ↦ made nil | false ↦ wrong (faultAt i ExtensionIsNotMessage) ]
   ]
 
-  -- "recurses with fewer parts left"; an option that has no part, as no fine one is, comes to nothing
+  -- "recurses with fewer parts left"; an option that has no part, as no fine one is, comes to nothing [STEP-10]
   abbrev pub optionFrom : (part : ℕ) → Message → List Part → Constants → Made Fault
   optionFrom i m [] c = made nil
   optionFrom i m (p ∷ []) c = onStep i (stepOf m p) λ d. at i (records L s r (on (d .shape)) c)

@@ -34,7 +34,7 @@ abbrev pub madeOf : (request : List ℕ) → Shape → Scalar → Made Refusal
 madeOf r h (Fits b) = made (recordOf r h b)
 madeOf r h (Misfit w) = wrong w
 
--- "A list, in a list too, gives one record an element, never packed."
+-- "A list, in a list too, gives one record an element, never packed." [VALUE-13]
 pub data Holder : Type 0 where
   on : Shape → Holder
   within : LookupScope → Holder
@@ -44,7 +44,7 @@ pub data Asked : Type 0 where
   passed : Asked
   refused : Refusal → Asked
 
--- 01, Replies: 9, "direct part, pair or query"; "Pairs named by 28 or 29 write nothing."
+-- 01, Replies: 9, "direct part, pair or query"; "Pairs named by 28 or 29 write nothing." [VALUE-10, VALUE-12]
 abbrev pub asked : (s r : List ℕ) → Holder → PairName → Asked
 asked s r (on h) n = field h
 asked s r (within p) unnamed = passed
@@ -62,7 +62,8 @@ reached n (NoMessage w) f = wrong w
 reached n (Is p) f = holding n (f p)
 
 module _ (L : Lookups) (s : List ℕ) where
-  -- "A message constant needs a message type, else 11."; "A type path is looked up only for .. a message constant on a message"
+  -- "A message constant needs a message type, else 11."; "A type path is looked up only for .. a message constant on a message" [VALUE-8,
+  -- VALUE-9, STEP-11]
   abbrev pub inMessage : Shape → (LookupScope → Made Refusal) → Made Refusal
   inMessage h f = elim (eqb (h .typ) TYPE_MESSAGE) [
     | true ↦ reached (h .number) (L .message (text s (h .path))) f
