@@ -34,7 +34,8 @@ use Rattle.values.specs.Values.{scalarMade}
 use Rattle.steps.specs.Steps.{stepOf}
 use Rattle.builtins.specs.Builtins.{isSkipped, builtinOf}
 use Rattle.settle.specs.Settle.{settle}
-use Rattle.resolver.specs.Resolve.{Steps, records, absent as none, refused as refusedFor, stepsOf, resolvingBy, resolving}
+use Rattle.measure.specs.Steps.{Steps, records, absent as none, refused as refusedFor, stepsOf}
+use Rattle.resolver.specs.Resolve.{resolvingBy, resolving}
 use Rattle.declform.specs.Declarations.{goodTypePath, goodShape, goodField, isField, isExtension, isValue}
 use Rattle.messageform.specs.Form.{judgeValue, judgeEnum, judgeItem, judgeItems}
 use Rattle.sheetform.specs.Form.{judgeFile, judgeFiles, judgeLength, judgeSheet}

@@ -17,7 +17,8 @@ use Rattle.requestform.specs.Fine.{goodOptions}
 use Rattle.requestform.proofs.FineLaws.{fine-good}
 use Rattle.records.specs.Records.{Recs}
 use Rattle.lookups.specs.Lookups.{Lookups, walking}
-use Rattle.resolver.specs.Resolve.{records, stepsOf, resolvingBy}
+use Rattle.measure.specs.Steps.{records, stepsOf}
+use Rattle.resolver.specs.Resolve.{resolvingBy}
 use Rattle.promises.specs.Levels.{deepest}
 use Rattle.promises.proofs.Bounds.{longest, records-small, resolved-fine, resolved-steps}
 

@@ -36,7 +36,8 @@ use Rattle.steps.specs.declared.Step.the-variants.{NotFound}
 use Rattle.steps.specs.Steps.{stepOf}
 use Rattle.settle.specs.Settle.{fails, stopAt, settle}
 use Rattle.options.specs.Options.{stopped, gather}
-use Rattle.resolver.specs.Resolve.{records, resolving, resolveBytes, resolveTested}
+use Rattle.measure.specs.Steps.{records}
+use Rattle.resolver.specs.Resolve.{resolving, resolveBytes, resolveTested}
 use Rattle.resolver.proofs.WriteLaws as calls
 use Rattle.promises.specs.Levels.{deepest}
 use Rattle.promises.proofs.Asking.{answer}

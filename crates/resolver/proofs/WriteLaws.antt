@@ -1,56 +1,40 @@
 -- What was measured, written; and the ways through `resolve_over`, `resolve_tested` and `resolve`.
 -- Assumes nothing.
-use Rattle.basis.specs.Kit.{_≡_, refl, sym, ap, _∙_, List, [], _∷_, _++_, ℕ, _+_, _*_, _^_, _≤_, _<_, length, drop, sets}
+use Rattle.basis.specs.Kit.{_≡_, refl, sym, ap, _∙_, List, _++_, ℕ, _+_, _≤_, _<_, length, sets}
 use Rattle.basis.proofs.Kit.{arith, w64, Fits}
 use mir.Syntax.{w32}
 use mathlib.Core.Path.{subst}
 use lib.ListN.{length-append}
 use lib.Seq.{drop-at}
 use Rattle.basis.proofs.Never.{never}
-use Rattle.limits.specs.Figures.{mostOptions, mostRequest}
-use Rattle.octets.specs.inner.Laid.{Laid}
-use Rattle.octets.proofs.Overlay.{laid-append}
+use Rattle.limits.specs.Figures.{mostRequest}
 use Rattle.reply.specs.declared.Refusal.{Refusal}
 use Rattle.reply.specs.declared.Refusal.the-variants.{NoRoom}
 use Rattle.reply.specs.declared.Verdict.{Verdict}
 use Rattle.reply.specs.declared.Verdict.the-variants.{Fine, Refused as Bad}
 use Rattle.reply.specs.declared.Answer.{Answer}
 use Rattle.reply.specs.Reply.{nowhere, refusedBy, doneWith, absentAnswer}
-use Rattle.reply.specs.Outcome.{Outcome, give, Answered}
+use Rattle.reply.specs.Outcome.{give, Answered}
 use Rattle.reply.proofs.Outcomes.{answered-refused, answered-absent, answered-no-room, answered-done}
 use Rattle.emit.proofs.WriteLaws.{sets-front}
 use Rattle.sheetform.specs.Form.{judgeLength, judgeSheet}
 use Rattle.sheetform.proofs.SheetLaws.{sheet-length}
 use Rattle.requestform.specs.Form.{judgeRequest}
 use Rattle.records.specs.Records.{Recs, append, encode}
-use Rattle.records.specs.inner.Emits.{bytesMost, Roomy}
 use Rattle.records.proofs.RecsLaws.{encode-append}
 use Rattle.lookups.specs.Lookups.{walking}
 use Rattle.known.specs.Known.{Known, knownRecs}
-use Rattle.known.specs.inner.Notes.{Noted}
 use Rattle.settle.specs.declared.Stop.{Stop}
-use Rattle.settle.specs.declared.Settling.{Settling}
-use Rattle.settle.specs.inner.Settling.{Started}
-use Rattle.options.specs.Options.{Gathered, gathered, stopped}
-use Rattle.options.specs.inner.Gathering.{gatheredBy, madeAt, knownsOf, FineFrom, Gathers, gives, stops}
-use Rattle.resolver.specs.declared.Measured.{Measured}
-use Rattle.resolver.specs.declared.Measure.{Measure}
-use Rattle.resolver.specs.declared.Measure.the-variants as measure
-use Rattle.resolver.specs.Resolve.{Steps, records, absent, refused, stepsIn, stepsOf, resolving, resolvingTested, resolvingBy, outcomeOf, resolveBytes, resolveTested}
-use Rattle.resolver.specs.inner.Measuring.{allOf, Counted, Ready, Measures, fine, none, refuses}
-use Rattle.resolver.proofs.OpenLaws.{fine-short}
-use Rattle.resolver.proofs.MeasureLaws.{counted-count, counted-noted, counted-few}
+use Rattle.options.specs.Options.{Gathered}
+use Rattle.options.specs.inner.Gathering.{gatheredBy}
+use Rattle.measure.specs.declared.Measured.{Measured}
+use Rattle.measure.specs.declared.Measure.{Measure}
+use Rattle.measure.specs.declared.Measure.the-variants as measure
+use Rattle.resolver.specs.Resolve.{Steps, absent, refused, stepsIn, stepsOf, resolvingBy, outcomeOf, resolveBytes, resolveTested}
+use Rattle.measure.specs.inner.Measuring.{allOf, Ready, Measures, fine, none, refuses}
+use Rattle.measure.proofs.OpenLaws.{fine-short}
 
--- ---- write: the second run lays what the first measured
-record Relaid (at : ℕ) (l l′ : List ℕ) (x : Recs) : Type 0 where
-  next : ℕ
-  laid : Laid l at (encode x) l′ next
-
-gathers-laid : {made : ℕ → Recs} {k : ℕ} {g : Gathered} {at : ℕ} {l l′ ns : List ℕ} {y : Settling} → Gathers made k g at l l′ ns y
-    → (ks : List Known) (x : Recs) → g ≡ gathered ks x → Relaid at l l′ x
-gathers-laid (gives {ks} {x} {at} {n} {next} a b c d) ks′ x′ e = let i : x ≡ x′ = cc in rw (← i) (record { next = next; laid = a })
-gathers-laid stops ks′ x′ e = never cc
-
+-- ---- write: as many bytes as were measured
 module _ (s r ns : List ℕ) (m : Measured) (k : Ready s r ns m) where
   abbrev knowns : List Known
   knowns = k .counted .knowns
@@ -71,40 +55,12 @@ module _ (s r ns : List ℕ) (m : Measured) (k : Ready s r ns m) where
         length-append (encode (knownRecs knowns)) (encode rest),
       )
 
-  pub write-counted : Counted s r ns (m .start) (m .count) (m .others)
-  write-counted = k .counted
-
-  pub write-started : Started s r (m .start)
-  write-started = k .started
-
-  pub write-fine : FineFrom r (m .start)
-  write-fine = k .fine
-
   module _ (h : length r ≤ mostRequest) where
     pub write-sum : Fits w64 (m .known + m .others)
     write-sum = record { fits = omega (arith, size-is, k .counted .few, h) }
 
     pub write-length : Fits w32 (m .known + m .others)
     write-length = record { fits = omega (arith, size-is, k .counted .few, h) }
-
-    pub write-room : Roomy 0 (length r) r
-    write-room = record { room = omega (arith, h) }
-
-    pub write-next : (l l′ : List ℕ) (p : ℕ) → Laid l 0 (encode (knownRecs (knownsOf (gatheredBy (walking s) s r (m .start))))) l′ p
-        → Roomy p (length r) r
-    write-next l l′ p a = record { room = omega (arith, h, a .next, counted-few s r ns (m .start) (m .count) (m .others) (k .counted)) }
-
-  pub records-put : (l l₁ l₂ : List ℕ) (p q : ℕ) (ns′ : List ℕ) (y : Settling)
-      → Laid l 0 (encode (knownRecs (knownsOf (gatheredBy (walking s) s r (m .start))))) l₁ p
-      → Gathers (madeAt (walking s) s r (m .start)) q (gatheredBy (walking s) s r (m .start)) p l₁ l₂ ns′ y
-      → l₂ ≡ sets l 0 (encode (allOf (gatheredBy (walking s) s r (m .start))))
-  records-put l l₁ l₂ p q ns′ y b c =
-      let f = gathers-laid c knowns rest (k .counted .gathers) in
-      let z : encode (knownRecs (knownsOf (gatheredBy (walking s) s r (m .start)))) ≡ encode (knownRecs knowns) =
-      ap (λ (g : Gathered). encode (knownRecs (knownsOf g))) (k .counted .gathers) in
-      let b′ : Laid l 0 (encode (knownRecs knowns)) l₁ p = subst (λ (bs : List ℕ). Laid l 0 bs l₁ p) z b in
-      laid-append (encode (knownRecs knowns)) (encode rest) b′ (f .laid) .left
-      ∙ ap (sets l 0) (sym (encode-append (knownRecs knowns) rest) ∙ sym (ap (λ (g : Gathered). encode (allOf g)) (k .counted .gathers)))
 
   pub write-no-room : (l : List ℕ) (a : Answer) → length l < m .known + m .others → a ≡ refusedBy NoRoom
       → Answered (outcomeOf (stepsIn (gatheredBy (walking s) s r (m .start)))) l l a
@@ -120,9 +76,6 @@ module _ (s r ns : List ℕ) (m : Measured) (k : Ready s r ns m) where
       let room : length (encode (append (knownRecs knowns) rest)) ≤ length l = omega (arith, d, size-is) in
       rw (e ∙ ap doneWith size-is, z ∙ sets-front all l room)
       (answered-done (outcomeOf (stepsIn (gatheredBy (walking s) s r (m .start)))) l all outcome-is room)
-
-pub ruleset put-records-laws =
-    (write-counted, counted-count, counted-noted, counted-few, write-started, write-fine, write-room, write-next, records-put)
 
 pub ruleset write-laws = (write-sum, write-length, write-no-room, write-done)
 

@@ -1,8 +1,6 @@
--- What a request comes to, and the call `resolve`, from 01's "Option steps" and "Replies".
+-- The call `resolve`, from 01's "Replies". What a request comes to is said in `measure`, and passed on from here as it is.
 --
---                 Steps == records, Absent, or a refusal and its place: an option and a part of its name, or nowhere in it
---         stepsOf L s r == what the request r comes to, of any bytes
---     resolvingBy v s r == the first fault of the sheet s, which is judged v, and the request r, else that
+--     resolvingBy v s r == the first fault of the sheet s, which is judged v, and the request r, else what the request comes to
 --         resolving s r == the same, where the whole form of the sheet is judged
 --   resolvingTested s r == the same, where its length is judged
 --           outcomeOf o == what it gives to the lent memory
@@ -10,51 +8,16 @@
 --     resolveTested s r == what `resolve_tested` comes to
 --
 -- Assumes nothing.
-use Rattle.basis.specs.Kit.{List, [], _∷_, ℕ}
-use Rattle.reply.specs.declared.Refusal.{Refusal}
+use Rattle.basis.specs.Kit.{List, ℕ}
 use Rattle.reply.specs.declared.Verdict.{Verdict}
 use Rattle.reply.specs.declared.Verdict.the-variants.{Fine, Refused}
 use Rattle.reply.specs.Verdicts.{firstFault}
 use Rattle.reply.specs.Outcome.{Outcome, refuse, nothing, give}
-use Rattle.field.specs.Leaf.{text}
 use Rattle.sheetform.specs.Form.{judgeLength, judgeSheet}
 use Rattle.requestform.specs.Form.{judgeRequest}
-use Rattle.fullname.specs.declared.LookedUp.{LookedUp}
-use Rattle.fullname.specs.declared.LookedUp.the-variants.{Message as Is, NoMessage}
-use Rattle.request.specs.Request.{Option, Request, requestOf}
-use Rattle.records.specs.Records.{Recs, nil, append, encode}
-use Rattle.lookups.specs.Lookups.{Lookups, walking}
-use Rattle.known.specs.Known.{knownRecs}
-use Rattle.settle.specs.declared.Stop.{Stop}
-use Rattle.settle.specs.declared.Place.the-variants.{Nowhere}
-use Rattle.options.specs.Options.{Gathered, gathered, stopped, gather}
-
-abbrev pub nowhere : Refusal → Stop
-nowhere w = record { place = Nowhere; why = w }
-
-pub data Steps : Type 0 where
-  records : Recs → Steps
-  absent : Steps
-  refused : Stop → Steps
-
--- "Known builtins come first by rising number, then the rest in order of writing." [BYTES-3]
-abbrev pub stepsIn : Gathered → Steps
-stepsIn (gathered ks x) = records (append (knownRecs ks) x)
-stepsIn (stopped e) = refused e
-
-module _ (L : Lookups) (s r : List ℕ) where
-  abbrev pub onType : Request → LookedUp → Steps
-  onType q (NoMessage w) = refused (nowhere w)
-  onType q (Is p) =
-      stepsIn (gather L s r (text r (q .scope)) (record { name = text r (q .optionsType); place = p }) 0 [] nil (q .options))
-
-  -- "No options: Absent, before the options type is looked for." [STEP-1, STEP-2]
-  abbrev pub someOptions : Request → List Option → Steps
-  someOptions q [] = absent
-  someOptions q (o ∷ os) = onType q (L .message (text r (q .optionsType)))
-
-  unfoldable pub stepsOf : Steps
-  stepsOf = someOptions (requestOf r) (requestOf r .options)
+use Rattle.records.specs.Records.{encode}
+use Rattle.lookups.specs.Lookups.{walking}
+pub use Rattle.measure.specs.Steps.{Steps, records, absent, refused, nowhere, stepsIn, onType, someOptions, stepsOf}
 
 -- ---- the call: 01, Replies, "Inputs in the order a call names them, the sheet first" [ORDER-1]
 abbrev pub unless : Verdict → Steps → Steps

@@ -11,12 +11,13 @@ use Rattle.lookups.specs.Lookups.{walking}
 use Rattle.settle.specs.declared.Stop.{Stop}
 use Rattle.options.specs.Options.{Gathered}
 use Rattle.options.specs.inner.Gathering.{gatheredBy}
-use Rattle.resolver.specs.declared.Measured.{Measured}
-use Rattle.resolver.specs.declared.Measure.{Measure}
-use Rattle.resolver.specs.declared.Measure.the-variants as measure
-use Rattle.resolver.specs.Resolve.{Steps, nowhere, stepsIn, stepsOf, resolvingBy, resolving, resolvingTested}
-use Rattle.resolver.specs.inner.Measuring.{Ready, Measures}
-use Rattle.resolver.proofs.OpenLaws.{fine-short}
+use Rattle.measure.specs.declared.Measured.{Measured}
+use Rattle.measure.specs.declared.Measure.{Measure}
+use Rattle.measure.specs.declared.Measure.the-variants as measure
+use Rattle.measure.specs.Steps.{Steps, nowhere, stepsIn, stepsOf}
+use Rattle.resolver.specs.Resolve.{resolvingBy, resolving, resolvingTested}
+use Rattle.measure.specs.inner.Measuring.{Ready, Measures}
+use Rattle.measure.proofs.OpenLaws.{fine-short}
 use Rattle.resolver.proofs.WriteLaws.{measured-absent, measured-stop, measured-ready, measured-steps, size-is, write-sum}
 use Rattle.verdict.specs.declared.Judged.{Judged}
 use Rattle.verdict.specs.declared.Judged.the-variants as judged

@@ -5,7 +5,7 @@
 -- Assumes nothing.
 use Rattle.basis.specs.Kit.{length}
 use Rattle.records.specs.Records.{encode}
-use Rattle.resolver.specs.Resolve.{Steps, records, absent, refused}
+use Rattle.measure.specs.Steps.{Steps, records, absent, refused}
 use Rattle.verdict.specs.declared.Judged.{Judged}
 use Rattle.verdict.specs.declared.Judged.the-variants as judged
 

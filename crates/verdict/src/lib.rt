@@ -6,15 +6,16 @@ ghost use Rattle.reply.specs.declared.Verdict.the-variants.{Fine};
 ghost use Rattle.requestform.specs.Form.{judgeRequest};
 ghost use Rattle.lookups.specs.Lookups.{walking};
 ghost use Rattle.options.specs.inner.Gathering.{gatheredBy};
-ghost use Rattle.resolver.specs.Resolve.{stepsIn, stepsOf, resolving, resolvingTested};
-ghost use Rattle.resolver.specs.inner.Measuring.{Ready};
+ghost use Rattle.measure.specs.Steps.{stepsIn, stepsOf};
+ghost use Rattle.resolver.specs.Resolve.{resolving, resolvingTested};
+ghost use Rattle.measure.specs.inner.Measuring.{Ready};
 ghost use Rattle.verdict.specs.Verdict.{judgedOf};
 use limits::MOST_OPTIONS;
 use reply::Verdict;
-use resolver::Measure;
-use resolver::Measured;
-use resolver::measure_all;
-use resolver::nowhere;
+use measure::Measure;
+use measure::Measured;
+use measure::measure_all;
+use measure::nowhere;
 use settle::Stop;
 
 // How many bytes there are to write, Absent, or why the request is refused, and where.

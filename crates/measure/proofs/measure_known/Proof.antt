@@ -1,9 +1,9 @@
--- `resolver::measure_known` meets its contract.
+-- `measure::measure_known` meets its contract.
 -- Assumes nothing.
-use Rattle.resolver.proofs.MeasureLaws.{measure-known-laws}
+use Rattle.measure.proofs.MeasureLaws.{measure-known-laws}
 use Rattle.basis.proofs.Kit.{needs}
-use Rattle.resolver.proofs.measure_known.Statement.{statement}
-use Rattle.resolver.proofs.measure_known.Tie as tie
+use Rattle.measure.proofs.measure_known.Statement.{statement}
+use Rattle.measure.proofs.measure_known.Tie as tie
 
 pub measure-known-spec : {M : Type 1} → statement M
 measure-known-spec = tie.close (tie.spec

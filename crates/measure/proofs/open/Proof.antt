@@ -1,9 +1,9 @@
--- `resolver::open` meets its contract.
+-- `measure::open` meets its contract.
 -- Assumes nothing.
-use Rattle.resolver.proofs.OpenLaws.{open-laws}
+use Rattle.measure.proofs.OpenLaws.{open-laws}
 use Rattle.basis.proofs.Kit.{needs}
-use Rattle.resolver.proofs.open.Statement.{statement}
-use Rattle.resolver.proofs.open.Tie as tie
+use Rattle.measure.proofs.open.Statement.{statement}
+use Rattle.measure.proofs.open.Tie as tie
 
 pub open-spec : {M : Type 1} → statement M
 open-spec = tie.close (tie.spec

@@ -21,15 +21,15 @@ use Rattle.settle.specs.declared.Settling.the-variants.{Gives, Fails}
 use Rattle.settle.specs.inner.Settling.{Started}
 use Rattle.options.specs.Options.{Gathered, gathered, stopped}
 use Rattle.options.specs.inner.Gathering.{gatheredBy, madeAt, knownsOf, FineFrom, Gathers, gives, stops}
-use Rattle.resolver.specs.declared.Opening.{Opening}
-use Rattle.resolver.specs.declared.Opening.the-variants.{At, Absent, Refused}
-use Rattle.resolver.specs.declared.Measured.{Measured}
-use Rattle.resolver.specs.declared.Measure.{Measure}
-use Rattle.resolver.specs.declared.Measure.the-variants as measure
-use Rattle.resolver.specs.Resolve.{Steps, absent, refused, stepsIn, stepsOf}
-use Rattle.resolver.specs.inner.Measuring.{Open, Opens, at, none, lost, Counted, Tallies, Ready, Measures, fine, refuses}
-use Rattle.resolver.specs.inner.Measuring as measuring
-use Rattle.resolver.proofs.OpenLaws.{fine-short}
+use Rattle.measure.specs.declared.Opening.{Opening}
+use Rattle.measure.specs.declared.Opening.the-variants.{At, Absent, Refused}
+use Rattle.measure.specs.declared.Measured.{Measured}
+use Rattle.measure.specs.declared.Measure.{Measure}
+use Rattle.measure.specs.declared.Measure.the-variants as measure
+use Rattle.measure.specs.Steps.{Steps, absent, refused, stepsIn, stepsOf}
+use Rattle.measure.specs.inner.Measuring.{Open, Opens, at, none, lost, Counted, Tallies, Ready, Measures, fine, refuses}
+use Rattle.measure.specs.inner.Measuring as measuring
+use Rattle.measure.proofs.OpenLaws.{fine-short}
 
 -- ---- what the loop over the options answered
 pub record Gave (made : ℕ → Recs) (k : ℕ) (g : Gathered) (at : ℕ) (l l′ ns : List ℕ) (n next : ℕ) : Type 0 where

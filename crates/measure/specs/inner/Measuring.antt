@@ -23,12 +23,12 @@ use Rattle.settle.specs.declared.Settling.the-variants.{Gives, Fails}
 use Rattle.settle.specs.inner.Settling.{Started}
 use Rattle.options.specs.Options.{Gathered, gathered, stopped}
 use Rattle.options.specs.inner.Gathering.{gatheredBy, madeAt, FineFrom}
-use Rattle.resolver.specs.declared.Opening.{Opening}
-use Rattle.resolver.specs.declared.Opening.the-variants as opening
-use Rattle.resolver.specs.declared.Measured.{Measured}
-use Rattle.resolver.specs.declared.Measure.{Measure}
-use Rattle.resolver.specs.declared.Measure.the-variants as measure
-use Rattle.resolver.specs.Resolve.{Steps, records, absent, refused, stepsIn, stepsOf}
+use Rattle.measure.specs.declared.Opening.{Opening}
+use Rattle.measure.specs.declared.Opening.the-variants as opening
+use Rattle.measure.specs.declared.Measured.{Measured}
+use Rattle.measure.specs.declared.Measure.{Measure}
+use Rattle.measure.specs.declared.Measure.the-variants as measure
+use Rattle.measure.specs.Steps.{Steps, records, absent, refused, stepsIn, stepsOf}
 
 abbrev pub allOf : Gathered → Recs
 allOf (gathered ks x) = append (knownRecs ks) x

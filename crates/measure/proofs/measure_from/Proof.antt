@@ -1,9 +1,9 @@
--- `resolver::measure_from` meets its contract.
+-- `measure::measure_from` meets its contract.
 -- Assumes nothing.
-use Rattle.resolver.proofs.MeasureLaws.{gathers-tallies, measure-from-laws}
+use Rattle.measure.proofs.MeasureLaws.{gathers-tallies, measure-from-laws}
 use Rattle.basis.proofs.Kit.{needs}
-use Rattle.resolver.proofs.measure_from.Statement.{statement}
-use Rattle.resolver.proofs.measure_from.Tie as tie
+use Rattle.measure.proofs.measure_from.Statement.{statement}
+use Rattle.measure.proofs.measure_from.Tie as tie
 
 pub measure-from-spec : {M : Type 1} → statement M
 measure-from-spec = tie.close (tie.spec

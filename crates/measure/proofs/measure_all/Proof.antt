@@ -1,9 +1,9 @@
--- `resolver::measure_all` meets its contract.
+-- `measure::measure_all` meets its contract.
 -- Assumes nothing.
-use Rattle.resolver.proofs.MeasureLaws.{measure-all-laws}
+use Rattle.measure.proofs.MeasureLaws.{measure-all-laws}
 use Rattle.basis.proofs.Kit.{needs}
-use Rattle.resolver.proofs.measure_all.Statement.{statement}
-use Rattle.resolver.proofs.measure_all.Tie as tie
+use Rattle.measure.proofs.measure_all.Statement.{statement}
+use Rattle.measure.proofs.measure_all.Tie as tie
 
 pub measure-all-spec : {M : Type 1} → statement M
 measure-all-spec = tie.close (tie.spec

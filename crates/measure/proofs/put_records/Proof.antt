@@ -1,9 +1,9 @@
--- `resolver::put_records` meets its contract.
+-- `measure::put_records` meets its contract.
 -- Assumes nothing.
-use Rattle.resolver.proofs.WriteLaws.{put-records-laws}
+use Rattle.measure.proofs.PutLaws.{put-records-laws}
 use Rattle.basis.proofs.Kit.{needs}
-use Rattle.resolver.proofs.put_records.Statement.{statement}
-use Rattle.resolver.proofs.put_records.Tie as tie
+use Rattle.measure.proofs.put_records.Statement.{statement}
+use Rattle.measure.proofs.put_records.Tie as tie
 
 pub put-records-spec : {M : Type 1} → statement M
 put-records-spec = tie.close (tie.spec

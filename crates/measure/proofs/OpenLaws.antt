@@ -35,10 +35,10 @@ use Rattle.lookups.proofs.LookupLaws.{message-lies}
 use Rattle.settle.specs.declared.Start.{Start}
 use Rattle.settle.specs.declared.Stop.{Stop}
 use Rattle.options.specs.inner.Gathering.{optionsOf, gatheredBy}
-use Rattle.resolver.specs.declared.Opening.{Opening}
-use Rattle.resolver.specs.declared.Opening.the-variants.{At, Absent, Refused}
-use Rattle.resolver.specs.Resolve.{Steps, absent, refused, nowhere, stepsIn, onType, someOptions, stepsOf}
-use Rattle.resolver.specs.inner.Measuring.{Opens, at, none, lost}
+use Rattle.measure.specs.declared.Opening.{Opening}
+use Rattle.measure.specs.declared.Opening.the-variants.{At, Absent, Refused}
+use Rattle.measure.specs.Steps.{Steps, absent, refused, nowhere, stepsIn, onType, someOptions, stepsOf}
+use Rattle.measure.specs.inner.Measuring.{Opens, at, none, lost}
 
 -- a fine request is no longer than 01 allows
 pub fine-short : (r : List ℕ) → judgeRequest r ≡ Fine → length r ≤ mostRequest

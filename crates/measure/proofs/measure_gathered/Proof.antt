@@ -1,9 +1,9 @@
--- `resolver::measure_gathered` meets its contract.
+-- `measure::measure_gathered` meets its contract.
 -- Assumes nothing.
-use Rattle.resolver.proofs.MeasureLaws.{measure-gathered-laws}
+use Rattle.measure.proofs.MeasureLaws.{measure-gathered-laws}
 use Rattle.basis.proofs.Kit.{needs}
-use Rattle.resolver.proofs.measure_gathered.Statement.{statement}
-use Rattle.resolver.proofs.measure_gathered.Tie as tie
+use Rattle.measure.proofs.measure_gathered.Statement.{statement}
+use Rattle.measure.proofs.measure_gathered.Tie as tie
 
 pub measure-gathered-spec : {M : Type 1} → statement M
 measure-gathered-spec = tie.close (tie.spec
