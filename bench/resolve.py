@@ -8,8 +8,9 @@ usage: resolve.py [ROUNDS] [--program PROGRAM] [--original FOLDER]
 `input` prints benchresolve's stored input: the sheet, and 20 of the requests once. Its stored output is what resolve.rs prints for it.
 
 The input is a sheet of 200 extensions, some of a message or an enum type, with an options message, and 1,000 requests of one to four
-options from nested scopes. PROGRAM is benchresolve as `rt check` builds it, target/bin/benchresolve if none is given. resolve.rs is built
-here by rustc at level 3, as benchresolve is by its compiler. All programs read the same input and have to print the same line.
+options from nested scopes. PROGRAM is benchresolve as `rt check` builds it for x86-64, target/bin/benchresolve if none is given; `none`
+leaves it out, and on another machine it has to be one that was compiled for that (docs/SPEED.md). resolve.rs is built here by rustc at
+level 3, as benchresolve is by its compiler. All programs read the same input and have to print the same line.
 
 FOLDER is a workspace in which cargo builds the published source of protobuf-parse 3.7.2 over a stand-in for its runtime. It is copied, and
 bench/original.rs is built there as one more binary, in release mode; that file says what it does in a round.
