@@ -19,7 +19,7 @@ Time is the least of ROUNDS runs of each program, taken in turn, less that of a 
 instructions are counted as well. Run it from the root of the repository.
 
 `search` and `nesting` measure one request that is made to cost much: by the look-ups of its name parts, of SIZE options, at most 113; by a
-constant in it 16 deep, with a list of SIZE elements, at most 2,004. Instructions are counted where SIZE is 1, since a full one takes hours to count.
+constant in it 16 deep, with a list of SIZE elements, at most 2,004. Instructions are counted where SIZE is 1: a full request takes hours.
 """
 import argparse
 import os
@@ -170,9 +170,9 @@ def search(options):
 
 
 def nesting(elements):
-    """A sheet and a request of one option: a name of 16 parts, then a constant 16 deep, innermost a list of identifiers on an enum. Field and
-    enum stand behind all else in their message, which fills the sheet. An element is written once, and measured for each of the 29 messages
-    around it and once before."""
+    """A sheet and a request of one option: a name of 16 parts, then a constant 16 deep, innermost a list of identifiers on an enum. Field
+    and enum stand behind all else in their message, which fills the sheet. An element is written once, and measured for each of the 29
+    messages around it and once before."""
     last = enum(b"E", [b"v"]) + member(5, b"n", 1, MESSAGE, path=b"M") + member(5, b"e", 2, ENUM, 3, path=b"M.E")
     data = f(1, f(0x10) + f(2, f(0x11, b"M") + filled(last, 32755, f(4, f(0x11, b"b")))))
     value = f(0x27, b"e") + f(0x2A, f(0x25, b"v") * elements)
