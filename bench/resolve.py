@@ -8,8 +8,9 @@ usage: resolve.py [ROUNDS] [--program PROGRAM] [--original FOLDER]
 `input` prints benchresolve's stored input: the sheet, and 20 of the requests once. Its stored output is what resolve.rs prints for it.
 
 The input is a sheet of 200 extensions, some of a message or an enum type, with an options message, and 1,000 requests of one to four
-options from nested scopes. PROGRAM is benchresolve as `rt check` builds it, target/bin/benchresolve if none is given. resolve.rs is built
-here by rustc at level 3, as benchresolve is by its compiler. All programs read the same input and have to print the same line.
+options from nested scopes. PROGRAM is benchresolve as `rt check` builds it for x86-64, target/bin/benchresolve if none is given; `none`
+leaves it out, and on another machine it has to be one that was compiled for that (docs/SPEED.md). resolve.rs is built here by rustc at
+level 3, as benchresolve is by its compiler. All programs read the same input and have to print the same line.
 
 FOLDER is a workspace in which cargo builds the published source of protobuf-parse 3.7.2 over a stand-in for its runtime. It is copied, and
 bench/original.rs is built there as one more binary, in release mode; that file says what it does in a round.
@@ -18,7 +19,7 @@ Time is the least of ROUNDS runs of each program, taken in turn, less that of a 
 instructions are counted as well. Run it from the root of the repository.
 
 `search` and `nesting` measure one request that is made to cost much: by the look-ups of its name parts, of SIZE options, at most 113; by a
-constant in it 16 deep, of SIZE pairs, at most 1,002. Instructions are counted where SIZE is 1, since a full one takes hours to count.
+constant in it 16 deep, with a list of SIZE elements, at most 2,004. Instructions are counted where SIZE is 1: a full request takes hours.
 """
 import argparse
 import os
@@ -168,14 +169,14 @@ def search(options):
     return data, query
 
 
-def nesting(pairs):
-    """A sheet and a request of one option: a name of 16 parts, then a constant 16 deep, whose innermost message has the pairs. Each pair is
-    an identifier on an enum: field and enum stand behind all else in their message, which fills the sheet. A pair is written once, and
-    measured for each of the 30 messages around it and once before."""
-    last = enum(b"E", [b"v"]) + member(5, b"n", 1, MESSAGE, path=b"M") + member(5, b"e", 2, ENUM, path=b"M.E")
+def nesting(elements):
+    """A sheet and a request of one option: a name of 16 parts, then a constant 16 deep, innermost a list of identifiers on an enum. Field
+    and enum stand behind all else in their message, which fills the sheet. An element is written once, and measured for each of the 29
+    messages around it and once before."""
+    last = enum(b"E", [b"v"]) + member(5, b"n", 1, MESSAGE, path=b"M") + member(5, b"e", 2, ENUM, 3, path=b"M.E")
     data = f(1, f(0x10) + f(2, f(0x11, b"M") + filled(last, 32755, f(4, f(0x11, b"b")))))
-    value = (f(0x27, b"e") + f(0x25, b"v")) * pairs
-    for _ in range(14):
+    value = f(0x27, b"e") + f(0x2A, f(0x25, b"v") * elements)
+    for _ in range(13):
         value = f(0x27, b"n") + f(0x26, value)
     return data, f(0x18) + f(0x19, b"M") + f(8, f(0x1A, b"n") * 16 + f(0x26, value))
 
@@ -255,7 +256,7 @@ def main():
     parser.add_argument("--program", default="target/bin/benchresolve")
     parser.add_argument("--original")
     args = parser.parse_args()
-    made = {"search": (search, 113), "nesting": (nesting, 1002)}.get(args.what[0])
+    made = {"search": (search, 113), "nesting": (nesting, 2004)}.get(args.what[0])
     if made:
         total = int(args.what[1]) if len(args.what) > 1 else made[1]
         data, query = made[0](total)
