@@ -174,8 +174,11 @@ fn tell(tally: Tally) {
     text(b"\n");
 }
 
-// Whether a sheet is fine; a refusal is printed.
-fn is_fine(sheet: &[u8]) -> bool {
+// Whether a sheet that is tested once is fine; a refusal is printed. One that is tested each time is not tested here.
+fn may_start(sheet: &[u8], once: bool) -> bool {
+    if !once {
+        return true;
+    }
     let Verdict::Refused(why) = sheetform::check_sheet(sheet) else {
         return true;
     };
@@ -189,13 +192,9 @@ fn answer_requests(s: &[u8], sheet: Span, from: usize, times: u32, once: bool, o
 {
     let a = sheet.from;
     let e = sheet.to;
-    if once {
-        if is_fine(&s[a..e]) {
-            tell(resolve_often(s, sheet, from, times, true, out));
-        }
-        return;
+    if may_start(&s[a..e], once) {
+        tell(resolve_often(s, sheet, from, times, once, out));
     }
-    tell(resolve_often(s, sheet, from, times, false, out));
 }
 
 // Whether a byte 1 stands at a place.

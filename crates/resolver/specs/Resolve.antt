@@ -17,7 +17,8 @@ use Rattle.sheetform.specs.Form.{judgeLength, judgeSheet}
 use Rattle.requestform.specs.Form.{judgeRequest}
 use Rattle.records.specs.Records.{encode}
 use Rattle.lookups.specs.Lookups.{walking}
-pub use Rattle.measure.specs.Steps.{Steps, records, absent, refused, nowhere, stepsIn, onType, someOptions, stepsOf}
+pub use Rattle.measure.specs.Steps.{Steps, records, absent, refused, nowhere, stepsIn, onType, someOptions}
+unfoldable pub use Rattle.measure.specs.Steps.{stepsOf}
 
 -- ---- the call: 01, Replies, "Inputs in the order a call names them, the sheet first" [ORDER-1]
 abbrev pub unless : Verdict → Steps → Steps
