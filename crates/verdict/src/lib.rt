@@ -11,11 +11,11 @@ ghost use Rattle.resolver.specs.Resolve.{resolving, resolvingTested};
 ghost use Rattle.measure.specs.inner.Measuring.{Ready};
 ghost use Rattle.verdict.specs.Verdict.{judgedOf};
 use limits::MOST_OPTIONS;
-use reply::Verdict;
 use measure::Measure;
 use measure::Measured;
 use measure::measure_all;
 use measure::nowhere;
+use reply::Verdict;
 use settle::Stop;
 
 // How many bytes there are to write, Absent, or why the request is refused, and where.
