@@ -1,13 +1,20 @@
--- What is measured before anything is written: the ways through `measure_from` and `measure_all`.
+-- What is measured before anything is written: the ways through `gather_length`, `known_length`, `measure_from`, `measure_all` and
+-- `measure_tested`.
 -- Assumes nothing.
 use Rattle.basis.specs.Kit.{_≡_, refl, sym, ap, _∙_, List, ℕ, _+_, _*_, _^_, _≤_, _<_, length}
-use Rattle.basis.proofs.Kit.{arith}
+use Rattle.basis.proofs.Kit.{arith, w64, Fits}
+use mir.Syntax.{w32}
 use mathlib.Core.Path.{subst}
 use native.Mathlib.Nat.{zero-add}
 use lib.ListN.{length-append}
 use Rattle.basis.proofs.Never.{never}
 use Rattle.limits.specs.Figures.{mostOptions, mostRequest}
 use Rattle.octets.specs.inner.Laid.{Laid}
+use Rattle.reply.specs.declared.Refusal.{Refusal}
+use Rattle.reply.specs.declared.Verdict.{Verdict}
+use Rattle.reply.specs.declared.Verdict.the-variants.{Fine, Refused as Bad}
+use Rattle.sheetform.specs.Form.{judgeLength}
+use Rattle.requestform.specs.Form.{judgeRequest}
 use Rattle.records.specs.Records.{Recs, append, encode}
 use Rattle.records.specs.inner.Emits.{bytesMost, Roomy}
 use Rattle.records.proofs.RecsLaws.{encode-append}
@@ -15,7 +22,8 @@ use Rattle.lookups.specs.Lookups.{walking}
 use Rattle.known.specs.Known.{Known, knownRecs}
 use Rattle.known.specs.inner.Notes.{Noted}
 use Rattle.settle.specs.declared.Start.{Start}
-use Rattle.settle.specs.declared.Stop.{Stop}
+use Rattle.judged.specs.declared.Stop.{Stop}
+use Rattle.judged.specs.Judged.{nowhere}
 use Rattle.settle.specs.declared.Settling.{Settling}
 use Rattle.settle.specs.declared.Settling.the-variants.{Gives, Fails}
 use Rattle.settle.specs.inner.Settling.{Started}
@@ -23,11 +31,10 @@ use Rattle.options.specs.Options.{Gathered, gathered, stopped}
 use Rattle.options.specs.inner.Gathering.{gatheredBy, madeAt, knownsOf, FineFrom, Gathers, gives, stops}
 use Rattle.measure.specs.declared.Opening.{Opening}
 use Rattle.measure.specs.declared.Opening.the-variants.{At, Absent, Refused}
-use Rattle.measure.specs.declared.Measured.{Measured}
 use Rattle.measure.specs.declared.Measure.{Measure}
 use Rattle.measure.specs.declared.Measure.the-variants as measure
-use Rattle.measure.specs.Steps.{Steps, absent, refused, stepsIn, stepsOf}
-use Rattle.measure.specs.inner.Measuring.{Open, Opens, at, none, lost, Counted, Tallies, Ready, Measures, fine, refuses}
+use Rattle.measure.specs.Steps.{Steps, absent, refused, stepsIn, stepsOf, resolvingBy, resolvingTested}
+use Rattle.measure.specs.inner.Measuring.{Open, Opens, at, none, lost, restOf, Counted, Tallies, Measures, fine, refuses}
 use Rattle.measure.specs.inner.Measuring as measuring
 use Rattle.measure.proofs.OpenLaws.{fine-short}
 
@@ -54,12 +61,9 @@ pub gathers-stopped : {made : ℕ → Recs} {k : ℕ} {g : Gathered} {at : ℕ} 
 gathers-stopped (gives a b c d) w z = never cc
 gathers-stopped (stops {e}) w z = let i : e ≡ w = cc in ap stopped i
 
--- ---- measure_from
+-- ---- gather_length
 pub room-from : (r : List ℕ) → length r ≤ mostRequest → Roomy 0 (length r) r
 room-from r h = record { room = omega (arith, h) }
-
-known-within : (ks : List Known) (x : Recs) (n : ℕ) → length (encode (append (knownRecs ks) x)) ≤ n → length (encode (knownRecs ks)) ≤ n
-known-within ks x n h = omega (arith, ap length (encode-append (knownRecs ks) x), length-append (encode (knownRecs ks)) (encode x))
 
 pub gathers-tallies : (s r : List ℕ) (h : Start) (l l′ ns : List ℕ) (y : Settling)
     → Gathers (madeAt (walking s) s r h) (bytesMost (length r)) (gatheredBy (walking s) s r h) 0 l l′ ns y → Tallies s r ns h y
@@ -67,31 +71,19 @@ gathers-tallies s r h l l′ ns y u = record {
   stops = λ e z. gathers-stopped u e z;
   counts = λ n o z.
       let g = gathers-gave u n o z in
-      record {
-        knowns = g .knowns;
-        rest = g .rest;
-        gathers = g .is;
-        noted = g .noted;
-        count = g .count;
-        others = g .laid .next ∙ zero-add (length (encode (g .rest)));
-        few = g .few;
-      };
+      record { knowns = g .knowns; rest = g .rest; gathers = g .is; noted = g .noted; count = g .count; few = g .few };
+  others = λ n o z.
+      let g = gathers-gave u n o z in
+      g .laid .next ∙ zero-add (length (encode (g .rest))) ∙ sym (ap (λ (x : Gathered). length (encode (restOf x))) (g .is));
 }
 
-pub ruleset measure-from-laws = (room-from, gathers-tallies)
+pub ruleset gather-length-laws = (room-from, gathers-tallies)
 
--- ---- measure_gathered
-module _ (s r ns : List ℕ) (h : Start) (y : Settling) (u : Tallies s r ns h y) where
-  pub tallied-refused : (e : Stop) → y ≡ Fails e → Measures s r (stepsIn (gatheredBy (walking s) s r h)) ns (measure.Refused e)
-  tallied-refused e z = rw (u .stops e z) refuses
+-- ---- known_length, and what `put_records` shares with it
+known-within : (ks : List Known) (x : Recs) (n : ℕ) → length (encode (append (knownRecs ks) x)) ≤ n → length (encode (knownRecs ks)) ≤ n
+known-within ks x n h = omega (arith, ap length (encode-append (knownRecs ks) x), length-append (encode (knownRecs ks)) (encode x))
 
-  pub tallied-counted : (n o : ℕ) → y ≡ Gives n o → Counted s r ns h n o
-  tallied-counted n o z = u .counts n o z
-
-pub ruleset measure-gathered-laws = (tallied-refused, tallied-counted)
-
--- ---- measure_known, and what `write` shares with it
-module _ (s r ns : List ℕ) (h : Start) (n o : ℕ) (k : Counted s r ns h n o) where
+module _ (s r ns : List ℕ) (h : Start) (n : ℕ) (k : Counted s r ns h n) where
   pub counted-count : n ≤ mostOptions
   counted-count = k .count
 
@@ -103,20 +95,45 @@ module _ (s r ns : List ℕ) (h : Start) (n o : ℕ) (k : Counted s r ns h n o) 
       subst (λ (x : Gathered). length (encode (knownRecs (knownsOf x))) ≤ bytesMost (length r)) (sym (k .gathers))
       (known-within (k .knowns) (k .rest) (bytesMost (length r)) (k .few))
 
-  pub counted-fine : Started s r h → FineFrom r h → (p : ℕ) (m m′ : List ℕ)
-      → Laid m 0 (encode (knownRecs (knownsOf (gatheredBy (walking s) s r h)))) m′ p
-      → Measures s r (stepsIn (gatheredBy (walking s) s r h)) ns (measure.Fine (record { start = h; count = n; known = p; others = o }))
-  counted-fine a b p m m′ c =
-      fine (record {
-        counted = k;
-        started = a;
-        fine = b;
-        known =
-            c .next ∙ zero-add (length (encode (knownRecs (knownsOf (gatheredBy (walking s) s r h)))))
-            ∙ ap (λ (x : Gathered). length (encode (knownRecs (knownsOf x)))) (k .gathers);
-      })
+pub laid-length : (bs m m′ : List ℕ) (p : ℕ) → Laid m 0 bs m′ p → p ≡ length bs
+laid-length bs m m′ p c = c .next ∙ zero-add (length bs)
 
-pub ruleset measure-known-laws = (room-from, counted-count, counted-noted, counted-few, counted-fine)
+pub ruleset known-length-laws = (room-from, counted-count, counted-noted, counted-few, laid-length)
+
+-- ---- measure_from
+module _ (s r ns : List ℕ) (h : Start) (y : Settling) (u : Tallies s r ns h y) where
+  pub tallied-refused : (e : Stop) → y ≡ Fails e → Measures s r (stepsIn (gatheredBy (walking s) s r h)) ns (measure.Refused e)
+  tallied-refused e z = rw (u .stops e z) refuses
+
+  module _ (n o : ℕ) (z : y ≡ Gives n o) where
+    pub tallied-counted : Counted s r ns h n
+    tallied-counted = u .counts n o z
+
+    module _ (p : ℕ) (q : p ≡ length (encode (knownRecs (knownsOf (gatheredBy (walking s) s r h))))) (g : length r ≤ mostRequest) where
+      sum-is : p + o ≡ length (encode (append (knownRecs (tallied-counted .knowns)) (tallied-counted .rest)))
+      sum-is =
+          let k = tallied-counted in
+          omega (
+            arith,
+            q,
+            u .others n o z,
+            ap (λ (x : Gathered). length (encode (knownRecs (knownsOf x)))) (k .gathers),
+            ap (λ (x : Gathered). length (encode (restOf x))) (k .gathers),
+            ap length (encode-append (knownRecs (k .knowns)) (k .rest)),
+            length-append (encode (knownRecs (k .knowns))) (encode (k .rest)),
+          )
+
+      pub tallied-sum : Fits w64 (p + o)
+      tallied-sum = record { fits = omega (arith, sum-is, tallied-counted .few, g) }
+
+      pub tallied-length : Fits w32 (p + o)
+      tallied-length = record { fits = omega (arith, sum-is, tallied-counted .few, g) }
+
+      pub tallied-fine : Started s r h → FineFrom r h
+          → Measures s r (stepsIn (gatheredBy (walking s) s r h)) ns (measure.Fine (record { start = h; count = n; length = p + o }))
+      tallied-fine a b = fine (record { counted = tallied-counted; started = a; fine = b; length-is = sum-is; short = g })
+
+pub ruleset measure-from-laws = (tallied-refused, tallied-counted, tallied-sum, tallied-length, tallied-fine)
 
 -- ---- measure_all
 opened-at : {s r : List ℕ} {v : Opening} → Opens s r v → (h : Start) → v ≡ At h → Open s r h
@@ -153,3 +170,23 @@ module _ (s r : List ℕ) (v : Opening) (u : Opens s r v) where
     all-measured ns y m = subst (λ (o : Steps). Measures s r o ns y) (sym (opened-at u h e .steps)) m
 
 pub ruleset measure-all-laws = (all-absent, all-refused, all-started, all-fine, all-measured, fine-short)
+
+-- ---- measure_tested
+module _ (s r : List ℕ) (u : Verdict) (x : u ≡ judgeLength s) (ns : List ℕ) where
+  pub tested-long : (w : Refusal) → u ≡ Bad w → (y : Stop) → y ≡ nowhere w → Measures s r (resolvingTested s r) ns (measure.Refused y)
+  unfolding resolvingBy
+  tested-long w h y e = rw (← x, h, e) refuses
+
+  module _ (h : u ≡ Fine) (v : Verdict) (q : v ≡ judgeRequest r) where
+    pub tested-refused : (w : Refusal) → v ≡ Bad w → (y : Stop) → y ≡ nowhere w → Measures s r (resolvingTested s r) ns (measure.Refused y)
+    unfolding resolvingBy
+    tested-refused w g y e = rw (← x, h, ← q, g, e) refuses
+
+    pub tested-over : v ≡ Fine → (y : Measure) → Measures s r (stepsOf (walking s) s r) ns y → Measures s r (resolvingTested s r) ns y
+    unfolding resolvingBy
+    tested-over g y k = rw (← x, h, ← q, g) k
+
+pub tested-fine : (r : List ℕ) (v : Verdict) → v ≡ judgeRequest r → v ≡ Fine → judgeRequest r ≡ Fine
+tested-fine r v q g = sym q ∙ g
+
+pub ruleset measure-tested-laws = (tested-long, tested-refused, tested-over, tested-fine)

@@ -33,11 +33,12 @@ use Rattle.requestform.proofs.RequestLaws.{request-long}
 use Rattle.lookups.specs.Lookups.{walking}
 use Rattle.lookups.proofs.LookupLaws.{message-lies}
 use Rattle.settle.specs.declared.Start.{Start}
-use Rattle.settle.specs.declared.Stop.{Stop}
+use Rattle.judged.specs.declared.Stop.{Stop}
+use Rattle.judged.specs.Judged.{nowhere}
 use Rattle.options.specs.inner.Gathering.{optionsOf, gatheredBy}
 use Rattle.measure.specs.declared.Opening.{Opening}
 use Rattle.measure.specs.declared.Opening.the-variants.{At, Absent, Refused}
-use Rattle.measure.specs.Steps.{Steps, absent, refused, nowhere, stepsIn, onType, someOptions, stepsOf}
+use Rattle.measure.specs.Steps.{Steps, absent, refused, stepsIn, onType, someOptions, stepsOf}
 use Rattle.measure.specs.inner.Measuring.{Opens, at, none, lost}
 
 -- a fine request is no longer than 01 allows

@@ -1,10 +1,9 @@
 -- What was measured, written: the second run lays what the first measured.
 -- Assumes nothing.
-use Rattle.basis.specs.Kit.{_≡_, sym, ap, _∙_, List, ℕ, _≤_, length, sets}
+use Rattle.basis.specs.Kit.{_≡_, sym, ap, _∙_, List, ℕ, length, sets}
 use Rattle.basis.proofs.Kit.{arith}
 use mathlib.Core.Path.{subst}
 use Rattle.basis.proofs.Never.{never}
-use Rattle.limits.specs.Figures.{mostRequest}
 use Rattle.octets.specs.inner.Laid.{Laid}
 use Rattle.octets.proofs.Overlay.{laid-append}
 use Rattle.records.specs.Records.{Recs, encode}
@@ -36,7 +35,7 @@ module _ (s r ns : List ℕ) (m : Measured) (k : Ready s r ns m) where
   abbrev rest : Recs
   rest = k .counted .rest
 
-  pub write-counted : Counted s r ns (m .start) (m .count) (m .others)
+  pub write-counted : Counted s r ns (m .start) (m .count)
   write-counted = k .counted
 
   pub write-started : Started s r (m .start)
@@ -45,13 +44,12 @@ module _ (s r ns : List ℕ) (m : Measured) (k : Ready s r ns m) where
   pub write-fine : FineFrom r (m .start)
   write-fine = k .fine
 
-  module _ (h : length r ≤ mostRequest) where
-    pub write-room : Roomy 0 (length r) r
-    write-room = record { room = omega (arith, h) }
+  pub write-room : Roomy 0 (length r) r
+  write-room = record { room = omega (arith, k .short) }
 
-    pub write-next : (l l′ : List ℕ) (p : ℕ) → Laid l 0 (encode (knownRecs (knownsOf (gatheredBy (walking s) s r (m .start))))) l′ p
-        → Roomy p (length r) r
-    write-next l l′ p a = record { room = omega (arith, h, a .next, counted-few s r ns (m .start) (m .count) (m .others) (k .counted)) }
+  pub write-next : (l l′ : List ℕ) (p : ℕ) → Laid l 0 (encode (knownRecs (knownsOf (gatheredBy (walking s) s r (m .start))))) l′ p
+      → Roomy p (length r) r
+  write-next l l′ p a = record { room = omega (arith, k .short, a .next, counted-few s r ns (m .start) (m .count) (k .counted)) }
 
   pub records-put : (l l₁ l₂ : List ℕ) (p q : ℕ) (ns′ : List ℕ) (y : Settling)
       → Laid l 0 (encode (knownRecs (knownsOf (gatheredBy (walking s) s r (m .start))))) l₁ p

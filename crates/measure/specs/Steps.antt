@@ -1,26 +1,29 @@
 -- What a request comes to, from 01's "Option steps".
 --
---             Steps == records, Absent, or a refusal and its place: an option and a part of its name, or nowhere in it
---         nowhere w == the refusal w, nowhere in the request
---         stepsIn g == what is said of the options that came to g
---     stepsOf L s r == what the request r comes to, of any bytes
+--                 Steps == records, Absent, or a refusal and its place: an option and a part of its name, or nowhere in it
+--             stepsIn g == what is said of the options that came to g
+--         stepsOf L s r == what the request r comes to, of any bytes
+--     resolvingBy v s r == the first fault of the sheet s, which is judged v, and the request r, else what the request comes to
+--         resolving s r == the same, where the whole form of the sheet is judged
+--   resolvingTested s r == the same, where its length is judged
 --
 -- Assumes nothing.
 use Rattle.basis.specs.Kit.{List, [], _∷_, ℕ}
-use Rattle.reply.specs.declared.Refusal.{Refusal}
+use Rattle.reply.specs.declared.Verdict.{Verdict}
+use Rattle.reply.specs.declared.Verdict.the-variants.{Fine, Refused}
+use Rattle.reply.specs.Verdicts.{firstFault}
 use Rattle.field.specs.Leaf.{text}
 use Rattle.fullname.specs.declared.LookedUp.{LookedUp}
 use Rattle.fullname.specs.declared.LookedUp.the-variants.{Message as Is, NoMessage}
 use Rattle.request.specs.Request.{Option, Request, requestOf}
+use Rattle.sheetform.specs.Form.{judgeLength, judgeSheet}
+use Rattle.requestform.specs.Form.{judgeRequest}
 use Rattle.records.specs.Records.{Recs, nil, append}
-use Rattle.lookups.specs.Lookups.{Lookups}
+use Rattle.lookups.specs.Lookups.{Lookups, walking}
 use Rattle.known.specs.Known.{knownRecs}
-use Rattle.settle.specs.declared.Stop.{Stop}
-use Rattle.settle.specs.declared.Place.the-variants.{Nowhere}
+use Rattle.judged.specs.declared.Stop.{Stop}
+use Rattle.judged.specs.Judged.{nowhere}
 use Rattle.options.specs.Options.{Gathered, gathered, stopped, gather}
-
-abbrev pub nowhere : Refusal → Stop
-nowhere w = record { place = Nowhere; why = w }
 
 pub data Steps : Type 0 where
   records : Recs → Steps
@@ -45,3 +48,17 @@ module _ (L : Lookups) (s r : List ℕ) where
 
   unfoldable pub stepsOf : Steps
   stepsOf = someOptions (requestOf r) (requestOf r .options)
+
+-- ---- a call: 01, Replies, "Inputs in the order a call names them, the sheet first" [ORDER-1]
+abbrev pub unless : Verdict → Steps → Steps
+unless Fine o = o
+unless (Refused w) o = refused (nowhere w)
+
+unfoldable pub resolvingBy : Verdict → (s r : List ℕ) → Steps
+resolvingBy v s r = unless (firstFault v (judgeRequest r)) (stepsOf (walking s) s r)
+
+abbrev pub resolving : (s r : List ℕ) → Steps
+resolving s r = resolvingBy (judgeSheet s) s r
+
+abbrev pub resolvingTested : (s r : List ℕ) → Steps
+resolvingTested s r = resolvingBy (judgeLength s) s r

@@ -6,20 +6,21 @@ ghost use Rattle.reply.specs.declared.Verdict.the-variants.{Fine};
 ghost use Rattle.requestform.specs.Form.{judgeRequest};
 ghost use Rattle.records.specs.Records.{encode};
 ghost use Rattle.lookups.specs.Lookups.{walking};
+ghost use Rattle.known.specs.Known.{knownRecs};
 ghost use Rattle.settle.specs.inner.Settling.{Started};
-ghost use Rattle.options.specs.inner.Gathering.{gatheredBy, FineFrom};
-ghost use Rattle.measure.specs.Steps.{nowhere as nowhereOf, stepsIn, stepsOf};
+ghost use Rattle.options.specs.inner.Gathering.{gatheredBy, knownsOf, FineFrom};
+ghost use Rattle.measure.specs.Steps.{stepsIn, stepsOf, resolvingTested};
 ghost use Rattle.measure.specs.inner.Measuring.{allOf, Opens, Counted, Tallies, Ready, Measures};
 use fullname::LookedUp;
+use judged::Stop;
+use judged::nowhere;
 use options::gather;
 use options::put_known;
-use reply::Refusal;
+use reply::Verdict;
 use request::heading::Headed;
 use request::heading::heading_of;
-use settle::Place;
 use settle::Settling;
 use settle::Start;
-use settle::Stop;
 
 // What the options start with, if there are any and the options type is found.
 pub enum Opening {
@@ -28,12 +29,11 @@ pub enum Opening {
     Refused(Stop),
 }
 
-// What there is to write: how many options there are, and the bytes of the known builtins and of the others.
+// What there is to write: how many options there are, and how many bytes they come to.
 pub struct Measured {
     pub start: Start,
     pub count: usize,
-    pub known: usize,
-    pub others: usize,
+    pub length: u32,
 }
 
 // The verdict, with what was measured.
@@ -41,16 +41,6 @@ pub enum Measure {
     Fine(Measured),
     Absent,
     Refused(Stop),
-}
-
-// This refusal, nowhere in the request.
-pub fn nowhere(why: Refusal) -> Stop
-    ensures { λ r. ⌜ r ≡ nowhereOf why ⌝ }
-{
-    Stop {
-        place: Place::Nowhere,
-        why: why,
-    }
 }
 
 // What the options of a fine request start with.
@@ -79,43 +69,33 @@ fn open(sheet: &[u8], request: &[u8]) -> Opening
     }
 }
 
-// The known builtins measured, when the options are gathered, in the room `none`, which is empty.
-fn measure_known(
-    sheet: &[u8],
-    request: &[u8],
-    start: Start,
-    notes: &mut [usize],
-    count: usize,
-    others: usize,
-    none: &mut [u8],
-) -> Measure
-    requires { ⌜ Counted (now sheet) (now request) (now notes) start count others ⌝ }
+// What the options come to, and how many bytes the others have: they are gathered in no room to speak of.
+fn gather_length(sheet: &[u8], request: &[u8], start: Start, notes: &mut [usize]) -> Settling
     requires { ⌜ Started (now sheet) (now request) start ⌝ }
     requires { ⌜ FineFrom (now request) start ⌝ }
     requires { ⌜ mostOptions ≤ length (now notes) ⌝ }
     requires { ⌜ length (now request) ≤ mostRequest ⌝ }
-    ensures { λ r. ⌜ Measures (now (sheet .entry)) (now (request .entry))
-        (stepsIn (gatheredBy (walking (now (sheet .entry))) (now (sheet .entry)) (now (request .entry)) start)) (now (notes .exit)) r ⌝ }
+    ensures { λ r. ⌜ Tallies (now (sheet .entry)) (now (request .entry)) (now (notes .exit)) start r ⌝ }
 {
-    let known = put_known(sheet, request, start, notes, count, none, 0);
-    Measure::Fine(Measured {
-        start: start,
-        count: count,
-        known: known,
-        others: others,
-    })
+    let mut none = [0u8; 1];
+    gather(sheet, request, start, notes, &mut none, 0)
 }
 
-// What the loop over the options answered, measured.
-fn measure_gathered(
-    sheet: &[u8],
-    request: &[u8],
-    start: Start,
-    notes: &mut [usize],
-    settling: Settling,
-    none: &mut [u8],
-) -> Measure
-    requires { ⌜ Tallies (now sheet) (now request) (now notes) start settling ⌝ }
+// How many bytes the known builtins have, likewise.
+fn known_length(sheet: &[u8], request: &[u8], start: Start, notes: &[usize], count: usize) -> usize
+    requires { ⌜ Counted (now sheet) (now request) (now notes) start count ⌝ }
+    requires { ⌜ Started (now sheet) (now request) start ⌝ }
+    requires { ⌜ FineFrom (now request) start ⌝ }
+    requires { ⌜ mostOptions ≤ length (now notes) ⌝ }
+    requires { ⌜ length (now request) ≤ mostRequest ⌝ }
+    ensures { λ r. ⌜ r ≡ length (encode (knownRecs (knownsOf (gatheredBy (walking (now (sheet .entry))) (now (sheet .entry)) (now (request .entry)) start)))) ⌝ }
+{
+    let mut none = [0u8; 1];
+    put_known(sheet, request, start, notes, count, &mut none, 0)
+}
+
+// The options measured.
+fn measure_from(sheet: &[u8], request: &[u8], start: Start, notes: &mut [usize]) -> Measure
     requires { ⌜ Started (now sheet) (now request) start ⌝ }
     requires { ⌜ FineFrom (now request) start ⌝ }
     requires { ⌜ mostOptions ≤ length (now notes) ⌝ }
@@ -123,36 +103,24 @@ fn measure_gathered(
     ensures { λ r. ⌜ Measures (now (sheet .entry)) (now (request .entry))
         (stepsIn (gatheredBy (walking (now (sheet .entry))) (now (sheet .entry)) (now (request .entry)) start)) (now (notes .exit)) r ⌝ }
 {
-    match settling {
+    match gather_length(sheet, request, start, notes) {
         Settling::Fails(stop) => Measure::Refused(stop),
         Settling::Gives {
             note: count,
             next: others,
-        } => measure_known(sheet, request, start, notes, count, others, none),
+        } => {
+            let known = known_length(sheet, request, start, notes, count);
+            Measure::Fine(Measured {
+                start: start,
+                count: count,
+                length: (known + others) as u32,
+            })
+        }
     }
 }
 
-// The options measured, likewise.
-fn measure_from(
-    sheet: &[u8],
-    request: &[u8],
-    start: Start,
-    notes: &mut [usize],
-    none: &mut [u8],
-) -> Measure
-    requires { ⌜ Started (now sheet) (now request) start ⌝ }
-    requires { ⌜ FineFrom (now request) start ⌝ }
-    requires { ⌜ mostOptions ≤ length (now notes) ⌝ }
-    requires { ⌜ length (now request) ≤ mostRequest ⌝ }
-    ensures { λ r. ⌜ Measures (now (sheet .entry)) (now (request .entry))
-        (stepsIn (gatheredBy (walking (now (sheet .entry))) (now (sheet .entry)) (now (request .entry)) start)) (now (notes .exit)) r ⌝ }
-{
-    let settling = gather(sheet, request, start, notes, none, 0);
-    measure_gathered(sheet, request, start, notes, settling, none)
-}
-
-// The verdict on a fine request, before anything is written.
-pub fn measure_all(sheet: &[u8], request: &[u8], notes: &mut [usize], none: &mut [u8]) -> Measure
+// The verdict on a fine request.
+fn measure_all(sheet: &[u8], request: &[u8], notes: &mut [usize]) -> Measure
     requires { ⌜ judgeRequest (now request) ≡ Fine ⌝ }
     requires { ⌜ mostOptions ≤ length (now notes) ⌝ }
     ensures { λ r. ⌜ Measures (now (sheet .entry)) (now (request .entry)) (stepsOf (walking (now (sheet .entry))) (now (sheet .entry)) (now (request .entry)))
@@ -161,8 +129,23 @@ pub fn measure_all(sheet: &[u8], request: &[u8], notes: &mut [usize], none: &mut
     match open(sheet, request) {
         Opening::Absent => Measure::Absent,
         Opening::Refused(stop) => Measure::Refused(stop),
-        Opening::At(start) => measure_from(sheet, request, start, notes, none),
+        Opening::At(start) => measure_from(sheet, request, start, notes),
     }
+}
+
+// The verdict on a request under a sheet whose form was tested before: of that its length alone is tested here.
+pub fn measure_tested(sheet: &[u8], request: &[u8], notes: &mut [usize]) -> Measure
+    requires { ⌜ mostOptions ≤ length (now notes) ⌝ }
+    ensures { λ r. ⌜ Measures (now (sheet .entry)) (now (request .entry)) (resolvingTested (now (sheet .entry)) (now (request .entry)))
+        (now (notes .exit)) r ⌝ }
+{
+    if let Verdict::Refused(why) = sheetform::check_length(sheet) {
+        return Measure::Refused(nowhere(why));
+    }
+    if let Verdict::Refused(why) = requestform::check_request(request) {
+        return Measure::Refused(nowhere(why));
+    }
+    measure_all(sheet, request, notes)
 }
 
 // The records of what was measured: the known builtins first, then the others in order of writing.
@@ -175,7 +158,6 @@ pub fn put_records(
 )
     requires { ⌜ Ready (now sheet) (now request) (now notes) measured ⌝ }
     requires { ⌜ mostOptions ≤ length (now notes) ⌝ }
-    requires { ⌜ length (now request) ≤ mostRequest ⌝ }
     ensures { λ _. ⌜ now (out .exit) ≡ sets (now (out .entry)) 0
         (encode (allOf (gatheredBy (walking (now (sheet .entry))) (now (sheet .entry)) (now (request .entry)) (measured .start)))) ⌝ }
 {

@@ -30,7 +30,7 @@ use Rattle.known.proofs.KnownLaws.{known-few}
 use Rattle.known.proofs.NoteLaws.{noted-length}
 use Rattle.known.proofs.NotedLaws.{noted-start, noted-none, noted-set}
 use Rattle.settle.specs.declared.Start.{Start}
-use Rattle.settle.specs.declared.Stop.{Stop}
+use Rattle.judged.specs.declared.Stop.{Stop}
 use Rattle.settle.specs.declared.Settling.{Settling}
 use Rattle.settle.specs.declared.Settling.the-variants.{Gives, Fails}
 use Rattle.settle.specs.Settle.{Settled, known, others, fails}

@@ -8,7 +8,7 @@ use Rattle.octets.specs.inner.Laid.{Laid}
 use Rattle.records.specs.Records.{Recs, append, encode}
 use Rattle.known.specs.Known.{Known, knownRecs}
 use Rattle.known.specs.inner.Notes.{Noted}
-use Rattle.settle.specs.declared.Stop.{Stop}
+use Rattle.judged.specs.declared.Stop.{Stop}
 use Rattle.settle.specs.declared.Settling.{Settling}
 use Rattle.settle.specs.declared.Settling.the-variants.{Gives, Fails}
 use Rattle.options.specs.Options.{Gathered, gathered, stopped}

@@ -9,7 +9,7 @@ use Rattle.request.specs.Request.{Option}
 use Rattle.records.specs.Records.{Recs, append}
 use Rattle.lookups.specs.Lookups.{Lookups, Message}
 use Rattle.known.specs.Known.{Known, setKnown}
-use Rattle.settle.specs.declared.Stop.{Stop}
+use Rattle.judged.specs.declared.Stop.{Stop}
 use Rattle.settle.specs.Settle.{Settled, known, others, fails, stopAt, settle}
 
 pub data Gathered : Type 0 where

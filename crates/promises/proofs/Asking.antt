@@ -3,7 +3,7 @@
 use Rattle.basis.specs.Kit.{List, ℕ}
 use lib.Ieee.{span, climb, size, odd, units, round, ofInt, ofFields, ofBits, nanBits, toBits}
 use Rattle.reply.specs.Reply.{number, second}
-use Rattle.settle.specs.declared.Place.{Place}
+use Rattle.judged.specs.declared.Place.{Place}
 use Rattle.lookups.specs.Lookups.{walking}
 use Rattle.octets.specs.Octets.{sameBytes, bigAt}
 use Rattle.field.specs.Field.{fieldAt}

@@ -31,7 +31,7 @@ use Rattle.requestform.specs.Form.{judgeRequest}
 use Rattle.requestform.proofs.RequestLaws.{request-long}
 use Rattle.lookups.specs.Lookups.{Lookups, Message, walking}
 use Rattle.known.specs.Known.{Known, setKnown, knownRecs}
-use Rattle.settle.specs.declared.Stop.{Stop}
+use Rattle.judged.specs.declared.Stop.{Stop}
 use Rattle.settle.specs.Settle.{Settled}
 use Rattle.options.specs.Options.{Gathered, gathered, stopped, next, gather}
 use Rattle.measure.specs.Steps.{Steps, records, absent, refused, stepsIn, onType, someOptions, stepsOf}

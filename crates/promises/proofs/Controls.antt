@@ -2,7 +2,7 @@
 -- Assumes nothing.
 use Rattle.basis.specs.Kit.{_≡_, refl, List, [], _∷_, _++_, map, ℕ}
 use Rattle.octets.specs.Ascii.{ascii}
-use Rattle.settle.specs.declared.Place.the-variants.{Nowhere, Inside}
+use Rattle.judged.specs.declared.Place.the-variants.{Nowhere, Inside}
 use Rattle.promises.proofs.Asking.{Example, asks, bytes, refused, stepped}
 use Rattle.scopes.proofs.Sheets.{file, message, value, enum}
 use Rattle.promises.proofs.Sheets.{extension, extensionTo, field, fieldTo, fieldWith}

@@ -1,7 +1,7 @@
 -- 01's examples P1 to P9, as one table under one statement, which the checker computes: each is of the whole call, the tests of form too.
 -- Assumes nothing.
 use Rattle.basis.specs.Kit.{_≡_, refl, List, [], _∷_, _++_, map, ℕ}
-use Rattle.settle.specs.declared.Place.the-variants.{Inside}
+use Rattle.judged.specs.declared.Place.the-variants.{Inside}
 use Rattle.promises.proofs.Asking.{Example, asks, bytes, absent, refused, answer}
 use Rattle.scopes.proofs.Sheets.{file, message}
 use Rattle.promises.proofs.Sheets.{fieldOptions, messageOptions, extension, field}

@@ -1,1 +1,2 @@
 pub mod WriteLaws
+pub mod CallLaws

@@ -1,1 +1,2 @@
 pub mod Resolve
+pub mod inner

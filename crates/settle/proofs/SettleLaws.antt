@@ -35,8 +35,8 @@ use Rattle.steps.proofs.PutLaws.{stepped-tells}
 use Rattle.builtins.specs.declared.Built.{Built}
 use Rattle.builtins.specs.declared.Built.the-variants.{Skipped, Sets, Wrong}
 use Rattle.builtins.specs.Builtins.{builtinOf, builtRecs}
-use Rattle.settle.specs.declared.Place.the-variants.{Inside}
-use Rattle.settle.specs.declared.Stop.{Stop}
+use Rattle.judged.specs.declared.Place.the-variants.{Inside}
+use Rattle.judged.specs.declared.Stop.{Stop}
 use Rattle.settle.specs.declared.Start.{Start}
 use Rattle.settle.specs.declared.Settling.{Settling}
 use Rattle.settle.specs.declared.Settling.the-variants.{Gives, Fails}

@@ -20,8 +20,8 @@ use Rattle.steps.specs.Steps.{faultAt, optionFrom}
 use Rattle.builtins.specs.declared.Built.{Built}
 use Rattle.builtins.specs.declared.Built.the-variants.{Skipped, Sets, Wrong}
 use Rattle.builtins.specs.Builtins.{builtinOf}
-use Rattle.settle.specs.declared.Stop.{Stop}
-use Rattle.settle.specs.declared.Place.the-variants.{Inside}
+use Rattle.judged.specs.declared.Stop.{Stop}
+use Rattle.judged.specs.declared.Place.the-variants.{Inside}
 
 -- ---- one option
 pub data Settled : Type 0 where

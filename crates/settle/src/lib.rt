@@ -19,25 +19,14 @@ use builtins::put_builtin;
 use field::Field;
 use field::Span;
 use field::field_at;
-use reply::Refusal;
+use judged::Place;
+use judged::Stop;
 use request::name::Part;
 use request::name::Parted;
 use request::name::part_at;
 use scope::lookup::LookupScope;
 use steps::Stepped;
 use steps::put_option;
-
-// Where a request was refused: nowhere in it, or at an option and a part of its name, both counted from 0.
-pub enum Place {
-    Nowhere,
-    Inside { option: usize, part: usize },
-}
-
-// Why a request is refused, and where.
-pub struct Stop {
-    pub place: Place,
-    pub why: Refusal,
-}
 
 // What the options of a request start with: the scope and the path of the options type, where the options stand in the request, and where
 // the options message stands in the sheet.

@@ -15,5 +15,4 @@ measure-all-spec = tie.close (tie.spec
     (λ c. search (needs, measure-all-laws))
     (λ c. search (needs, measure-all-laws))
     (λ c. search (needs, measure-all-laws))
-    (λ c. search (needs, measure-all-laws))
     (λ c. search (needs, measure-all-laws)))

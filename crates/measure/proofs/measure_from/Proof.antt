@@ -1,6 +1,6 @@
 -- `measure::measure_from` meets its contract.
 -- Assumes nothing.
-use Rattle.measure.proofs.MeasureLaws.{gathers-tallies, measure-from-laws}
+use Rattle.measure.proofs.MeasureLaws.{measure-from-laws}
 use Rattle.basis.proofs.Kit.{needs}
 use Rattle.measure.proofs.measure_from.Statement.{statement}
 use Rattle.measure.proofs.measure_from.Tie as tie
@@ -8,7 +8,12 @@ use Rattle.measure.proofs.measure_from.Tie as tie
 pub measure-from-spec : {M : Type 1} → statement M
 measure-from-spec = tie.close (tie.spec
     (λ c κs. (search (needs, measure-from-laws), (search (needs, measure-from-laws), (search (needs, measure-from-laws), search (needs, measure-from-laws)))))
-    (λ c κs. (gathers-tallies _ _ _ _ _ _ _ (c .before .before .before .before .before .before .gather .ensures), (search (needs, measure-from-laws), (search (needs, measure-from-laws), (search (needs, measure-from-laws), search (needs, measure-from-laws))))))
+    (λ c. search (needs, measure-from-laws))
+    (λ c. search (needs, measure-from-laws))
+    (λ c κs. (search (needs, measure-from-laws), (search (needs, measure-from-laws), (search (needs, measure-from-laws), (search (needs, measure-from-laws), search (needs, measure-from-laws))))))
+    (λ c. search (needs, measure-from-laws))
+    (λ c. search (needs, measure-from-laws))
+    (λ c. search (needs, measure-from-laws))
     (λ c. search (needs, measure-from-laws))
     (λ c. search (needs, measure-from-laws))
     (λ c. search (needs, measure-from-laws)))

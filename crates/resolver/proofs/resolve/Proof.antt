@@ -1,6 +1,6 @@
 -- `resolver::resolve` meets its contract.
 -- Assumes nothing.
-use Rattle.resolver.proofs.WriteLaws.{resolve-laws}
+use Rattle.resolver.proofs.CallLaws.{resolve-laws}
 use Rattle.basis.proofs.Kit.{needs}
 use Rattle.resolver.proofs.resolve.Statement.{statement}
 use Rattle.resolver.proofs.resolve.Tie as tie

@@ -7,17 +7,13 @@ use Rattle.resolver.proofs.resolve_over.Tie as tie
 
 pub resolve-over-spec : {M : Type 1} → statement M
 resolve-over-spec = tie.close (tie.spec
-    (λ c. search (needs, over-laws))
-    (λ c. search (needs, over-laws))
     (λ c κs. search (needs, over-laws))
     (λ c. search (needs, over-laws))
     (λ c κs. search (needs, over-laws))
     (λ c. search (needs, over-laws))
     (λ c κs. search (needs, over-laws))
     (λ c. search (needs, over-laws))
-    (λ c κs. (search (needs, over-laws), (search (needs, over-laws), search (needs, over-laws))))
-    (λ c. search (needs, over-laws))
-    (λ c. search (needs, over-laws))
+    (λ c κs. (search (needs, over-laws), search (needs, over-laws)))
     (λ c. search (needs, over-laws))
     (λ c. search (needs, over-laws))
     (λ c. search (needs, over-laws))

@@ -7,12 +7,11 @@ use Rattle.resolver.proofs.write.Tie as tie
 
 pub write-spec : {M : Type 1} → statement M
 write-spec = tie.close (tie.spec
-    (λ c. search (needs, write-laws))
     (λ c κs. search (needs, write-laws))
     (λ c. search (needs, write-laws))
     (λ c. search (needs, write-laws))
-    (λ c κs. search (needs, write-laws))
-    (λ c κs. search (needs, write-laws))
+    (λ c. search (needs, write-laws))
+    (λ c κs. (search (needs, write-laws), search (needs, write-laws)))
     (λ c. search (needs, write-laws))
     (λ c. search (needs, write-laws))
     (λ c. search (needs, write-laws)))

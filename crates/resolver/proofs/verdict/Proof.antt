@@ -1,9 +1,9 @@
--- `verdict::verdict` meets its contract.
+-- `resolver::verdict` meets its contract.
 -- Assumes nothing.
-use Rattle.verdict.proofs.VerdictLaws.{verdict-laws}
+use Rattle.resolver.proofs.CallLaws.{verdict-laws}
 use Rattle.basis.proofs.Kit.{needs}
-use Rattle.verdict.proofs.verdict.Statement.{statement}
-use Rattle.verdict.proofs.verdict.Tie as tie
+use Rattle.resolver.proofs.verdict.Statement.{statement}
+use Rattle.resolver.proofs.verdict.Tie as tie
 
 pub verdict-spec : {M : Type 1} → statement M
 verdict-spec = tie.close (tie.spec

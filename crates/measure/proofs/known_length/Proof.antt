@@ -1,0 +1,12 @@
+-- `measure::known_length` meets its contract.
+-- Assumes nothing.
+use Rattle.measure.proofs.MeasureLaws.{known-length-laws}
+use Rattle.basis.proofs.Kit.{needs}
+use Rattle.measure.proofs.known_length.Statement.{statement}
+use Rattle.measure.proofs.known_length.Tie as tie
+
+pub known-length-spec : {M : Type 1} → statement M
+known-length-spec = tie.close (tie.spec
+    (λ c. search (needs, known-length-laws))
+    (λ c κs. (search (needs, known-length-laws), (search (needs, known-length-laws), (search (needs, known-length-laws), (search (needs, known-length-laws), (search (needs, known-length-laws), (search (needs, known-length-laws), search (needs, known-length-laws))))))))
+    (λ c. search (needs, known-length-laws)))

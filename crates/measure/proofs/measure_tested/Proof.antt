@@ -1,0 +1,22 @@
+-- `measure::measure_tested` meets its contract.
+-- Assumes nothing.
+use Rattle.measure.proofs.MeasureLaws.{measure-tested-laws}
+use Rattle.basis.proofs.Kit.{needs}
+use Rattle.measure.proofs.measure_tested.Statement.{statement}
+use Rattle.measure.proofs.measure_tested.Tie as tie
+
+pub measure-tested-spec : {M : Type 1} → statement M
+measure-tested-spec = tie.close (tie.spec
+    (λ c κs. search (needs, measure-tested-laws))
+    (λ c. search (needs, measure-tested-laws))
+    (λ c κs. search (needs, measure-tested-laws))
+    (λ c. search (needs, measure-tested-laws))
+    (λ c. search (needs, measure-tested-laws))
+    (λ c κs. search (needs, measure-tested-laws))
+    (λ c. search (needs, measure-tested-laws))
+    (λ c κs. search (needs, measure-tested-laws))
+    (λ c. search (needs, measure-tested-laws))
+    (λ c. search (needs, measure-tested-laws))
+    (λ c κs. (search (needs, measure-tested-laws), search (needs, measure-tested-laws)))
+    (λ c. search (needs, measure-tested-laws))
+    (λ c. search (needs, measure-tested-laws)))

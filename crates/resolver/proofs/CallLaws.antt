@@ -1,0 +1,77 @@
+-- The ways through `resolve`, `verdict_tested` and `verdict`, and that a call agrees with the one for a sheet that was tested before.
+-- Assumes nothing.
+use Rattle.basis.specs.Kit.{_≡_, refl, sym, ap, _∙_, List, ℕ}
+use Rattle.reply.specs.declared.Refusal.{Refusal}
+use Rattle.reply.specs.declared.Verdict.{Verdict}
+use Rattle.reply.specs.declared.Verdict.the-variants.{Fine, Refused as Bad}
+use Rattle.reply.specs.declared.Answer.{Answer}
+use Rattle.reply.specs.Reply as reply
+use Rattle.reply.specs.Outcome.{Answered}
+use Rattle.reply.proofs.Outcomes.{answered-refused}
+use Rattle.sheetform.specs.Form.{judgeSheet}
+use Rattle.sheetform.proofs.SheetLaws.{sheet-length}
+use Rattle.judged.specs.declared.Stop.{Stop}
+use Rattle.judged.specs.declared.Judged.{Judged}
+use Rattle.judged.specs.declared.Judged.the-variants as judged
+use Rattle.judged.specs.Judged.{nowhere}
+use Rattle.measure.specs.declared.Measured.{Measured}
+use Rattle.measure.specs.declared.Measure.{Measure}
+use Rattle.measure.specs.declared.Measure.the-variants as measure
+use Rattle.measure.specs.inner.Measuring.{Measures}
+use Rattle.resolver.specs.Resolve.{Steps, resolvingBy, resolving, resolvingTested, outcomeOf, judgedOf, resolveBytes, resolveTested}
+use Rattle.resolver.specs.inner.Judging.{judgedBy}
+use Rattle.resolver.proofs.WriteLaws.{measured-judged}
+
+-- on a fine sheet a call comes to what the one for a tested sheet does
+module _ (s r : List ℕ) (h : judgeSheet s ≡ Fine) where
+  resolving-tested : resolving s r ≡ resolvingTested s r
+  resolving-tested = ap (λ (v : Verdict). resolvingBy v s r) (h ∙ sym (sheet-length s h))
+
+  pub resolve-tested : resolveBytes s r ≡ resolveTested s r
+  unfolding resolveBytes resolveTested
+  resolve-tested = ap outcomeOf resolving-tested
+
+  pub verdict-tested : judgedOf (resolving s r) ≡ judgedOf (resolvingTested s r)
+  verdict-tested = ap judgedOf resolving-tested
+
+-- ---- resolve
+module _ (s r l : List ℕ) (a : Answer) (v : Verdict) (q : v ≡ judgeSheet s) where
+  pub resolve-refused : (w : Refusal) → v ≡ Bad w → a ≡ reply.refusedBy w → Answered (resolveBytes s r) l l a
+  unfolding resolveBytes resolvingBy
+  resolve-refused w g e = rw e (answered-refused (resolveBytes s r) l (reply.nowhere w) (rw (← q, g)))
+
+  pub resolve-fine : v ≡ Fine → (l′ : List ℕ) → Answered (resolveTested s r) l l′ a → Answered (resolveBytes s r) l l′ a
+  resolve-fine g l′ h = rw (resolve-tested s r (sym q ∙ g)) h
+
+pub ruleset resolve-laws = (resolve-refused, resolve-fine)
+
+-- ---- judged_by
+module _ (v : Measure) where
+  pub by-absent : v ≡ measure.Absent → judged.Absent ≡ judgedBy v
+  by-absent g = rw g refl
+
+  pub by-refused : (e : Stop) → v ≡ measure.Refused e → judged.Refused e ≡ judgedBy v
+  by-refused e g = rw g refl
+
+  pub by-fine : (m : Measured) → v ≡ measure.Fine m → judged.Fine (m .length) ≡ judgedBy v
+  by-fine m g = rw g refl
+
+pub ruleset judged-by-laws = (by-absent, by-refused, by-fine)
+
+-- ---- verdict_tested
+pub verdict-measured : (s r : List ℕ) (o : Steps) (ns : List ℕ) (v : Measure) → Measures s r o ns v → (y : Judged) → y ≡ judgedBy v
+    → y ≡ judgedOf o
+verdict-measured s r o ns v u y e = e ∙ measured-judged u
+
+pub ruleset verdict-tested-laws = (verdict-measured)
+
+-- ---- verdict
+module _ (s r : List ℕ) (v : Verdict) (q : v ≡ judgeSheet s) where
+  pub verdict-refused : (w : Refusal) → v ≡ Bad w → (y : Stop) → y ≡ nowhere w → judged.Refused y ≡ judgedOf (resolving s r)
+  unfolding resolvingBy
+  verdict-refused w g y e = rw (← q, g, e)
+
+  pub verdict-fine : v ≡ Fine → (y : Judged) → y ≡ judgedOf (resolvingTested s r) → y ≡ judgedOf (resolving s r)
+  verdict-fine g y e = e ∙ sym (verdict-tested s r (sym q ∙ g))
+
+pub ruleset verdict-laws = (verdict-refused, verdict-fine)
