@@ -38,7 +38,7 @@ use Rattle.settle.specs.Settle.{fails, stopAt, settle}
 use Rattle.options.specs.Options.{stopped, gather}
 use Rattle.measure.specs.Steps.{records}
 use Rattle.resolver.specs.Resolve.{resolving, resolveBytes, resolveTested}
-use Rattle.resolver.proofs.WriteLaws as calls
+use Rattle.resolver.proofs.CallLaws as calls
 use Rattle.promises.specs.Levels.{deepest}
 use Rattle.promises.proofs.Asking.{answer}
 use Rattle.promises.proofs.Examples as examples
