@@ -8,8 +8,7 @@ no use for is left out. Every expected value is written here by hand from its do
 """
 import struct
 
-KINDS = ["VARINT", "ZIGZAG", "NUMBER", "BYTES", "INTEGER", "DOUBLE", "TEXT", "NO_TEXT", "RANGES", "FIELDS", "CANDIDATE", "CANDIDATES",
-         "REFUSAL", "PRINTED"]
+KINDS = ["VARINT", "ZIGZAG", "RECORD", "RANGES", "FIELDS", "CANDIDATE", "CANDIDATES", "REFUSAL", "PRINTED"]
 WIDTH = 120
 
 
@@ -42,31 +41,27 @@ def zigzag(label, n, z):
     return case("ZIGZAG", label, u64(n), want=u64(z))
 
 
-# A record of a field's number, its type's wire type and a varint.
-def number(label, field, kind, n, want):
-    return case("NUMBER", label, u64(n), words(field), words(kind), want=bytes.fromhex(want))
-
-
-# A record of a field's number, its type's wire type and bytes with their length.
-def payload(label, field, kind, bs, want):
-    return case("BYTES", label, bs, words(field), words(kind), want=want)
+# A constant, as a request has it, on a field of that number and type: the bytes of its record, none where it is refused.
+def record(label, constant, field, typ, want):
+    return case("RECORD", label, constant, words(field, typ), want=want)
 
 
 def text(label, bs):
-    return case("TEXT", label, bytes.fromhex(bs))
+    bs = bytes.fromhex(bs)
+    return record(label, f(0x24, bs), 1, STRING, bytes([0x0A, len(bs)]) + bs)
 
 
 def no_text(label, bs):
-    return case("NO_TEXT", label, bytes.fromhex(bs))
+    return record(label, f(0x24, bytes.fromhex(bs)), 1, STRING, b"")
 
 
-# The bits of the float nearest to an integer, and to the double of these bits.
+# The bits of the float nearest to an integer, and to the double of these bits, in field 1.
 def integer(label, n, want):
-    return case("INTEGER", label, u64(n), want=words(want))
+    return record(label, f(0x21, u64(n)), 1, FLOAT, b"\x0d" + struct.pack("<I", want))
 
 
 def double(label, bits, want):
-    return case("DOUBLE", label, u64(bits), want=words(want))
+    return record(label, f(0x23, u64(bits)), 1, FLOAT, b"\x0d" + struct.pack("<I", want))
 
 
 # A list lowered into lent memory that holds `before`: the reply, the length, and what the memory holds then.
@@ -97,7 +92,7 @@ def printed(label, bs):
     return case("PRINTED", label, bytes.fromhex(bs))
 
 
-INT32, STRING, MESSAGE = 5, 9, 11  # descriptor.proto, FieldDescriptorProto.Type
+FLOAT, INT32, STRING, BYTES = 2, 5, 9, 12  # descriptor.proto, FieldDescriptorProto.Type
 EXTENSION, ENUM_RESERVED = 0, 2  # 01, "Listing and lowering"
 SCOPE = "plant.Dispatch"
 
@@ -118,11 +113,11 @@ CASES = [
     zigzag("zigzag 0x7fffffff is 0xfffffffe", 0x7FFFFFFF, 0xFFFFFFFE),
     zigzag("zigzag -0x80000000 is 0xffffffff", -0x80000000, 0xFFFFFFFF),
     # Encoding, "A Simple Message": 150 in field 1 is 08 96 01
-    number("field 1, 150 is 08 96 01", 1, INT32, 150, "089601"),
+    record("field 1, 150 is 08 96 01", f(0x21, u64(150)), 1, INT32, b"\x08\x96\x01"),
     # Encoding, "Length-Delimited Records": `testing` in field 2 is 12 07 and 74 65 73 74 69 6e 67
-    payload("field 2, testing is 12 07 and the bytes", 2, STRING, b"testing", b"\x12\x07testing"),
-    # Encoding, "Submessages": that simple message in field 3 is 1a 03 and 08 96 01
-    payload("field 3, nested 150 is 1A 03 08 96 01", 3, MESSAGE, b"\x08\x96\x01", b"\x1a\x03\x08\x96\x01"),
+    record("field 2, testing is 12 07 and the bytes", f(0x24, b"testing"), 2, STRING, b"\x12\x07testing"),
+    # Encoding, "Submessages": that simple message in field 3 is 1a 03 and 08 96 01, as its bytes would be
+    record("field 3, nested 150 is 1A 03 08 96 01", f(0x24, b"\x08\x96\x01"), 3, BYTES, b"\x1a\x03\x08\x96\x01"),
     # RFC 3629, section 7: U+0041 U+2262 U+0391 U+002E, and U+233B4 after a byte order mark
     text("UTF-8 41 E2 89 A2 CE 91 2E", "41e289a2ce912e"),
     text("UTF-8 EF BB BF F0 A3 8E B4", "efbbbff0a38eb4"),

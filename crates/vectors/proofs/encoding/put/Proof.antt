@@ -1,12 +1,17 @@
 -- `vectors::encoding::put` meets its contract.
 -- Assumes nothing.
+use Rattle.vectors.proofs.CaseLaws.{put-laws}
 use Rattle.basis.proofs.Kit.{needs}
-use Rattle.vectors.proofs.CaseLaws.{varint-end}
 use Rattle.vectors.proofs.encoding.put.Statement.{statement}
 use Rattle.vectors.proofs.encoding.put.Tie as tie
 
 pub put-spec : {M : Type 1} → statement M
 put-spec = tie.close (tie.spec
-    (λ c κs. search needs)
-    (λ c. search needs)
-    (λ c. search (needs, varint-end)))
+    (λ c κs. search (needs, put-laws))
+    (λ c. search (needs, put-laws))
+    (λ c. search (needs, put-laws))
+    (λ c. search (needs, put-laws))
+    (λ c. search (needs, put-laws))
+    (λ c κs. (search (needs, put-laws), (search (needs, put-laws), search (needs, put-laws))))
+    (λ c. search (needs, put-laws))
+    (λ c. search (needs, put-laws)))
