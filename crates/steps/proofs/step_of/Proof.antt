@@ -18,6 +18,8 @@ step-of-spec = tie.close (tie.spec
     (λ c. search (needs, step-laws))
     (λ c. search (needs, step-laws))
     (λ c. search (needs, step-laws))
+    (λ c. search (needs, step-laws))
+    (λ c. search (needs, step-laws))
     (λ c κs. search (needs, step-laws))
     (λ c. search (needs, step-laws))
     (λ c. search (needs, step-laws))
