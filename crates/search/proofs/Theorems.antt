@@ -79,7 +79,7 @@ found-tried s scope name c e = rw e
 
 -- ---- the extendee
 
--- 01: "Only then is the extendee compared; a mismatch ends the search." Found first, tested second: the candidate that answers is the answer,
+-- 01: "Only then is the extendee compared; a mismatch ends the search." Found first, tested second: the candidate that answers is given,
 -- with its position and its extension, and the extendee says no more than whether it is one of the message asked for;
 module _ (s scope m name : List ℕ) (c : Candidate) where
   pub extendee-same : tried s scope name ≡ attempt.Answers c → extends s m (c .found .declaration) ≡ true

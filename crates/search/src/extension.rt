@@ -45,8 +45,8 @@ pub enum Tried {
     Refused(Refusal),
 }
 
-// What the search for an extension of a message comes to: the candidate that answers; the one that answers where it extends another message,
-// with which the search ends; or why none answers.
+// What the search for an extension of a message comes to: the candidate that answers; the one that answers where it extends another
+// message, with which the search ends; or why none answers.
 pub enum Compared {
     Extends(Candidate),
     ExtendsOther(Candidate),
