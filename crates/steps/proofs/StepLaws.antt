@@ -1,4 +1,5 @@
--- What a name part comes to: the ways through `step_of`, over any look-ups, and where the type path of what was found lies.
+-- What a name part comes to: the ways through `step_extension` and `step_of`, over any look-ups, and where the type path of what was found
+-- lies.
 -- Assumes nothing.
 use Rattle.basis.specs.Kit.{_≡_, refl, sym, ap, _∙_, Bool, true, false, List, Option, none, some, ℕ, _≤_, length}
 use Rattle.basis.specs.First.{told}
@@ -26,22 +27,25 @@ use Rattle.steps.specs.declared.Step.the-variants.{Found, NotFound}
 use Rattle.steps.specs.Steps.{stepExtension, stepOf}
 use Rattle.steps.specs.inner.Written.{message, StepLies}
 
+-- ---- step_extension
+module _ (v : Compared) where
+  pub searched-refused : (w : Refusal) → v ≡ Refused w → NotFound (NoExtension w) ≡ stepExtension v
+  searched-refused w g = sym (ap stepExtension g)
+
+  pub searched-other : (c : Candidate) → v ≡ ExtendsOther c → NotFound (OtherMessage c) ≡ stepExtension v
+  searched-other c g = sym (ap stepExtension g)
+
+  pub searched-extends : (c : Candidate) → v ≡ Extends c → Found (c .found .declaration) ≡ stepExtension v
+  searched-extends c g = sym (ap stepExtension g)
+
+pub ruleset searched-laws = (searched-refused, searched-other, searched-extends)
+
 -- ---- an extension part
 module _ (L : Lookups) (s r scope n : List ℕ) (c : LookupScope) (p : Part) where
-  module _ (x : p .extension ≡ true) (v : Compared) (q : v ≡ L .extension scope n (text r (p .name))) where
-    step-searched : stepOf L s r scope (message n c) p ≡ stepExtension v
-    unfolding stepOf
-    step-searched = rw (stepOf, x, q) refl
-
-    pub step-refused : (w : Refusal) → v ≡ Refused w → NotFound (NoExtension w) ≡ stepOf L s r scope (message n c) p
-    step-refused w g = sym (step-searched ∙ ap stepExtension g)
-
-    module _ (f : Candidate) where
-      pub step-other : v ≡ ExtendsOther f → NotFound (OtherMessage f) ≡ stepOf L s r scope (message n c) p
-      step-other g = sym (step-searched ∙ ap stepExtension g)
-
-      pub step-extension : v ≡ Extends f → Found (f .found .declaration) ≡ stepOf L s r scope (message n c) p
-      step-extension g = sym (step-searched ∙ ap stepExtension g)
+  pub step-extension : p .extension ≡ true → (v : Compared) → v ≡ L .extension scope n (text r (p .name)) → (u : Step)
+      → u ≡ stepExtension v → u ≡ stepOf L s r scope (message n c) p
+  unfolding stepOf
+  step-extension x v q u e = e ∙ sym (rw (stepOf, x, q) refl)
 
   -- ---- a direct part
   module _ (x : p .extension ≡ false) (v : Declared) (q : v ≡ declared (fieldNamed s (text r (p .name)) c)) where
@@ -73,10 +77,16 @@ module _ (s : List ℕ) where
   lies-found : (d : Declaration) → Lies (d .shape .path) s → StepLies s (Found d)
   lies-found d l = record { lies = λ x e. let y : d ≡ x = cc in subst (λ (z : Declaration). Lies (z .shape .path) s) y l }
 
-  pub lies-extension : (scope m n : List ℕ) (v : Compared) → v ≡ walking s .extension scope m n → (f : Candidate) → v ≡ Extends f
-      → StepLies s (Found (f .found .declaration))
-  lies-extension scope m n v q f g =
-      lies-found (f .found .declaration) (extension-path-ordered s scope m n v q f g, extension-path-within s scope m n v q f g)
+  pub lies-extension : (scope m n : List ℕ) (v : Compared) → v ≡ walking s .extension scope m n → (u : Step) → u ≡ stepExtension v
+      → StepLies s u
+  lies-extension scope m n v q u e = subst (StepLies s) (sym e) (go v q)
+    where
+      go : (v : Compared) → v ≡ walking s .extension scope m n → StepLies s (stepExtension v)
+      go (Refused w) q = lies-lack (NoExtension w)
+      go (ExtendsOther c) q = lies-lack (OtherMessage c)
+      go (Extends c) q =
+          lies-found (c .found .declaration)
+          (extension-path-ordered s scope m n (Extends c) q c refl, extension-path-within s scope m n (Extends c) q c refl)
 
   pub lies-field : (c : LookupScope) → InSheet s c → (n : List ℕ) (v : Declared) → v ≡ declared (fieldNamed s n c) → (d : Declaration)
       → v ≡ Declares d → StepLies s (Found d)
@@ -89,5 +99,4 @@ module _ (s : List ℕ) where
     pub step-path-within : d .shape .path .to ≤ length s
     step-path-within = l .lies d g .1
 
-pub ruleset step-laws =
-    (step-refused, step-other, step-extension, step-unknown, step-field, part-path, lies-lack, lies-extension, lies-field)
+pub ruleset step-laws = (step-extension, step-unknown, step-field, part-path, lies-lack, lies-extension, lies-field)

@@ -9,7 +9,7 @@ ghost use Rattle.optionform.specs.inner.Parts.{OptionParts};
 ghost use Rattle.records.specs.Made.{holding};
 ghost use Rattle.records.specs.inner.Emits.{bytesMost, Emits, Roomy};
 ghost use Rattle.lookups.specs.Lookups.{walking};
-ghost use Rattle.steps.specs.Steps.{whyOf, stepOf, at as atPart};
+ghost use Rattle.steps.specs.Steps.{whyOf, stepExtension, stepOf, at as atPart};
 ghost use Rattle.steps.specs.inner.Written.{message as messageOf, steppedOf, leftOn, behind as behindOf, stepped, StepLies, Steppable, Led, reachOf, constantMade, optionMade};
 use field::Field;
 use field::Span;
@@ -74,6 +74,20 @@ pub enum Reach {
     Fails(Refusal),
 }
 
+// What an extension part comes to, by what its search comes to.
+fn step_extension(searched: Compared) -> Step
+    ensures { λ r. ⌜ r ≡ stepExtension searched ⌝ }
+{
+    match searched {
+        Compared::Refused(why) => Step::NotFound(Lack::NoExtension(why)),
+        Compared::ExtendsOther(first) => Step::NotFound(Lack::OtherMessage(first)),
+        Compared::Extends(first) => {
+            let declaration = first.found.declaration;
+            Step::Found(declaration)
+        }
+    }
+}
+
 // What a part comes to in a message: a direct part as a field, an extension part by search from the request's scope.
 pub fn step_of(
     sheet: &[u8],
@@ -94,14 +108,7 @@ pub fn step_of(
     let from = part.name.from;
     let to = part.name.to;
     if part.extension {
-        return match lookups::extension(sheet, scope, message, &request[from..to]) {
-            Compared::Refused(why) => Step::NotFound(Lack::NoExtension(why)),
-            Compared::ExtendsOther(first) => Step::NotFound(Lack::OtherMessage(first)),
-            Compared::Extends(first) => {
-                let declaration = first.found.declaration;
-                Step::Found(declaration)
-            }
-        };
+        return step_extension(lookups::extension(sheet, scope, message, &request[from..to]));
     }
     let Declared::Declares(field) = lookups::field_named(sheet, place, &request[from..to]) else {
         return Step::NotFound(Lack::NoField);
