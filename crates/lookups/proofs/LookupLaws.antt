@@ -17,10 +17,10 @@ use Rattle.fullname.specs.declared.LookedUp.the-variants.{Message}
 use Rattle.fullname.specs.declared.LookedUpEnum.{LookedUpEnum}
 use Rattle.fullname.specs.declared.LookedUpEnum.the-variants.{Values}
 use Rattle.fullname.proofs.LiesLaws.{looked-up-lies, looked-up-enum-ordered, looked-up-enum-within}
-use Rattle.search.specs.declared.extension.Found.{Found}
-use Rattle.search.specs.declared.extension.Resolved.{Resolved}
-use Rattle.search.specs.declared.extension.Resolved.the-variants.{Field}
-use Rattle.search.proofs.LiesLaws.{resolved-places}
+use Rattle.search.specs.declared.extension.Candidate.{Candidate}
+use Rattle.search.specs.declared.extension.Compared.{Compared}
+use Rattle.search.specs.declared.extension.Compared.the-variants.{Extends}
+use Rattle.search.proofs.LiesLaws.{extends-lies}
 use Rattle.named.proofs.DeclaredPlaces.{named-places, declaration-lies}
 use Rattle.lookups.specs.Lookups.{walking, fieldNamed}
 
@@ -45,14 +45,14 @@ module _ (s : List ℕ) (c : LookupScope) (l : InSheet s c) (n : List ℕ) where
     field-path-within = field-places .path .inside
 
 -- ---- an extension
-module _ (s scope m n : List ℕ) (r : Resolved) (q : r ≡ walking s .extension scope m n) (f : Found) (g : r ≡ Field f) where
-  extension-places : Places (length s) (f .declaration)
-  extension-places = resolved-places s scope m n r q f g
+module _ (s scope m n : List ℕ) (r : Compared) (q : r ≡ walking s .extension scope m n) (c : Candidate) (g : r ≡ Extends c) where
+  extension-places : Places (length s) (c .found .declaration)
+  extension-places = extends-lies s scope m n r q c g .places
 
-  pub extension-path-ordered : f .declaration .shape .path .from ≤ f .declaration .shape .path .to
+  pub extension-path-ordered : c .found .declaration .shape .path .from ≤ c .found .declaration .shape .path .to
   extension-path-ordered = extension-places .path .ordered
 
-  pub extension-path-within : f .declaration .shape .path .to ≤ length s
+  pub extension-path-within : c .found .declaration .shape .path .to ≤ length s
   extension-path-within = extension-places .path .inside
 
 -- ---- an enum

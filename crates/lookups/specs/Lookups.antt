@@ -21,13 +21,13 @@ use Rattle.scope.specs.Scope.{holding, declarationNamed, valueNamed}
 use Rattle.fullname.specs.declared.LookedUp.{LookedUp}
 use Rattle.fullname.specs.declared.LookedUpEnum.{LookedUpEnum}
 use Rattle.fullname.specs.FullName.{messagesAt, enumsAt, lookedUp, lookedUpEnum}
-use Rattle.search.specs.declared.extension.Resolved.{Resolved}
+use Rattle.search.specs.declared.extension.Compared.{Compared}
 use Rattle.search.specs.Lookup.{extResolveField}
 
 pub record Lookups : Type 0 where
   pub message : (path : List ℕ) → LookedUp
   pub enumeration : (path : List ℕ) → LookedUpEnum
-  pub extension : (scope message name : List ℕ) → Resolved
+  pub extension : (scope message name : List ℕ) → Compared
 
 abbrev pub walking : (sheet : List ℕ) → Lookups
 walking s = record {

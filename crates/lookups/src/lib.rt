@@ -9,7 +9,7 @@ use fullname::LookedUp;
 use fullname::LookedUpEnum;
 use limits::MOST_CANDIDATE;
 use scope::lookup::LookupScope;
-use search::extension::Resolved;
+use search::extension::Compared;
 use sheet::declaration::Declared;
 use sheet::declaration::Valued;
 use sheet::table;
@@ -41,8 +41,8 @@ pub fn enum_at(sheet: &[u8], path: Span) -> LookedUpEnum
     fullname::find_enum_by_abs_name(sheet, &sheet[from..to])
 }
 
-// The extension that a name finds in a scope, where it is one of that message.
-pub fn extension(sheet: &[u8], scope: &[u8], message: &[u8], name: &[u8]) -> Resolved
+// The extension that a name finds in a scope, compared with that message, and the position of its candidate.
+pub fn extension(sheet: &[u8], scope: &[u8], message: &[u8], name: &[u8]) -> Compared
     requires { ⌜ (isRelOrEmpty (now scope) ≡ true) × (isPath (now name) ≡ true) ⌝ }
     ensures { λ r. ⌜ r ≡ walking (now (sheet .entry)) .extension (now (scope .entry)) (now (message .entry)) (now (name .entry)) ⌝ }
 {

@@ -20,7 +20,7 @@ use Rattle.request.specs.Name.{partOf, partAt}
 use Rattle.request.specs.Request.{headingOf, optionOf, optionIn, requestOf}
 use Rattle.scopes.specs.Scopes.{scopes}
 use Rattle.fullname.specs.FullName.{messagesAt, enumsAt}
-use Rattle.search.specs.Lookup.{foundAt, tried, findExtensionByPath, extResolveField}
+use Rattle.search.specs.Lookup.{foundAt, tried, extResolveField}
 use Rattle.types.specs.Types.{wireOf}
 use Rattle.varint.specs.Varint.{varintWithin, varint}
 use Rattle.wire.specs.Fixed.{littleOf}
@@ -65,11 +65,11 @@ saysOf (refusedFor e) = refused (number (e .why)) (second (e .why)) (e .place)
 -- of any bytes, by the steps alone
 unfoldable pub stepped : Example → Says
 unfolding sameBytes bigAt fieldAt leafAt walkBy onFirst split components spell isAbs rootless parent last ancestors candidates hasTypePath
-    typePathAt shapeAt extensionAt messageFieldAt valueAt valueIn itemIn itemsIn fileIn treeOf integerOf floatOf boolOf numericOf
-    constantOf isPairName partOf headingOf optionOf optionIn requestOf scopes messagesAt enumsAt foundAt tried findExtensionByPath
-    extResolveField wireOf varintWithin varint littleOf zigzagOf low32Of widen32Of isScalar utf8 pointOf stands leadOf utf8From isUtf8
-    intBits narrow narrowBits payload headOf encode isSmall isSigned isInteger mostOf patternOf integerOn floatOn stringOn boolOn identOn
-    scalarOn scalarMade stepOf isSkipped builtinOf settle stepsOf span climb size odd units round ofInt ofFields ofBits nanBits toBits
+    typePathAt shapeAt extensionAt messageFieldAt valueAt valueIn itemIn itemsIn fileIn treeOf integerOf floatOf boolOf numericOf constantOf
+    isPairName partOf headingOf optionOf optionIn requestOf scopes messagesAt enumsAt foundAt tried extResolveField wireOf varintWithin
+    varint littleOf zigzagOf low32Of widen32Of isScalar utf8 pointOf stands leadOf utf8From isUtf8 intBits narrow narrowBits payload headOf
+    encode isSmall isSigned isInteger mostOf patternOf integerOn floatOn stringOn boolOn identOn scalarOn scalarMade stepOf isSkipped
+    builtinOf settle stepsOf span climb size odd units round ofInt ofFields ofBits nanBits toBits
 stepped x = saysOf (stepsOf (walking (x .sheet)) (x .sheet) (x .request))
 
 -- of the call: the tests of form, then the steps
@@ -77,10 +77,10 @@ unfoldable pub answer : Example → Says
 unfolding sameBytes bigAt fieldAt leafAt walkBy isLetter isDigit allWord isIdent onFirst split components spell allIdent isRelPath
     isRelOrEmpty isAbs rootless isPath parent last ancestors candidates hasTypePath typePathAt shapeAt extensionAt messageFieldAt valueAt
     valueIn itemIn itemsIn fileIn treeOf integerOf floatOf boolOf numericOf constantOf isPairName partOf partAt headingOf optionOf optionIn
-    requestOf scopes messagesAt enumsAt foundAt tried findExtensionByPath extResolveField wireOf varintWithin varint littleOf zigzagOf
-    low32Of widen32Of isScalar utf8 pointOf stands leadOf utf8From isUtf8 intBits narrow narrowBits payload headOf encode isSmall isSigned
-    isInteger mostOf patternOf integerOn floatOn stringOn boolOn identOn scalarOn scalarMade stepOf isSkipped builtinOf settle stepsOf
-    resolvingBy span climb size odd units round ofInt ofFields ofBits nanBits toBits goodTypePath goodShape goodField isField isExtension
-    isValue judgeValue judgeEnum judgeItem judgeItems judgeFile judgeFiles judgeLength judgeSheet judgeElements judgePairs isConstant
-    isBool isUrl goodScalar goodPairName goodPart judgeLast judgeOption judgeOptions judgeRequest
+    requestOf scopes messagesAt enumsAt foundAt tried extResolveField wireOf varintWithin varint littleOf zigzagOf low32Of widen32Of
+    isScalar utf8 pointOf stands leadOf utf8From isUtf8 intBits narrow narrowBits payload headOf encode isSmall isSigned isInteger mostOf
+    patternOf integerOn floatOn stringOn boolOn identOn scalarOn scalarMade stepOf isSkipped builtinOf settle stepsOf resolvingBy span climb
+    size odd units round ofInt ofFields ofBits nanBits toBits goodTypePath goodShape goodField isField isExtension isValue judgeValue
+    judgeEnum judgeItem judgeItems judgeFile judgeFiles judgeLength judgeSheet judgeElements judgePairs isConstant isBool isUrl goodScalar
+    goodPairName goodPart judgeLast judgeOption judgeOptions judgeRequest
 answer x = saysOf (resolving (x .sheet) (x .request))

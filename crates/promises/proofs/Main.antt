@@ -20,9 +20,9 @@ use Rattle.candidates.specs.Candidates.{candidates}
 use Rattle.field.specs.Leaf.{text}
 use Rattle.sheetform.specs.Form.{judgeSheet}
 use Rattle.scope.specs.Scope.{extends}
-use Rattle.search.specs.declared.extension.Found.{Found}
-use Rattle.search.specs.declared.extension.Resolved.the-variants.{Field}
-use Rattle.search.specs.Lookup.{findExtensionByPath}
+use Rattle.search.specs.declared.extension.Candidate.{Candidate}
+use Rattle.search.specs.declared.extension.Tried.the-variants.{Answers}
+use Rattle.search.specs.Lookup.{tried}
 use Rattle.search.specs.Answers.{Undeclared}
 use Rattle.request.specs.declared.name.Part.{Part}
 use Rattle.request.specs.Request.{Option}
@@ -32,8 +32,10 @@ use Rattle.records.proofs.ReadBack as reading
 use Rattle.lookups.specs.Lookups.{Lookups, Message, walking}
 use Rattle.known.specs.Known.{Known}
 use Rattle.steps.specs.declared.Fault.{Fault}
+use Rattle.steps.specs.declared.Lack.{Lack}
+use Rattle.steps.specs.declared.Lack.the-variants.{NoExtension, OtherMessage}
 use Rattle.steps.specs.declared.Step.the-variants.{NotFound}
-use Rattle.steps.specs.Steps.{stepOf}
+use Rattle.steps.specs.Steps.{whyOf, stepOf}
 use Rattle.settle.specs.Settle.{fails, stopAt, settle}
 use Rattle.options.specs.Options.{stopped, gather}
 use Rattle.measure.specs.Steps.{records}
@@ -99,20 +101,22 @@ written-reads-back rs p h = reading.read-back p h
 
 -- An extension part that is reached gets ExtensionNotFound exactly when none of 01's scopes at its candidate paths declares that name.
 module _ (s r scope : List ℕ) (m : Message) (p : Part) (x : p .extension ≡ true) where
-  pub not-found-only : isPath (text r (p .name)) ≡ true → stepOf (walking s) s r scope m p ≡ NotFound ExtensionNotFound
-      → (q : Path) → Among q (candidates scope (text r (p .name))) → Undeclared s q
+  pub not-found-only : isPath (text r (p .name)) ≡ true → (l : Lack) → stepOf (walking s) s r scope m p ≡ NotFound l
+      → whyOf l ≡ ExtensionNotFound → (q : Path) → Among q (candidates scope (text r (p .name))) → Undeclared s q
   not-found-only = theorems.part-not-found s r scope m p x
 
   pub not-found-whenever : ((q : Path) → Among q (candidates scope (text r (p .name))) → Undeclared s q)
-      → stepOf (walking s) s r scope m p ≡ NotFound ExtensionNotFound
+      → stepOf (walking s) s r scope m p ≡ NotFound (NoExtension ExtensionNotFound)
   not-found-whenever = theorems.part-undeclared s r scope m p x
 
-  -- Found first, tested second: WrongExtensionType exactly when the one found extends another message.
-  pub wrong-whenever : (f : Found) → findExtensionByPath s scope (text r (p .name)) ≡ Field f
-      → extends s (m .name) (f .declaration) ≡ false → stepOf (walking s) s r scope m p ≡ NotFound WrongExtensionType
+  -- Found first, tested second: WrongExtensionType exactly when the one found extends another message. The part then says which it is, and
+  -- at which candidate it stands.
+  pub wrong-whenever : (c : Candidate) → tried s scope (text r (p .name)) ≡ Answers c
+      → extends s (m .name) (c .found .declaration) ≡ false → stepOf (walking s) s r scope m p ≡ NotFound (OtherMessage c)
   wrong-whenever = theorems.part-other-extendee s r scope m p x
 
-  pub wrong-only : stepOf (walking s) s r scope m p ≡ NotFound WrongExtensionType → theorems.Mismatch s scope m (text r (p .name))
+  pub wrong-only : (l : Lack) → stepOf (walking s) s r scope m p ≡ NotFound l → whyOf l ≡ WrongExtensionType
+      → theorems.Mismatch s scope m (text r (p .name)) l
   wrong-only = theorems.part-wrong s r scope m p x
 
 -- An option that is refused makes the whole refused,

@@ -63,7 +63,7 @@ module _ {k n : ℕ} where
   at-small i refused = refused
 
   step-small : (i : ℕ) (x : Step) (f : Declaration → Made Fault) → ((d : Declaration) → SmallMade k n (f d)) → SmallMade k n (onStep i x f)
-  step-small i (NotFound w) f u = refused
+  step-small i (NotFound l) f u = refused
   step-small i (Found d) f u = u d
 
 module _ (L : Lookups) (s r scope : List ℕ) where

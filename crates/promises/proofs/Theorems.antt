@@ -1,7 +1,7 @@
 -- What the option steps promise, each statement below its sentence: found first, tested second, of the resolver itself, and the first refused
 -- option ends the work. `s` is the sheet, `r` the request, `scope` the request's scope, `m` the message reached, `p` a part of a name.
 -- Assumes nothing.
-use Rattle.basis.specs.Kit.{_≡_, refl, sym, ap, _∙_, Bool, true, false, List, [], _∷_, _++_, ℕ, _+_}
+use Rattle.basis.specs.Kit.{_≡_, refl, sym, ap, _∙_, true, false, List, [], _∷_, _++_, ℕ, _+_}
 use Rattle.basis.specs.Among.{Among}
 use Rattle.basis.proofs.Never.{never}
 use Rattle.reply.specs.declared.Refusal.{Refusal}
@@ -10,12 +10,14 @@ use Rattle.path.specs.Path.{Path, isPath}
 use Rattle.candidates.specs.Candidates.{candidates}
 use Rattle.field.specs.Leaf.{text}
 use Rattle.scope.specs.Scope.{extends}
-use Rattle.search.specs.declared.extension.Found.{Found}
-use Rattle.search.specs.declared.extension.Resolved.{Resolved}
-use Rattle.search.specs.declared.extension.Resolved.the-variants.{Field, Refused}
-use Rattle.search.specs.Lookup.{extended, compared, findExtensionByPath, extResolveField}
-use Rattle.search.specs.Answers.{Undeclared}
-use Rattle.search.proofs.Theorems.{not-found-none, none-not-found, extendee-other, refused-not-found}
+use Rattle.search.specs.declared.extension.Candidate.{Candidate}
+use Rattle.search.specs.declared.extension.Tried.the-variants as attempt
+use Rattle.search.specs.declared.extension.Compared.{Compared}
+use Rattle.search.specs.declared.extension.Compared.the-variants.{Extends, ExtendsOther, Refused}
+use Rattle.search.specs.Lookup.{tried, extResolveField}
+use Rattle.search.specs.Answers.{Undeclared, AnswersAt}
+use Rattle.search.proofs.Theorems.{tried-answers, extendee-other, other-tried, other-extendee}
+use Rattle.search.proofs.Theorems.{not-found-none, none-not-found, refusal-not-found}
 use Rattle.request.specs.declared.name.Part.{Part}
 use Rattle.request.specs.Request.{Option}
 use Rattle.request.specs.Tree.{Constants}
@@ -23,74 +25,88 @@ use Rattle.records.specs.Records.{Recs}
 use Rattle.records.specs.Made.{wrong}
 use Rattle.lookups.specs.Lookups.{Lookups, Message, walking}
 use Rattle.known.specs.Known.{Known}
-use Rattle.steps.specs.declared.Step.{Step}
-use Rattle.steps.specs.declared.Step.the-variants.{Found as FoundPart, NotFound}
+use Rattle.steps.specs.declared.Lack.{Lack}
+use Rattle.steps.specs.declared.Lack.the-variants.{NoField, NoExtension, OtherMessage}
+use Rattle.steps.specs.declared.Step.the-variants.{NotFound}
 use Rattle.steps.specs.declared.Fault.{Fault}
-use Rattle.steps.specs.Steps.{faultAt, stepExtension, stepOf, optionFrom}
+use Rattle.steps.specs.Steps.{whyOf, faultAt, stepExtension, stepOf, optionFrom}
 use Rattle.settle.specs.Settle.{Settled, known, others, fails, stopAt, settle}
 use Rattle.options.specs.Options.{Gathered, gathered, stopped, next, gather}
 
 -- ---- an extension part that is reached
 
--- the extension that a name finds extends another message than the one reached
-pub record Mismatch (s scope : List ℕ) (m : Message) (name : List ℕ) : Type 0 where
-  pub first : Found
-  pub is : findExtensionByPath s scope name ≡ Field first
-  pub other : extends s (m .name) (first .declaration) ≡ false
+-- the lack of a part is that the candidate which answers for its name has an extension of another message than the one reached
+pub record Mismatch (s scope : List ℕ) (m : Message) (name : List ℕ) (l : Lack) : Type 0 where
+  pub first : Candidate
+  pub is : l ≡ OtherMessage first
+  pub answers : tried s scope name ≡ attempt.Answers first
+  pub declares : AnswersAt s scope name first
+  pub other : extends s (m .name) (first .found .declaration) ≡ false
+
+extension-inv : (u : Compared) (w : Refusal) → stepExtension u ≡ NotFound (NoExtension w) → u ≡ Refused w
+extension-inv (Extends c) w e = never cc
+extension-inv (ExtendsOther c) w e = never cc
+extension-inv (Refused v) w e = let y : v ≡ w = cc in ap Refused y
+
+other-inv : (u : Compared) (c : Candidate) → stepExtension u ≡ NotFound (OtherMessage c) → u ≡ ExtendsOther c
+other-inv (Extends d) c e = never cc
+other-inv (ExtendsOther d) c e = let y : d ≡ c = cc in ap ExtendsOther y
+other-inv (Refused v) c e = never cc
 
 module _ (s r scope : List ℕ) (m : Message) (p : Part) (x : p .extension ≡ true) where
-  step-is : stepOf (walking s) s r scope m p ≡ stepExtension (extResolveField s scope (m .name) (text r (p .name)))
+  abbrev name : List ℕ
+  name = text r (p .name)
+
+  abbrev searched : Compared
+  searched = extResolveField s scope (m .name) name
+
+  step-is : stepOf (walking s) s r scope m p ≡ stepExtension searched
   unfolding stepOf
   step-is = rw x refl
 
-  refused-inv : (u : Resolved) (w : Refusal) → stepExtension u ≡ NotFound w → u ≡ Refused w
-  refused-inv (Field f) w e = never cc
-  refused-inv (Refused v) w e = let y : v ≡ w = cc in ap Refused y
-
   -- It gets ExtensionNotFound only where no scope at a candidate path declares that name,
-  pub part-not-found : isPath (text r (p .name)) ≡ true → stepOf (walking s) s r scope m p ≡ NotFound ExtensionNotFound
-      → (q : Path) → Among q (candidates scope (text r (p .name))) → Undeclared s q
-  part-not-found h e =
-      not-found-none s scope (m .name) (text r (p .name)) h
-      (refused-inv (extResolveField s scope (m .name) (text r (p .name))) ExtensionNotFound (sym step-is ∙ e))
+  pub part-not-found : isPath (text r (p .name)) ≡ true → (l : Lack) → stepOf (walking s) s r scope m p ≡ NotFound l
+      → whyOf l ≡ ExtensionNotFound → (q : Path) → Among q (candidates scope (text r (p .name))) → Undeclared s q
+  part-not-found h NoField e g = never cc
+  part-not-found h (OtherMessage c) e g = never cc
+  part-not-found h (NoExtension w) e g =
+      not-found-none s scope (m .name) name h (extension-inv searched w (sym step-is ∙ e) ∙ ap Refused g)
 
   -- and wherever none does.
   pub part-undeclared : ((q : Path) → Among q (candidates scope (text r (p .name))) → Undeclared s q)
-      → stepOf (walking s) s r scope m p ≡ NotFound ExtensionNotFound
-  part-undeclared k = step-is ∙ ap stepExtension (none-not-found s scope (m .name) (text r (p .name)) k)
+      → stepOf (walking s) s r scope m p ≡ NotFound (NoExtension ExtensionNotFound)
+  part-undeclared k = step-is ∙ ap stepExtension (none-not-found s scope (m .name) name k)
 
-  -- It gets WrongExtensionType where the extension that is found, the first, extends another message,
-  pub part-other-extendee : (f : Found) → findExtensionByPath s scope (text r (p .name)) ≡ Field f
-      → extends s (m .name) (f .declaration) ≡ false → stepOf (walking s) s r scope m p ≡ NotFound WrongExtensionType
-  part-other-extendee f e g = step-is ∙ ap stepExtension (extendee-other s scope (m .name) (text r (p .name)) f e g)
+  -- It gets WrongExtensionType where the candidate that answers, the first, has an extension of another message,
+  pub part-other-extendee : (c : Candidate) → tried s scope (text r (p .name)) ≡ attempt.Answers c
+      → extends s (m .name) (c .found .declaration) ≡ false → stepOf (walking s) s r scope m p ≡ NotFound (OtherMessage c)
+  part-other-extendee c e g = step-is ∙ ap stepExtension (extendee-other s scope (m .name) name c e g)
 
-  -- and only there: the search does not go on.
-  pub part-wrong : stepOf (walking s) s r scope m p ≡ NotFound WrongExtensionType → Mismatch s scope m (text r (p .name))
-  unfolding extResolveField
-  part-wrong e =
-      go (findExtensionByPath s scope (text r (p .name))) refl
-      (refused-inv (extResolveField s scope (m .name) (text r (p .name))) WrongExtensionType (sym step-is ∙ e))
-    where
-      go : (u : Resolved) → findExtensionByPath s scope (text r (p .name)) ≡ u → compared s (m .name) u ≡ Refused WrongExtensionType
-          → Mismatch s scope m (text r (p .name))
-      go (Refused w) q z =
-          let y : w ≡ WrongExtensionType = cc in
-          let n : w ≡ ExtensionNotFound = refused-not-found s scope (text r (p .name)) w q in
-          never cc
-      go (Field f) q z = found (extends s (m .name) (f .declaration)) refl z
-        where
-          found : (b : Bool) → extends s (m .name) (f .declaration) ≡ b → extended b f ≡ Refused WrongExtensionType
-              → Mismatch s scope m (text r (p .name))
-          found true y z = never cc
-          found false y z = record { first = f; is = q; other = y }
+  -- and only there, with that candidate: the search does not go on.
+  pub part-wrong : (l : Lack) → stepOf (walking s) s r scope m p ≡ NotFound l → whyOf l ≡ WrongExtensionType
+      → Mismatch s scope m (text r (p .name)) l
+  part-wrong NoField e g = never cc
+  part-wrong (NoExtension w) e g =
+      let n : w ≡ ExtensionNotFound = refusal-not-found s scope (m .name) name w (extension-inv searched w (sym step-is ∙ e)) in
+      never cc
+  part-wrong (OtherMessage c) e g =
+      let u = other-inv searched c (sym step-is ∙ e) in
+      let t = other-tried s scope (m .name) name c u in
+      record {
+        first = c;
+        is = refl;
+        answers = t;
+        declares = tried-answers s scope name c t;
+        other = other-extendee s scope (m .name) name c u;
+      }
 
 -- ---- whatever the look-ups are
 module _ (L : Lookups) (s r scope : List ℕ) (m : Message) where
-  -- A part that is refused refuses its option, at its own position, whatever stands behind it.
-  pub part-refused : (i : ℕ) (p : Part) (ps : List Part) (c : Constants) (w : Refusal) → stepOf L s r scope m p ≡ NotFound w
-      → optionFrom L s r scope i m (p ∷ ps) c ≡ wrong (faultAt i w)
-  part-refused i p [] c w e = rw e refl
-  part-refused i p (q ∷ ps) c w e = rw e refl
+  -- A part that comes to nothing refuses its option, at its own position, whatever stands behind it.
+  pub part-refused : (i : ℕ) (p : Part) (ps : List Part) (c : Constants) (l : Lack) → stepOf L s r scope m p ≡ NotFound l
+      → optionFrom L s r scope i m (p ∷ ps) c ≡ wrong (faultAt i (whyOf l))
+  part-refused i p [] c l e = rw e refl
+  part-refused i p (q ∷ ps) c l e = rw e refl
 
   -- An option that is refused makes the whole refused, and no option behind it is looked at.
   pub option-refused : (i : ℕ) (ks : List Known) (x : Recs) (o : Option) (os : List Option) (f : Fault)

@@ -13,10 +13,10 @@ use Rattle.candidates.specs.Candidates.{ancestors}
 use Rattle.candidates.specs.Candidates.{candidates}
 use Rattle.sheet.specs.Declaration.{hasTypePath, typePathAt, shapeAt, extensionAt, messageFieldAt, valueAt}
 use Rattle.sheet.specs.Tree.{valueIn, itemIn, itemsIn, fileIn, treeOf}
-use Rattle.search.specs.declared.extension.Resolved.{Resolved}
-use Rattle.search.specs.declared.extension.Resolved.the-variants.{Field, Refused}
+use Rattle.search.specs.declared.extension.Compared.{Compared}
+use Rattle.search.specs.declared.extension.Compared.the-variants.{Extends, ExtendsOther, Refused}
 use Rattle.scopes.specs.Scopes.{scopes}
-use Rattle.search.specs.Lookup.{foundAt, tried, findExtensionByPath, extResolveField}
+use Rattle.search.specs.Lookup.{foundAt, tried, extResolveField}
 use Rattle.scopes.proofs.Sheets.{file, message, extension}
 
 -- ---- the sheets
@@ -43,13 +43,16 @@ rankless = file "plant" (message "Dispatch" []) ++ google
 abbrev crossed : List ℕ
 crossed = file "a.b" (extension "x" options 101) ++ file "a" (message "b" (extension "x" options 102)) ++ google
 
--- ---- what the search for an option on FieldOptions answers: the extension's number, or the reply's
+-- ---- what the search for an option on FieldOptions answers: the position of the candidate that answers and its extension's number, which
+-- may extend another message, or the reply's number
 data Reply : Type 0 where
-  found : ℕ → Reply
+  found : (position number : ℕ) → Reply
+  other : (position number : ℕ) → Reply
   refused : ℕ → Reply
 
-abbrev reply : Resolved → Reply
-reply (Field f) = found (f .declaration .shape .number)
+abbrev reply : Compared → Reply
+reply (Extends c) = found (c .position) (c .found .declaration .shape .number)
+reply (ExtendsOther c) = other (c .position) (c .found .declaration .shape .number)
 reply (Refused w) = refused (number w)
 
 record Example : Type 0 where
@@ -62,7 +65,7 @@ abbrev example : List ℕ → String → String → Reply → Example
 example s scope name says = record { sheet = s; scope = scope; name = name; says = says }
 
 answer : Example → Reply
-unfolding extResolveField findExtensionByPath tried foundAt scopes candidates ancestors components split onFirst
+unfolding extResolveField tried foundAt scopes candidates ancestors components split onFirst
     spell isAbs rootless parent last sameBytes treeOf fileIn itemsIn itemIn valueIn extensionAt messageFieldAt valueAt
     shapeAt typePathAt hasTypePath walkBy leafAt fieldAt bigAt
 answer x = reply (extResolveField (x .sheet) (ascii (x .scope)) (ascii options) (ascii (x .name)))
@@ -71,12 +74,12 @@ answer x = reply (extResolveField (x .sheet) (ascii (x .scope)) (ascii options) 
 -- components first
 abbrev p2-to-p7 : List Example
 p2-to-p7 =
-    example ranks "plant.Dispatch" "rank" (found 50002)
-    ∷ example ranks "plant.Dispatch" ".plant.rank" (found 50001)
-    ∷ example ranks "plant.Other" "rank" (found 50001)
-    ∷ example otherwise "plant.Dispatch" "rank" (refused 5)
+    example ranks "plant.Dispatch" "rank" (found 0 50002)
+    ∷ example ranks "plant.Dispatch" ".plant.rank" (found 0 50001)
+    ∷ example ranks "plant.Other" "rank" (found 1 50001)
+    ∷ example otherwise "plant.Dispatch" "rank" (other 0 50002)
     ∷ example rankless "plant.Dispatch" "rank" (refused 4)
-    ∷ example crossed "" ".a.b.x" (found 102)
+    ∷ example crossed "" ".a.b.x" (found 0 102)
     ∷ []
 
 table : map answer p2-to-p7 ≡ map (λ x. x .says) p2-to-p7

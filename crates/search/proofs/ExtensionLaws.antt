@@ -17,7 +17,7 @@ use Rattle.octets.specs.inner.Laid.{Laid}
 use Rattle.octets.proofs.Overlay.{laid-length}
 use Rattle.field.specs.Leaf.{isText}
 use Rattle.reply.specs.declared.Refusal.{Refusal}
-use Rattle.reply.specs.declared.Refusal.the-variants.{ExtensionNotFound, WrongExtensionType}
+use Rattle.reply.specs.declared.Refusal.the-variants.{ExtensionNotFound}
 use Rattle.path.specs.Path.{Name, Path, spell, components, parent, last, isRelOrEmpty, isPath}
 use Rattle.path.specs.inner.Last.{LastStarts}
 use Rattle.candidates.specs.Candidates.{candidates, candidate}
@@ -35,6 +35,8 @@ use Rattle.search.specs.declared.extension.Found.{Found}
 use Rattle.search.specs.declared.extension.Candidate.{Candidate}
 use Rattle.search.specs.declared.extension.Tried.{Tried}
 use Rattle.search.specs.declared.extension.Tried.the-variants as attempt
+use Rattle.search.specs.declared.extension.Compared.the-variants as comparison
+use Rattle.search.specs.declared.extension.Compared.the-variants.{Extends, ExtendsOther}
 use Rattle.search.specs.declared.extension.Resolved.{Resolved}
 use Rattle.search.specs.declared.extension.Resolved.the-variants.{Field, Refused}
 use Rattle.basis.specs.First.{firstSome}
@@ -47,7 +49,7 @@ use Rattle.search.specs.Lookup.{findExtensionByPath, extResolveField}
 use Rattle.scope.proofs.Answers.{declared-none, declared-some}
 use Rattle.search.proofs.TriedLaws.{resolved-none, resolved-some}
 use Rattle.named.proofs.DeclaredPlaces.{places-laws}
-use Rattle.search.proofs.LiesLaws.{found-ordered, found-places}
+use Rattle.search.proofs.LiesLaws.{tried-ordered, tried-places}
 use Rattle.scopes.proofs.Left.{Left, left-end, left-step, left-next, left-laws}
 use Rattle.scopes.proofs.StartLaws.{components-some, last-text, start-before, start-before-stands}
 
@@ -167,26 +169,26 @@ module _ (s scope name : List ℕ) (r : Tried) (q : r ≡ tried s scope name) wh
 pub ruleset extension-by-path-laws = (by-path-found, by-path-refused)
 
 -- ---- ext_resolve_field_ext
-module _ (s scope m name : List ℕ) (r : Resolved) (q : r ≡ findExtensionByPath s scope name) where
-  pub resolved-refused : (w : Refusal) → r ≡ Refused w → Refused w ≡ extResolveField s scope m name
+module _ (s scope m name : List ℕ) (r : Tried) (q : r ≡ tried s scope name) where
+  pub resolve-refused : (w : Refusal) → r ≡ attempt.Refused w → comparison.Refused w ≡ extResolveField s scope m name
   unfolding extResolveField
-  resolved-refused w g = rw (← q, g)
+  resolve-refused w g = rw (← q, g)
 
-  module _ (f : Found) (g : r ≡ Field f) (b : Bool) (x : b ≡ isText s m (f .declaration .extendee)) where
-    pub resolved-wrong : b ≡ false → Refused WrongExtensionType ≡ extResolveField s scope m name
+  module _ (c : Candidate) (g : r ≡ attempt.Answers c) (b : Bool) (x : b ≡ isText s m (c .found .declaration .extendee)) where
+    pub resolve-other : b ≡ false → ExtendsOther c ≡ extResolveField s scope m name
     unfolding extResolveField
-    resolved-wrong y = rw (← q, g, ← x, y)
+    resolve-other y = rw (← q, g, ← x, y)
 
-    pub resolved-field : b ≡ true → Field f ≡ extResolveField s scope m name
+    pub resolve-same : b ≡ true → Extends c ≡ extResolveField s scope m name
     unfolding extResolveField
-    resolved-field y = rw (← q, g, ← x, y)
+    resolve-same y = rw (← q, g, ← x, y)
 
 pub ruleset resolve-laws = (
-  resolved-refused,
-  resolved-wrong,
-  resolved-field,
-  found-ordered,
-  found-places,
+  resolve-refused,
+  resolve-other,
+  resolve-same,
+  tried-ordered,
+  tried-places,
   places-laws,
   not-true,
   not-false,

@@ -5,7 +5,6 @@ use Rattle.basis.specs.Kit.{length, getD}
 use Rattle.basis.proofs.Kit.{arith}
 use borrow.Author.Tests.{ltb-true, ltb-false}
 use Rattle.basis.proofs.Never.{never}
-use Rattle.reply.specs.declared.Refusal.the-variants.{ExtensionNotFound}
 use Rattle.path.specs.Path.{Path, isPath, parent, last}
 use Rattle.candidates.specs.Candidates.{candidates, candidate}
 use Rattle.sheet.specs.declared.declaration.Declaration.{Declaration}
@@ -13,14 +12,12 @@ use Rattle.sheet.specs.Members.{extensionsOf}
 use Rattle.search.specs.declared.extension.Found.{Found}
 use Rattle.search.specs.declared.extension.Candidate.{Candidate}
 use Rattle.search.specs.declared.extension.Tried.the-variants as attempt
-use Rattle.search.specs.declared.extension.Resolved.{Resolved}
-use Rattle.search.specs.declared.extension.Resolved.the-variants.{Field, Refused}
+use Rattle.search.specs.declared.extension.Resolved.the-variants.{Field}
 use Rattle.basis.specs.First.{first, given, orElse, firstSome}
 use Rattle.scope.specs.Scope.{Scope}
 use Rattle.field.specs.Leaf.{isText}
 use Rattle.scopes.specs.Scopes.{scopes}
-use Rattle.scope.specs.Scope.{extends}
-use Rattle.search.specs.Lookup.{foundIn, foundAt, foundAmong, orNotFound, tried, findExtensionByPath, extended, compared}
+use Rattle.search.specs.Lookup.{foundIn, foundAt, foundAmong, orNotFound, tried, findExtensionByPath}
 use Rattle.basis.specs.Among.{Among, here, there, Behind, Ordered, next}
 use Rattle.search.specs.Answers.{Declares, Undeclared, Answers, AnswersAt}
 use Rattle.basis.proofs.AmongLaws.{behind-among, behind-map, behind-ordered, behind-here, behind-next}
@@ -231,12 +228,3 @@ module _ (s scope name : List ℕ) where
         go (some d) e q =
             let u : d .found ≡ c .found = cc in
             rw (position-same d e, u)
-
--- nothing but an empty search is refused as not found
-pub compared-not-found : (s m : List ℕ) (r : Resolved) → compared s m r ≡ Refused ExtensionNotFound → r ≡ Refused ExtensionNotFound
-compared-not-found s m (Refused w) e = e
-compared-not-found s m (Field f) e = absurd (go (extends s m (f .declaration)) e)
-  where
-    go : (b : Bool) → extended b f ≡ Refused ExtensionNotFound → ⊥
-    go true q = never cc
-    go false q = never cc

@@ -5,21 +5,25 @@
 --   FoundLies s f <-> the places of the extension that was found are of s, and its file is counted no further than s is long
 --
 -- Assumes nothing.
-use Rattle.basis.specs.Kit.{_≡_, sym, ap, _∙_, Bool, true, false, List, [], _∷_, some, ℕ, _≤_, length}
+use Rattle.basis.specs.Kit.{_≡_, refl, sym, ap, _∙_, List, [], _∷_, some, ℕ, _≤_, length}
 use Rattle.basis.proofs.Never.{never}
 use Rattle.path.specs.Path.{Name, Path, parent, last}
 use Rattle.candidates.specs.Candidates.{candidates}
 use Rattle.sheet.specs.Table.{extensionTag}
 use Rattle.sheet.proofs.PlaceLaws.{Places}
 use Rattle.search.specs.declared.extension.Found.{Found}
-use Rattle.search.specs.declared.extension.Resolved.{Resolved}
-use Rattle.search.specs.declared.extension.Resolved.the-variants.{Field, Refused}
-use Rattle.scope.specs.Scope.{Scope, declarationNamed, extends}
-use Rattle.search.specs.Lookup.{foundIn, foundAt, findExtensionByPath, extended, compared, extResolveField}
+use Rattle.search.specs.declared.extension.Candidate.{Candidate}
+use Rattle.search.specs.declared.extension.Tried.{Tried}
+use Rattle.search.specs.declared.extension.Tried.the-variants as attempt
+use Rattle.search.specs.declared.extension.Compared.{Compared}
+use Rattle.search.specs.declared.extension.Compared.the-variants.{Extends, ExtendsOther}
+use Rattle.search.specs.declared.extension.Resolved.the-variants.{Field}
+use Rattle.scope.specs.Scope.{Scope, declarationNamed}
+use Rattle.search.specs.Lookup.{foundIn, foundAt, tried, findExtensionByPath, extResolveField}
 use Rattle.basis.proofs.FirstLaws.{given-holds, every-all, first-some-holds}
 use Rattle.named.proofs.DeclaredPlaces.{Ordered, places-ordered, declaration-lies}
 use Rattle.scopes.proofs.Standing.{Standing, scopes-stand}
-use Rattle.search.proofs.TriedLaws.{by-path-some}
+use Rattle.search.proofs.TriedLaws.{by-path-some, compared-extends, compared-other}
 
 -- ---- an extension that was found
 pub record FoundLies (s : List ℕ) (f : Found) : Type 0 where
@@ -48,34 +52,24 @@ module _ (s : List ℕ) (f : Found) where
       (λ p k q. k q) (every-all (λ p. foundAt s p ≡ some f → FoundLies s f) found-abs-lies (candidates scope name))
       (by-path-some s scope name f q)
 
--- what `find_extension_by_path` answers
-module _ (s scope name : List ℕ) (r : Resolved) (q : r ≡ findExtensionByPath s scope name) (f : Found) (g : r ≡ Field f) where
-  pub found-places : Places (length s) (f .declaration)
-  found-places = found-lies s f scope name (sym q ∙ g) .places
+-- what `try_candidates` answers
+module _ (s scope name : List ℕ) (r : Tried) (q : r ≡ tried s scope name) (c : Candidate) (g : r ≡ attempt.Answers c) where
+  pub tried-lies : FoundLies s (c .found)
+  unfolding findExtensionByPath
+  tried-lies = found-lies s (c .found) scope name (rw (← q, g))
 
-  pub found-ordered : Ordered (f .declaration)
-  found-ordered = places-ordered found-places
+  pub tried-places : Places (length s) (c .found .declaration)
+  tried-places = tried-lies .places
 
--- of an extension that was compared
-compared-some : (s m : List ℕ) (r : Resolved) (f : Found) → Field f ≡ compared s m r → r ≡ Field f
-compared-some s m (Refused w) f q = never cc
-compared-some s m (Field x) f q = go (extends s m (x .declaration)) q
-  where
-    go : (b : Bool) → Field f ≡ extended b x → Field x ≡ Field f
-    go true q = let u : x ≡ f = cc in rw u
-    go false q = never cc
+  pub tried-ordered : Ordered (c .found .declaration)
+  tried-ordered = places-ordered tried-places
 
--- what `ext_resolve_field_ext` answers
-module _ (s scope m name : List ℕ) (r : Resolved) (q : r ≡ extResolveField s scope m name) (f : Found) (g : r ≡ Field f) where
-  resolved-lies : FoundLies s f
+-- what `ext_resolve_field_ext` answers, of the message asked for or of another
+module _ (s scope m name : List ℕ) (r : Compared) (q : r ≡ extResolveField s scope m name) (c : Candidate) where
+  pub extends-lies : r ≡ Extends c → FoundLies s (c .found)
   unfolding extResolveField
-  resolved-lies = found-lies s f scope name (compared-some s m (findExtensionByPath s scope name) f (sym g ∙ q))
+  extends-lies g = tried-lies s scope name _ refl c (compared-extends s m c (tried s scope name) (sym q ∙ g))
 
-  pub resolved-places : Places (length s) (f .declaration)
-  resolved-places = resolved-lies .places
-
-  pub resolved-ordered : Ordered (f .declaration)
-  resolved-ordered = places-ordered resolved-places
-
-  pub resolved-counted : f .file ≤ length s
-  resolved-counted = resolved-lies .counted
+  pub other-lies : r ≡ ExtendsOther c → FoundLies s (c .found)
+  unfolding extResolveField
+  other-lies g = tried-lies s scope name _ refl c (compared-other s m c (tried s scope name) (sym q ∙ g))

@@ -4,7 +4,7 @@
 -- Assumes nothing.
 use Rattle.basis.specs.Kit.{_≡_, refl, sym, ap, _∙_, true, false, List, [], _∷_, _++_, ℕ, suc, _-_, _≤_, _<_, length, take}
 use Rattle.reply.specs.declared.Refusal.{Refusal}
-use Rattle.reply.specs.declared.Refusal.the-variants.{ExtensionNotFound, WrongExtensionType}
+use Rattle.reply.specs.declared.Refusal.the-variants.{ExtensionNotFound}
 use Rattle.octets.specs.Octets.{sameBytes}
 use Rattle.path.specs.Path.{Path, dot, components, spell, allIdent, isRelOrEmpty, isAbs, rootless, isPath, parent}
 use Rattle.candidates.specs.Candidates.{ancestors}
@@ -13,6 +13,8 @@ use Rattle.candidates.proofs.CandidateLaws.{candidates-abs, candidates-length-r
 use Rattle.search.specs.declared.extension.Found.{Found}
 use Rattle.search.specs.declared.extension.Candidate.{Candidate}
 use Rattle.search.specs.declared.extension.Tried.the-variants as attempt
+use Rattle.search.specs.declared.extension.Compared.the-variants as comparison
+use Rattle.search.specs.declared.extension.Compared.the-variants.{Extends, ExtendsOther}
 use Rattle.search.specs.declared.extension.Resolved.the-variants.{Field, Refused}
 use Rattle.scope.specs.Scope.{Scope}
 use Rattle.scopes.specs.Scopes.{scopes}
@@ -23,7 +25,8 @@ use Rattle.search.specs.Answers.{Undeclared, Answers, AnswersAt, Gives, 
 use Rattle.basis.proofs.AmongLaws.{ordered-mono}
 use Rattle.basis.proofs.AmongFirsts.{firsts-none, none-firsts, firsts-one}
 use Rattle.search.proofs.CandidateOrder.{candidates-fall, candidates-some, candidates-idents, parent-idents}
-use Rattle.search.proofs.TriedLaws.{by-path, by-path-none, by-path-why, none-by-path}
+use Rattle.search.proofs.TriedLaws.{by-path, by-path-none, by-path-why, none-by-path, resolved-tried}
+use Rattle.search.proofs.TriedLaws.{compared-refused, compared-extends, compared-other, extended-same, extended-other}
 use Rattle.search.proofs.FoundLaws as found
 use Rattle.scopes.proofs.ScopeFiles as files
 use Rattle.search.proofs.ScopeOrder.{from-ordered, earlier-apart, from-gives, gives-from}
@@ -44,17 +47,6 @@ none-nowhere s scope name h =
 -- There is no other refusal: a search finds an extension, or that there is none.
 pub refused-not-found : (s scope name : List ℕ) (w : Refusal) → findExtensionByPath s scope name ≡ Refused w → w ≡ ExtensionNotFound
 refused-not-found = by-path-why
-
--- So an extension part that is reached gets ExtensionNotFound exactly when none of 01's scopes at its candidate paths declares that name.
-pub not-found-none : (s scope m name : List ℕ) → isPath name ≡ true → extResolveField s scope m name ≡ Refused ExtensionNotFound
-    → (p : Path) → Among p (candidates scope name) → Undeclared s p
-unfolding extResolveField
-not-found-none s scope m name h e = nowhere-none s scope name h (found.compared-not-found s m (findExtensionByPath s scope name) e)
-
-pub none-not-found : (s scope m name : List ℕ) → ((p : Path) → Among p (candidates scope name) → Undeclared s p)
-    → extResolveField s scope m name ≡ Refused ExtensionNotFound
-unfolding extResolveField
-none-not-found s scope m name h = rw (none-nowhere s scope name h)
 
 -- ---- what is found
 
@@ -85,23 +77,66 @@ pub found-tried : (s scope name : List ℕ) (c : Candidate) → tried s scope na
 unfolding findExtensionByPath
 found-tried s scope name c e = rw e
 
--- 01: "Only then is the extendee compared; a mismatch ends the search." Found first, tested second: what was found is the answer, or its
--- extendee the reason for none.
-pub extendee-same : (s scope m name : List ℕ) (f : Found) → findExtensionByPath s scope name ≡ Field f
-    → extends s m (f .declaration) ≡ true → extResolveField s scope m name ≡ Field f
-unfolding extResolveField
-extendee-same s scope m name f e h = rw (e, h)
+-- ---- the extendee
 
-pub extendee-other : (s scope m name : List ℕ) (f : Found) → findExtensionByPath s scope name ≡ Field f
-    → extends s m (f .declaration) ≡ false → extResolveField s scope m name ≡ Refused WrongExtensionType
-unfolding extResolveField
-extendee-other s scope m name f e h = rw (e, h)
+-- 01: "Only then is the extendee compared; a mismatch ends the search." Found first, tested second: the candidate that answers is given,
+-- with its position and its extension, and the extendee says no more than whether it is one of the message asked for;
+module _ (s scope m name : List ℕ) (c : Candidate) where
+  pub extendee-same : tried s scope name ≡ attempt.Answers c → extends s m (c .found .declaration) ≡ true
+      → extResolveField s scope m name ≡ Extends c
+  unfolding extResolveField
+  extendee-same e h = rw (e, h)
 
--- Where nothing was found, nothing is compared: the refusal of the search is the answer.
-pub refusal-same : (s scope m name : List ℕ) (w : Refusal) → findExtensionByPath s scope name ≡ Refused w
-    → extResolveField s scope m name ≡ Refused w
+  pub extendee-other : tried s scope name ≡ attempt.Answers c → extends s m (c .found .declaration) ≡ false
+      → extResolveField s scope m name ≡ ExtendsOther c
+  unfolding extResolveField
+  extendee-other e h = rw (e, h)
+
+  -- and neither is said of anything else.
+  pub same-tried : extResolveField s scope m name ≡ Extends c → tried s scope name ≡ attempt.Answers c
+  unfolding extResolveField
+  same-tried e = compared-extends s m c (tried s scope name) e
+
+  pub other-tried : extResolveField s scope m name ≡ ExtendsOther c → tried s scope name ≡ attempt.Answers c
+  unfolding extResolveField
+  other-tried e = compared-other s m c (tried s scope name) e
+
+  pub same-extendee : extResolveField s scope m name ≡ Extends c → extends s m (c .found .declaration) ≡ true
+  unfolding extResolveField
+  same-extendee e = extended-same c (extends s m (c .found .declaration)) (rw (same-tried e) at e)
+
+  pub other-extendee : extResolveField s scope m name ≡ ExtendsOther c → extends s m (c .found .declaration) ≡ false
+  unfolding extResolveField
+  other-extendee e = extended-other c (extends s m (c .found .declaration)) (rw (other-tried e) at e)
+
+-- Where no candidate answers, nothing is compared: that refusal is the answer, and there alone one is given.
+pub refusal-same : (s scope m name : List ℕ) (w : Refusal) → tried s scope name ≡ attempt.Refused w
+    → extResolveField s scope m name ≡ comparison.Refused w
 unfolding extResolveField
 refusal-same s scope m name w e = rw e
+
+pub refused-tried : (s scope m name : List ℕ) (w : Refusal) → extResolveField s scope m name ≡ comparison.Refused w
+    → tried s scope name ≡ attempt.Refused w
+unfolding extResolveField
+refused-tried s scope m name w e = compared-refused s m (tried s scope name) w e
+
+-- So an extension part that is reached gets ExtensionNotFound exactly when none of 01's scopes at its candidate paths declares that name,
+pub not-found-none : (s scope m name : List ℕ) → isPath name ≡ true
+    → extResolveField s scope m name ≡ comparison.Refused ExtensionNotFound → (p : Path) → Among p (candidates scope name) → Undeclared s p
+unfolding findExtensionByPath
+not-found-none s scope m name h e = nowhere-none s scope name h (rw (refused-tried s scope m name ExtensionNotFound e))
+
+pub none-not-found : (s scope m name : List ℕ) → ((p : Path) → Among p (candidates scope name) → Undeclared s p)
+    → extResolveField s scope m name ≡ comparison.Refused ExtensionNotFound
+unfolding findExtensionByPath
+none-not-found s scope m name h =
+    refusal-same s scope m name ExtensionNotFound (resolved-tried (tried s scope name) ExtensionNotFound (none-nowhere s scope name h))
+
+-- and no other refusal.
+pub refusal-not-found : (s scope m name : List ℕ) (w : Refusal) → extResolveField s scope m name ≡ comparison.Refused w
+    → w ≡ ExtensionNotFound
+unfolding findExtensionByPath
+refusal-not-found s scope m name w e = refused-not-found s scope name w (rw (refused-tried s scope m name w e))
 
 -- ---- candidates
 

@@ -1,6 +1,6 @@
 -- What a look-up of an extension answers against what there is: back from the answer, and the search with its positions left out.
 -- Assumes nothing.
-use Rattle.basis.specs.Kit.{_≡_, refl, ap, _∙_, List, [], _∷_, Option, none, some, ℕ, _+_}
+use Rattle.basis.specs.Kit.{_≡_, refl, ap, _∙_, Bool, true, false, List, [], _∷_, Option, none, some, ℕ, _+_}
 use Rattle.basis.proofs.Never.{never}
 use Rattle.basis.specs.First.{given, orElse, firstSome}
 use Rattle.reply.specs.declared.Refusal.{Refusal}
@@ -9,10 +9,14 @@ use Rattle.path.specs.Path.{Path}
 use Rattle.candidates.specs.Candidates.{candidates}
 use Rattle.search.specs.declared.extension.Found.{Found}
 use Rattle.search.specs.declared.extension.Candidate.{Candidate}
+use Rattle.search.specs.declared.extension.Tried.{Tried}
 use Rattle.search.specs.declared.extension.Tried.the-variants as attempt
+use Rattle.search.specs.declared.extension.Compared.the-variants as comparison
+use Rattle.search.specs.declared.extension.Compared.the-variants.{Extends, ExtendsOther}
 use Rattle.search.specs.declared.extension.Resolved.{Resolved}
 use Rattle.search.specs.declared.extension.Resolved.the-variants.{Field, Refused}
-use Rattle.search.specs.Lookup.{foundAt, foundAmong, orNotFound, tried, resolved, findExtensionByPath}
+use Rattle.scope.specs.Scope.{extends}
+use Rattle.search.specs.Lookup.{foundAt, foundAmong, orNotFound, tried, resolved, findExtensionByPath, extended, compared}
 
 -- ---- back from an answer
 module _ (o : Option Found) (r : Resolved) (q : r ≡ orNotFound Field Refused o) where
@@ -40,6 +44,44 @@ module _ (o : Option Found) (r : Resolved) (q : r ≡ orNotFound Field Refused o
 pub tried-some : (o : Option Candidate) (c : Candidate) → orNotFound attempt.Answers attempt.Refused o ≡ attempt.Answers c → o ≡ some c
 tried-some none c q = never cc
 tried-some (some x) c q = let u : x ≡ c = cc in rw u
+
+pub resolved-tried : (t : Tried) (w : Refusal) → resolved t ≡ Refused w → t ≡ attempt.Refused w
+resolved-tried (attempt.Answers c) w q = never cc
+resolved-tried (attempt.Refused v) w q = let u : v ≡ w = cc in rw u
+
+module _ (s m : List ℕ) where
+  pub compared-refused : (t : Tried) (w : Refusal) → compared s m t ≡ comparison.Refused w → t ≡ attempt.Refused w
+  compared-refused (attempt.Refused v) w q = let u : v ≡ w = cc in rw u
+  compared-refused (attempt.Answers d) w q = go (extends s m (d .found .declaration)) q
+    where
+      go : (b : Bool) → extended b d ≡ comparison.Refused w → attempt.Answers d ≡ attempt.Refused w
+      go true q = never cc
+      go false q = never cc
+
+  module _ (c : Candidate) where
+    pub compared-extends : (t : Tried) → compared s m t ≡ Extends c → t ≡ attempt.Answers c
+    compared-extends (attempt.Refused w) q = never cc
+    compared-extends (attempt.Answers d) q = go (extends s m (d .found .declaration)) q
+      where
+        go : (b : Bool) → extended b d ≡ Extends c → attempt.Answers d ≡ attempt.Answers c
+        go true q = let u : d ≡ c = cc in rw u
+        go false q = never cc
+
+    pub compared-other : (t : Tried) → compared s m t ≡ ExtendsOther c → t ≡ attempt.Answers c
+    compared-other (attempt.Refused w) q = never cc
+    compared-other (attempt.Answers d) q = go (extends s m (d .found .declaration)) q
+      where
+        go : (b : Bool) → extended b d ≡ ExtendsOther c → attempt.Answers d ≡ attempt.Answers c
+        go true q = never cc
+        go false q = let u : d ≡ c = cc in rw u
+
+pub extended-same : (c : Candidate) (b : Bool) → extended b c ≡ Extends c → b ≡ true
+extended-same c true q = refl
+extended-same c false q = never cc
+
+pub extended-other : (c : Candidate) (b : Bool) → extended b c ≡ ExtendsOther c → b ≡ false
+extended-other c true q = never cc
+extended-other c false q = refl
 
 -- ---- without positions
 abbrev pub unplaced : Option Candidate → Option Found

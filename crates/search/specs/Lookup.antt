@@ -8,14 +8,14 @@
 --                 tried s scope name == of the candidates of a name in a scope the first at which there is one, and its position
 --                         resolved t == the extension of the candidate that answers
 --   findExtensionByPath s scope name == the extension that a name finds in a scope
---                       extended b f == the extension f where b holds, else that its extendee is another
---                     compared s m r == the extension, where there is one and it is one of the message m
---     extResolveField s scope m name == the extension that a name finds in a scope, where it is one of the message m
+--                       extended b c == the candidate c as one whose extension is of the message asked for where b holds, else of another
+--                     compared s m t == the candidate that answers, compared with the message m
+--     extResolveField s scope m name == the candidate that answers for a name in a scope, compared with the message m
 --
 -- Assumes nothing.
 use Rattle.basis.specs.Kit.{Bool, true, false, List, [], _∷_, Option, none, some, ℕ, _+_}
 use Rattle.reply.specs.declared.Refusal.{Refusal}
-use Rattle.reply.specs.declared.Refusal.the-variants.{ExtensionNotFound, WrongExtensionType}
+use Rattle.reply.specs.declared.Refusal.the-variants.{ExtensionNotFound}
 use Rattle.path.specs.Path.{Name, Path, parent, last}
 use Rattle.candidates.specs.Candidates.{candidates}
 use Rattle.sheet.specs.Table.{extensionTag}
@@ -25,6 +25,9 @@ use Rattle.search.specs.declared.extension.Found.{Found}
 use Rattle.search.specs.declared.extension.Candidate.{Candidate}
 use Rattle.search.specs.declared.extension.Tried.{Tried}
 use Rattle.search.specs.declared.extension.Tried.the-variants as attempt
+use Rattle.search.specs.declared.extension.Compared.{Compared}
+use Rattle.search.specs.declared.extension.Compared.the-variants as comparison
+use Rattle.search.specs.declared.extension.Compared.the-variants.{Extends, ExtendsOther}
 use Rattle.search.specs.declared.extension.Resolved.{Resolved}
 use Rattle.search.specs.declared.extension.Resolved.the-variants.{Field, Refused}
 use Rattle.scopes.specs.Scopes.{scopes}
@@ -60,13 +63,13 @@ unfoldable pub findExtensionByPath : (s scope name : List ℕ) → Resolved
 findExtensionByPath s scope name = resolved (tried s scope name)
 
 -- "Only then is the extendee compared; a mismatch ends the search." [SEARCH-7]
-abbrev pub extended : (fits : Bool) (f : Found) → Resolved
-extended true f = Field f
-extended false f = Refused WrongExtensionType
+abbrev pub extended : (fits : Bool) (c : Candidate) → Compared
+extended true c = Extends c
+extended false c = ExtendsOther c
 
-abbrev pub compared : (s m : List ℕ) → Resolved → Resolved
-compared s m (Field f) = extended (extends s m (f .declaration)) f
-compared s m (Refused w) = Refused w
+abbrev pub compared : (s m : List ℕ) → Tried → Compared
+compared s m (attempt.Answers c) = extended (extends s m (c .found .declaration)) c
+compared s m (attempt.Refused w) = comparison.Refused w
 
-unfoldable pub extResolveField : (s scope m name : List ℕ) → Resolved
-extResolveField s scope m name = compared s m (findExtensionByPath s scope name)
+unfoldable pub extResolveField : (s scope m name : List ℕ) → Compared
+extResolveField s scope m name = compared s m (tried s scope name)

@@ -45,6 +45,14 @@ pub enum Tried {
     Refused(Refusal),
 }
 
+// What the search for an extension of a message comes to: the candidate that answers; the one that answers where it extends another
+// message, with which the search ends; or why none answers.
+pub enum Compared {
+    Extends(Candidate),
+    ExtendsOther(Candidate),
+    Refused(Refusal),
+}
+
 // The first extension of that name in the scopes that are still to come.
 fn first_extension(s: &[u8], names: &[u8], cursor: Cursor, name: &[u8]) -> Resolved
     requires { ⌜ Stands (now s) (now names) cursor ⌝ }
@@ -111,24 +119,24 @@ pub fn find_extension_by_path(s: &[u8], scope: &[u8], path: &[u8], room: &mut [u
     }
 }
 
-// The same, where it extends the message of that full name. A mismatch ends the search.
+// The candidate that answers, compared with the message of that full name. A mismatch ends the search.
 pub fn ext_resolve_field_ext(
     s: &[u8],
     scope: &[u8],
     message: &[u8],
     path: &[u8],
     room: &mut [u8],
-) -> Resolved
+) -> Compared
     requires { ⌜ (isRelOrEmpty (now scope) ≡ true) × (isPath (now path) ≡ true) × (mostCandidate ≤ length (now room)) ⌝ }
     ensures { λ r. ⌜ r ≡ extResolveField (now (s .entry)) (now (scope .entry)) (now (message .entry)) (now (path .entry)) ⌝ }
 {
-    match find_extension_by_path(s, scope, path, room) {
-        Resolved::Refused(why) => Resolved::Refused(why),
-        Resolved::Field(found) => {
-            if !extends(s, message, found.declaration) {
-                return Resolved::Refused(Refusal::WrongExtensionType);
+    match try_candidates(s, scope, path, room) {
+        Tried::Refused(why) => Compared::Refused(why),
+        Tried::Answers(first) => {
+            if !extends(s, message, first.found.declaration) {
+                return Compared::ExtendsOther(first);
             }
-            Resolved::Field(found)
+            Compared::Extends(first)
         }
     }
 }

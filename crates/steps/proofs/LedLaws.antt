@@ -28,6 +28,7 @@ use Rattle.steps.specs.declared.Step.{Step}
 use Rattle.steps.specs.declared.Step.the-variants.{Found, NotFound}
 use Rattle.steps.specs.declared.Reach.{Reach}
 use Rattle.steps.specs.declared.Reach.the-variants.{Constant, Inside, Nothing, Fails}
+use Rattle.steps.specs.Steps.{whyOf}
 use Rattle.steps.specs.inner.Written.{entered, leftOn, followed, behind, stepped, StepLies, Behind, Entered, Steppable, Led}
 
 module _ (s r : List ℕ) (from to : ℕ) where
@@ -80,7 +81,7 @@ module _ (s r : List ℕ) (from to : ℕ) where
   led-step k v q p g u l y e = subst (Led s r from to) (sym e) (go u l)
     where
       go : (u : Step) → StepLies s u → Led s r from to (stepped (walking s) s r (p .name .to) to u)
-      go (NotFound w) l = led-fails w
+      go (NotFound x) l = led-fails (whyOf x)
       go (Found d) l =
           let b = part-bounds r from to v q p g in
           led-followed (d .shape) (p .name .to)

@@ -89,12 +89,12 @@ module _ (L : Lookups) (s r scope : List ℕ) where
       where
         last : (x : ℕ) → partAt r x to ≡ NoPart → (u : Step)
             → onStep i u (λ d. at i (constantMade L s r (d .shape) x to)) ≡ madeFrom i to (stepped L s r x to u)
-        last x z (NotFound w) = refl
+        last x z (NotFound l) = refl
         last x z (Found d) = ap (λ (y : Parted). madeFrom i to (followed L s (d .shape) x y)) (sym z)
 
         further : (x : ℕ) (q : Part) → partAt r x to ≡ IsPart q → (u : Step)
             → onStep i u (λ d. left L s r scope i (d .shape) (λ n. optionMade L s r scope (i + 1) n x to)) ≡ madeFrom i to (stepped L s r x to u)
-        further x q z (NotFound w) = refl
+        further x q z (NotFound l) = refl
         further x q z (Found d) =
             left-made i x to (d .shape) ∙ ap (λ (y : Parted). madeFrom i to (followed L s (d .shape) x y)) (sym z)
 

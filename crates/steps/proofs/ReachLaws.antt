@@ -1,9 +1,9 @@
--- What a part leads to: the ways through `left_on`, `behind` and `reach_of`, over any look-ups.
+-- What a part leads to: the ways through `left_on`, `behind`, `why_of`, `led` and `reach_of`, over any look-ups.
 -- Assumes nothing.
 use Rattle.basis.specs.Kit.{_≡_, refl, sym, ap, _∙_, true, false, List, ℕ, _≤_, length}
 use Rattle.basis.proofs.Kit.{eq-eqb, ne-eqb}
 use Rattle.reply.specs.declared.Refusal.{Refusal}
-use Rattle.reply.specs.declared.Refusal.the-variants.{ExtensionIsNotMessage}
+use Rattle.reply.specs.declared.Refusal.the-variants.{WrongExtensionType, ExtensionIsNotMessage, UnknownFieldName}
 use Rattle.field.specs.Leaf.{text}
 use Rattle.types.specs.Types.{TYPE_GROUP, TYPE_MESSAGE}
 use Rattle.sheet.specs.declared.declaration.Declaration.{Declaration}
@@ -11,17 +11,20 @@ use Rattle.sheet.specs.declared.declaration.Shape.{Shape}
 use Rattle.scope.specs.declared.lookup.LookupScope.{LookupScope}
 use Rattle.fullname.specs.declared.LookedUp.{LookedUp}
 use Rattle.fullname.specs.declared.LookedUp.the-variants.{Message as Is, NoMessage}
+use Rattle.search.specs.declared.extension.Candidate.{Candidate}
 use Rattle.request.specs.declared.name.Part.{Part}
 use Rattle.request.specs.declared.name.Parted.{Parted}
 use Rattle.request.specs.declared.name.Parted.the-variants.{Is as IsPart, NoPart}
 use Rattle.request.specs.Name.{partAt}
 use Rattle.optionform.proofs.PartsLaws.{fine-part-laws}
 use Rattle.lookups.specs.Lookups.{Lookups}
+use Rattle.steps.specs.declared.Lack.{Lack}
+use Rattle.steps.specs.declared.Lack.the-variants.{NoField, NoExtension, OtherMessage}
 use Rattle.steps.specs.declared.Step.{Step}
 use Rattle.steps.specs.declared.Step.the-variants.{Found, NotFound}
 use Rattle.steps.specs.declared.Reach.{Reach}
 use Rattle.steps.specs.declared.Reach.the-variants.{Constant, Inside, Nothing, Fails}
-use Rattle.steps.specs.Steps.{stepOf}
+use Rattle.steps.specs.Steps.{whyOf, stepOf}
 use Rattle.steps.proofs.LedLaws.{led-nothing, led-step}
 use Rattle.steps.proofs.StepLaws.{step-path-ordered, step-path-within}
 use Rattle.steps.specs.inner.Written.{message, entered, leftOn, followed, behind, stepped, firstPart, reachOf}
@@ -64,10 +67,23 @@ module _ (L : Lookups) (s r : List ℕ) (h : Shape) (at end : ℕ) (v : Parted) 
 
 pub ruleset behind-laws = (behind-constant, behind-part)
 
+-- ---- why_of
+module _ (l : Lack) where
+  pub why-field : l ≡ NoField → UnknownFieldName ≡ whyOf l
+  why-field g = ap whyOf (sym g)
+
+  pub why-extension : (w : Refusal) → l ≡ NoExtension w → w ≡ whyOf l
+  why-extension w g = ap whyOf (sym g)
+
+  pub why-other : (c : Candidate) → l ≡ OtherMessage c → WrongExtensionType ≡ whyOf l
+  why-other c g = ap whyOf (sym g)
+
+pub ruleset why-laws = (why-field, why-extension, why-other)
+
 -- ---- led
 module _ (L : Lookups) (s r : List ℕ) (from to : ℕ) (v : Step) where
-  pub led-fails : (w : Refusal) → v ≡ NotFound w → Fails w ≡ stepped L s r from to v
-  led-fails w z = sym (ap (stepped L s r from to) z)
+  pub led-fails : (l : Lack) → v ≡ NotFound l → (w : Refusal) → w ≡ whyOf l → Fails w ≡ stepped L s r from to v
+  led-fails l z w e = ap Fails e ∙ sym (ap (stepped L s r from to) z)
 
   pub led-behind : (d : Declaration) → v ≡ Found d → (y : Reach) → y ≡ behind L s r (d .shape) from to → y ≡ stepped L s r from to v
   led-behind d z y o = o ∙ sym (ap (stepped L s r from to) z)

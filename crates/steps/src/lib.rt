@@ -9,7 +9,7 @@ ghost use Rattle.optionform.specs.inner.Parts.{OptionParts};
 ghost use Rattle.records.specs.Made.{holding};
 ghost use Rattle.records.specs.inner.Emits.{bytesMost, Emits, Roomy};
 ghost use Rattle.lookups.specs.Lookups.{walking};
-ghost use Rattle.steps.specs.Steps.{stepOf, at as atPart};
+ghost use Rattle.steps.specs.Steps.{whyOf, stepExtension, stepOf, at as atPart};
 ghost use Rattle.steps.specs.inner.Written.{message as messageOf, steppedOf, leftOn, behind as behindOf, stepped, StepLies, Steppable, Led, reachOf, constantMade, optionMade};
 use field::Field;
 use field::Span;
@@ -23,7 +23,8 @@ use request::name::Part;
 use request::name::Parted;
 use request::name::part_at;
 use scope::lookup::LookupScope;
-use search::extension::Resolved;
+use search::extension::Candidate;
+use search::extension::Compared;
 use sheet::declaration::Declaration;
 use sheet::declaration::Declared;
 use sheet::declaration::Shape;
@@ -31,10 +32,18 @@ use types::TYPE_GROUP;
 use types::TYPE_MESSAGE;
 use values::put_value;
 
+// Why a name part comes to nothing, with the fact behind it: no field of that name in the message reached; the search's own refusal; the
+// candidate that answers, whose extension extends another message.
+pub enum Lack {
+    NoField,
+    NoExtension(Refusal),
+    OtherMessage(Candidate),
+}
+
 // What a name part comes to.
 pub enum Step {
     Found(Declaration),
-    NotFound(Refusal),
+    NotFound(Lack),
 }
 
 // Why an option is refused, and at which part of its name, counted from 0.
@@ -65,6 +74,20 @@ pub enum Reach {
     Fails(Refusal),
 }
 
+// What an extension part comes to, by what its search comes to.
+fn step_extension(searched: Compared) -> Step
+    ensures { λ r. ⌜ r ≡ stepExtension searched ⌝ }
+{
+    match searched {
+        Compared::Refused(why) => Step::NotFound(Lack::NoExtension(why)),
+        Compared::ExtendsOther(first) => Step::NotFound(Lack::OtherMessage(first)),
+        Compared::Extends(first) => {
+            let declaration = first.found.declaration;
+            Step::Found(declaration)
+        }
+    }
+}
+
 // What a part comes to in a message: a direct part as a field, an extension part by search from the request's scope.
 pub fn step_of(
     sheet: &[u8],
@@ -85,16 +108,10 @@ pub fn step_of(
     let from = part.name.from;
     let to = part.name.to;
     if part.extension {
-        return match lookups::extension(sheet, scope, message, &request[from..to]) {
-            Resolved::Refused(why) => Step::NotFound(why),
-            Resolved::Field(found) => {
-                let declaration = found.declaration;
-                Step::Found(declaration)
-            }
-        };
+        return step_extension(lookups::extension(sheet, scope, message, &request[from..to]));
     }
     let Declared::Declares(field) = lookups::field_named(sheet, place, &request[from..to]) else {
-        return Step::NotFound(Refusal::UnknownFieldName);
+        return Step::NotFound(Lack::NoField);
     };
     Step::Found(field)
 }
@@ -136,6 +153,17 @@ fn behind(sheet: &[u8], request: &[u8], shape: Shape, from: usize, to: usize) ->
     left_on(sheet, shape, from)
 }
 
+// The refusal of a part that comes to nothing.
+fn why_of(lack: Lack) -> Refusal
+    ensures { λ r. ⌜ r ≡ whyOf lack ⌝ }
+{
+    match lack {
+        Lack::NoField => Refusal::UnknownFieldName,
+        Lack::NoExtension(why) => why,
+        Lack::OtherMessage(_) => Refusal::WrongExtensionType,
+    }
+}
+
 // What a part that came to `step` and ends at `from` leads to.
 fn led(sheet: &[u8], request: &[u8], step: Step, from: usize, to: usize) -> Reach
     requires { ⌜ (from ≤ to) × (to ≤ length (now request)) ⌝ }
@@ -143,7 +171,7 @@ fn led(sheet: &[u8], request: &[u8], step: Step, from: usize, to: usize) -> Reac
     ensures { λ r. ⌜ r ≡ stepped (walking (now (sheet .entry))) (now (sheet .entry)) (now (request .entry)) from to step ⌝ }
 {
     match step {
-        Step::NotFound(why) => Reach::Fails(why),
+        Step::NotFound(lack) => Reach::Fails(why_of(lack)),
         Step::Found(declaration) => {
             let shape = declaration.shape;
             behind(sheet, request, shape, from, to)

@@ -8,6 +8,7 @@ use Rattle.steps.proofs.led.Tie as tie
 pub led-spec : {M : Type 1} → statement M
 led-spec = tie.close (tie.spec
     (λ c. search (needs, led-laws))
+    (λ c κs. search (needs, led-laws))
     (λ c. search (needs, led-laws))
     (λ c κs. search (needs, led-laws))
     (λ c. search (needs, led-laws))

@@ -46,7 +46,7 @@ use Rattle.steps.specs.declared.Step.{Step}
 use Rattle.steps.specs.declared.Step.the-variants.{Found, NotFound}
 use Rattle.steps.specs.declared.Reach.{Reach}
 use Rattle.steps.specs.declared.Reach.the-variants.{Constant, Inside, Nothing, Fails}
-use Rattle.steps.specs.Steps.{stepOf, optionFrom}
+use Rattle.steps.specs.Steps.{whyOf, stepOf, optionFrom}
 
 abbrev pub message : (name : List ℕ) → LookupScope → Message
 message n p = record { name = n; place = p }
@@ -87,7 +87,7 @@ module _ (L : Lookups) (s r : List ℕ) where
   behind h at end = followed L s h at (partAt r at end)
 
   abbrev pub stepped : (from to : ℕ) → Step → Reach
-  stepped at end (NotFound w) = Fails w
+  stepped at end (NotFound l) = Fails (whyOf l)
   stepped at end (Found d) = behind (d .shape) at end
 
 module _ (L : Lookups) (s r scope : List ℕ) where
