@@ -18,8 +18,8 @@ use Rattle.records.specs.Records.{encode}
 use Rattle.records.specs.Made.{Made, made, wrong}
 use Rattle.records.specs.inner.Emits.{bytesMost}
 use Rattle.lookups.specs.Lookups.{Lookups}
-use Rattle.steps.specs.declared.Fault.{Fault}
-use Rattle.steps.specs.Steps.{optionFrom}
+use Rattle.settle.specs.declared.named.Fault.{Fault}
+use Rattle.settle.specs.Named.{optionFrom}
 use Rattle.builtins.specs.declared.Built.{Built}
 use Rattle.builtins.specs.declared.Built.the-variants.{Skipped, Sets, Wrong}
 use Rattle.builtins.specs.Builtins.{builtinOf, builtRecs}

@@ -31,7 +31,7 @@ use Rattle.records.specs.Raw.{rawOf, rawsOf, Proper}
 use Rattle.records.proofs.ReadBack as reading
 use Rattle.lookups.specs.Lookups.{Lookups, Message, walking}
 use Rattle.known.specs.Known.{Known}
-use Rattle.steps.specs.declared.Fault.{Fault}
+use Rattle.settle.specs.declared.named.Fault.{Fault}
 use Rattle.steps.specs.declared.Lack.{Lack}
 use Rattle.steps.specs.declared.Lack.the-variants.{NoExtension, OtherMessage}
 use Rattle.steps.specs.declared.Step.the-variants.{NotFound}

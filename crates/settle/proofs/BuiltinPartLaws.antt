@@ -17,7 +17,7 @@ use Rattle.request.specs.Tree.{Constants, unnamed, none as noConstant, constant
 use Rattle.request.proofs.PartLaws.{parts-nil, parts-cons, part-places}
 use Rattle.optionform.specs.inner.Parts.{LastConstant}
 use Rattle.lookups.specs.Lookups.{Lookups, Message}
-use Rattle.steps.specs.inner.Written.{constantAt}
+use Rattle.settle.specs.inner.Written.{constantAt}
 use Rattle.builtins.specs.declared.Built.{Built}
 use Rattle.builtins.specs.Builtins.{builtinOf}
 use Rattle.builtins.specs.inner.Inside.{InBuilt}

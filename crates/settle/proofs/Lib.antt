@@ -1,2 +1,5 @@
+pub mod OptionLaws
+pub mod LedPlaces
+pub mod PutLaws
 pub mod BuiltinPartLaws
 pub mod SettleLaws

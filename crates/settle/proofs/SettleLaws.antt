@@ -26,12 +26,12 @@ use Rattle.records.specs.Made.{Made, made, wrong}
 use Rattle.records.specs.inner.Emits.{bytesMost, Emits, Roomy}
 use Rattle.records.proofs.EmitsLaws.{Tells, emits-next, emits-refused, emits-laid, refuses}
 use Rattle.lookups.specs.Lookups.{Lookups, Message}
-use Rattle.steps.specs.declared.Fault.{Fault}
-use Rattle.steps.specs.declared.Stepped.{Stepped}
-use Rattle.steps.specs.declared.Stepped.the-variants.{Next, Refused}
-use Rattle.steps.specs.Steps.{optionFrom}
-use Rattle.steps.specs.inner.Written.{constantAt, steppedOf, optionMade, Steppable}
-use Rattle.steps.proofs.PutLaws.{stepped-tells}
+use Rattle.settle.specs.declared.named.Fault.{Fault}
+use Rattle.settle.specs.declared.named.Stepped.{Stepped}
+use Rattle.settle.specs.declared.named.Stepped.the-variants.{Next, Refused}
+use Rattle.settle.specs.Named.{optionFrom}
+use Rattle.settle.specs.inner.Written.{constantAt, steppedOf, optionMade, Steppable}
+use Rattle.settle.proofs.PutLaws.{stepped-tells}
 use Rattle.builtins.specs.declared.Built.{Built}
 use Rattle.builtins.specs.declared.Built.the-variants.{Skipped, Sets, Wrong}
 use Rattle.builtins.specs.Builtins.{builtinOf, builtRecs}

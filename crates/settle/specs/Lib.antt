@@ -1,2 +1,3 @@
+pub mod Named
 pub mod Settle
 pub mod inner

@@ -15,8 +15,8 @@ use Rattle.records.specs.Records.{Recs, nil, recordOf}
 use Rattle.records.specs.Made.{Made, made, wrong}
 use Rattle.lookups.specs.Lookups.{Lookups, Message}
 use Rattle.known.specs.Known.{Known}
-use Rattle.steps.specs.declared.Fault.{Fault}
-use Rattle.steps.specs.Steps.{faultAt, optionFrom}
+use Rattle.settle.specs.declared.named.Fault.{Fault}
+use Rattle.settle.specs.Named.{faultAt, optionFrom}
 use Rattle.builtins.specs.declared.Built.{Built}
 use Rattle.builtins.specs.declared.Built.the-variants.{Skipped, Sets, Wrong}
 use Rattle.builtins.specs.Builtins.{builtinOf}

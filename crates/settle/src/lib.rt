@@ -1,4 +1,6 @@
 // One option in the options message: a builtin, or the steps over the parts of its name.
+pub mod named;
+
 ghost use Rattle.basis.specs.Kit.{_≡_, [], _+_, _-_, _^_, _≤_, _<_, length};
 ghost use Rattle.octets.specs.inner.Laid.{Laid};
 ghost use Rattle.field.specs.Leaf.{text, Lies};
@@ -8,10 +10,10 @@ ghost use Rattle.optionform.specs.inner.Parts.{OptionParts, LastConstant};
 ghost use Rattle.records.specs.Records.{encode};
 ghost use Rattle.records.specs.inner.Emits.{bytesMost, Emits, Roomy};
 ghost use Rattle.lookups.specs.Lookups.{walking};
-ghost use Rattle.steps.specs.inner.Written.{constantAt, optionMade};
 ghost use Rattle.builtins.specs.Builtins.{builtinOf};
 ghost use Rattle.builtins.specs.inner.Inside.{InBuilt};
 ghost use Rattle.settle.specs.Settle.{settledBuilt, builtinPart};
+ghost use Rattle.settle.specs.inner.Written.{constantAt, optionMade};
 ghost use Rattle.settle.specs.inner.Settling.{messageOf, settledAt, parted, othersOf, noteIn, setRecs, settlingOf, Started};
 use builtins::Built;
 use builtins::builtin_of;
@@ -21,12 +23,12 @@ use field::Span;
 use field::field_at;
 use judged::Place;
 use judged::Stop;
+use named::Stepped;
+use named::put_option;
 use request::name::Part;
 use request::name::Parted;
 use request::name::part_at;
 use scope::lookup::LookupScope;
-use steps::Stepped;
-use steps::put_option;
 
 // What the options of a request start with: the scope and the path of the options type, where the options stand in the request, and where
 // the options message stands in the sheet.

@@ -1,7 +1,7 @@
 -- Where that lies to which a part leads: further on in the request, and in the sheet.
 -- Assumes nothing.
-use Rattle.basis.specs.Kit.{_≡_, refl, sym, ap, _∙_, Bool, true, false, List, ℕ, _+_, _-_, _*_, _^_, _≤_, _<_, eqb, length}
-use Rattle.basis.proofs.Kit.{arith, w64, Fits}
+use Rattle.basis.specs.Kit.{_≡_, refl, sym, Bool, true, false, List, ℕ, _≤_, eqb, length}
+use Rattle.basis.proofs.Kit.{arith}
 use mathlib.Core.Path.{subst}
 use Rattle.basis.proofs.Never.{never}
 use Rattle.reply.specs.declared.Refusal.{Refusal}
@@ -21,7 +21,6 @@ use Rattle.request.specs.Name.{partAt}
 use Rattle.request.proofs.PartLaws.{part-bounds}
 use Rattle.optionform.specs.inner.Parts.{OptionParts}
 use Rattle.optionform.proofs.PartsLaws.{fine-part-next}
-use Rattle.records.specs.inner.Emits.{Roomy}
 use Rattle.lookups.specs.Lookups.{walking}
 use Rattle.lookups.proofs.LookupLaws.{message-lies}
 use Rattle.steps.specs.declared.Step.{Step}
@@ -29,7 +28,7 @@ use Rattle.steps.specs.declared.Step.the-variants.{Found, NotFound}
 use Rattle.steps.specs.declared.Reach.{Reach}
 use Rattle.steps.specs.declared.Reach.the-variants.{Constant, Inside, Nothing, Fails}
 use Rattle.steps.specs.Steps.{whyOf}
-use Rattle.steps.specs.inner.Written.{entered, leftOn, followed, behind, stepped, StepLies, Behind, Entered, Steppable, Led}
+use Rattle.steps.specs.inner.Reached.{entered, leftOn, followed, behind, stepped, StepLies, Behind, Entered, Led}
 
 module _ (s r : List ℕ) (from to : ℕ) where
   pub led-nothing : Led s r from to Nothing
@@ -87,67 +86,3 @@ module _ (s r : List ℕ) (from to : ℕ) where
           led-followed (d .shape) (p .name .to)
           (record { path = l .lies d refl; further = omega (arith, b .starts, b .ordered); within = b .inside })
           (fine-part-next _ r from to k v q p g) (partAt r (p .name .to) to)
-
-  -- ---- what a caller has of it
-  module _ (v : Reach) (k : Led s r from to v) where
-    module _ (h : Shape) (x : ℕ) (g : v ≡ Constant h x) where
-      pub constant-path-ordered : h .path .from ≤ h .path .to
-      constant-path-ordered = k .constant h x g .path .0
-
-      pub constant-path-within : h .path .to ≤ length s
-      constant-path-within = k .constant h x g .path .1
-
-      pub constant-within : x ≤ to
-      constant-within = k .constant h x g .within
-
-      pub constant-room : (at : ℕ) → Roomy at (to - from) r → Roomy at (to - x) r
-      constant-room at o = record { room = omega (arith, o .room, k .constant h x g .further, k .constant h x g .within) }
-
-    module _ (h : Shape) (p : LookupScope) (x : ℕ) (g : v ≡ Inside h p x) where
-      pub entered-path-ordered : h .path .from ≤ h .path .to
-      entered-path-ordered = k .inside h p x g .behind .path .0
-
-      pub entered-path-within : h .path .to ≤ length s
-      entered-path-within = k .inside h p x g .behind .path .1
-
-      pub entered-steppable : (scope : List ℕ) (c : LookupScope) (i : ℕ) → Steppable s r scope c from to i → Steppable s r scope p x to (i + 1)
-      entered-steppable scope c i o = record {
-        ordered = k .inside h p x g .behind .within;
-        within = o .within;
-        parts = k .inside h p x g .parts;
-        path = o .path;
-        place = k .inside h p x g .place;
-        few = omega (arith, o .few, k .inside h p x g .behind .further, k .inside h p x g .behind .within);
-      }
-
-      pub entered-room : (at : ℕ) → Roomy at (to - from) r → Roomy at (3 + (to - x)) r
-      entered-room at o =
-          record { room = omega (arith, o .room, k .inside h p x g .behind .further, k .inside h p x g .behind .within) }
-
-      pub entered-falls : (n : ℕ) → 2 * (to - from) ≡ n → 2 * (to - x) + 1 < n
-      entered-falls n o = omega (arith, k .inside h p x g .behind .further, k .inside h p x g .behind .within)
-
-module _ (s r scope : List ℕ) (c : LookupScope) (from to i : ℕ) (o : Steppable s r scope c from to i) where
-  pub steppable-ordered : from ≤ to
-  steppable-ordered = o .ordered
-
-  pub steppable-within : to ≤ length r
-  steppable-within = o .within
-
-  pub part-fits : Fits w64 (i + 1)
-  part-fits = record { fits = omega (arith, o .few) }
-
-pub ruleset led-places = (
-  constant-path-ordered,
-  constant-path-within,
-  constant-within,
-  constant-room,
-  entered-path-ordered,
-  entered-path-within,
-  entered-steppable,
-  entered-room,
-  steppable-ordered,
-  steppable-within,
-  part-fits,
-  entered-falls,
-)

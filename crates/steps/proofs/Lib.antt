@@ -1,5 +1,3 @@
 pub mod StepLaws
-pub mod ReachLaws
-pub mod OptionLaws
 pub mod LedLaws
-pub mod PutLaws
+pub mod ReachLaws

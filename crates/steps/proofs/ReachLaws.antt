@@ -27,7 +27,7 @@ use Rattle.steps.specs.declared.Reach.the-variants.{Constant, Inside, No
 use Rattle.steps.specs.Steps.{whyOf, stepOf}
 use Rattle.steps.proofs.LedLaws.{led-nothing, led-step}
 use Rattle.steps.proofs.StepLaws.{step-path-ordered, step-path-within}
-use Rattle.steps.specs.inner.Written.{message, entered, leftOn, followed, behind, stepped, firstPart, reachOf}
+use Rattle.steps.specs.inner.Reached.{message, entered, leftOn, followed, behind, stepped, firstPart, reachOf}
 
 -- ---- left_on
 module _ (L : Lookups) (s : List ℕ) (h : Shape) (at t : ℕ) (k : t ≡ h .typ) where

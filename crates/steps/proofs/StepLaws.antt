@@ -25,7 +25,7 @@ use Rattle.steps.specs.declared.Lack.the-variants.{NoField, NoExtension,
 use Rattle.steps.specs.declared.Step.{Step}
 use Rattle.steps.specs.declared.Step.the-variants.{Found, NotFound}
 use Rattle.steps.specs.Steps.{stepExtension, stepOf}
-use Rattle.steps.specs.inner.Written.{message, StepLies}
+use Rattle.steps.specs.inner.Reached.{message, StepLies}
 
 -- ---- step_extension
 module _ (v : Compared) where

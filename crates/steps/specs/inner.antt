@@ -1,3 +1,3 @@
--- Notions of inner contracts, of what the step over name parts writes: a reader of 01 need not read them.
+-- Notions of inner contracts, of what a part of a name leads to: a reader of 01 need not read them.
 -- Assumes nothing.
-pub mod Written
+pub mod Reached

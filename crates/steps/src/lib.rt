@@ -1,23 +1,15 @@
-// The step over the parts of an option's name: what a part comes to in the message reached, and what stands behind it, until the constant is
-// written on the last part. Innermost path first, found first and tested second; nobody above makes a refusal of a "none".
-ghost use Rattle.basis.specs.Kit.{_≡_, true, _+_, _-_, _≤_, length};
+// What a part of an option's name comes to in the message reached, and what it leads to: the constant behind it, or more parts inside a
+// message. Innermost path first, found first and tested second; nobody above makes a refusal of a "none".
+ghost use Rattle.basis.specs.Kit.{_≡_, true, _≤_, length};
 ghost use Rattle.path.specs.Path.{isRelOrEmpty};
 ghost use Rattle.field.specs.Leaf.{text, Lies};
 ghost use Rattle.scope.specs.inner.Answers.{InSheet};
 ghost use Rattle.constantform.specs.Leaves.{goodPart};
 ghost use Rattle.optionform.specs.inner.Parts.{OptionParts};
-ghost use Rattle.records.specs.Made.{holding};
-ghost use Rattle.records.specs.inner.Emits.{bytesMost, Emits, Roomy};
 ghost use Rattle.lookups.specs.Lookups.{walking};
-ghost use Rattle.steps.specs.Steps.{whyOf, stepExtension, stepOf, at as atPart};
-ghost use Rattle.steps.specs.inner.Written.{message as messageOf, steppedOf, leftOn, behind as behindOf, stepped, StepLies, Steppable, Led, reachOf, constantMade, optionMade};
-use field::Field;
-use field::Span;
-use field::field_at;
+ghost use Rattle.steps.specs.Steps.{whyOf, stepExtension, stepOf};
+ghost use Rattle.steps.specs.inner.Reached.{message as messageOf, leftOn, behind as behindOf, stepped, StepLies, Led, reachOf};
 use fullname::LookedUp;
-use limits::MOST_CONSTANTS;
-use records::Wrote;
-use records::put_head;
 use reply::Refusal;
 use request::name::Part;
 use request::name::Parted;
@@ -30,7 +22,6 @@ use sheet::declaration::Declared;
 use sheet::declaration::Shape;
 use types::TYPE_GROUP;
 use types::TYPE_MESSAGE;
-use values::put_value;
 
 // Why a name part comes to nothing, with the fact behind it: no field of that name in the message reached; the search's own refusal; the
 // candidate that answers, whose extension extends another message.
@@ -44,18 +35,6 @@ pub enum Lack {
 pub enum Step {
     Found(Declaration),
     NotFound(Lack),
-}
-
-// Why an option is refused, and at which part of its name, counted from 0.
-pub struct Fault {
-    pub part: usize,
-    pub why: Refusal,
-}
-
-// What the step over name parts answers: the place after what it wrote, or the fault.
-pub enum Stepped {
-    Next(usize),
-    Refused(Fault),
 }
 
 // What a part leads to: the constant behind it, on a field of that shape; more parts, inside the message of that path and place, in a record
@@ -180,7 +159,7 @@ fn led(sheet: &[u8], request: &[u8], step: Step, from: usize, to: usize) -> Reac
 }
 
 // What the part at a place leads to in a message.
-fn reach_of(
+pub fn reach_of(
     sheet: &[u8],
     request: &[u8],
     scope: &[u8],
@@ -202,142 +181,4 @@ fn reach_of(
     };
     let step = step_of(sheet, request, scope, message, place, part);
     led(sheet, request, step, part.name.to, to)
-}
-
-// The constant at a place, which an option ends with, on a field of that shape; its refusal is one of this part.
-fn put_constant(
-    sheet: &[u8],
-    request: &[u8],
-    shape: Shape,
-    from: usize,
-    to: usize,
-    part: usize,
-    out: &mut [u8],
-    at: usize,
-) -> Stepped
-    requires { ⌜ (from ≤ to) × (to ≤ length (now request)) ⌝ }
-    requires { ⌜ Lies (shape .path) (now sheet) ⌝ }
-    requires { ⌜ Roomy at (to - from) (now request) ⌝ }
-    ensures { λ r. ⌜ Emits steppedOf (atPart part (constantMade (walking (now (sheet .entry))) (now (sheet .entry)) (now (request .entry)) shape from to))
-        (bytesMost (to - from)) (now (out .entry)) at (now (out .exit)) r ⌝ }
-{
-    let Field::Whole {
-        tag,
-        from: a,
-        to: e,
-    } = field_at(request, from, to)
-    else {
-        return Stepped::Next(at);
-    };
-    match put_value(sheet, request, shape, tag, a, e, MOST_CONSTANTS, out, at) {
-        Wrote::Next(next) => Stepped::Next(next),
-        Wrote::Refused(why) => Stepped::Refused(Fault {
-            part: part,
-            why: why,
-        }),
-    }
-}
-
-// The record of a message that parts go inside: they are measured in no room, and written only where there is some.
-fn put_inside(
-    sheet: &[u8],
-    request: &[u8],
-    scope: &[u8],
-    number: u32,
-    message: &[u8],
-    place: LookupScope,
-    from: usize,
-    to: usize,
-    part: usize,
-    out: &mut [u8],
-    at: usize,
-) -> Stepped
-    requires { ⌜ Steppable (now sheet) (now request) (now scope) place from to part ⌝ }
-    requires { ⌜ Roomy at (3 + (to - from)) (now request) ⌝ }
-    ensures { λ r. ⌜ Emits steppedOf (holding number (optionMade (walking (now (sheet .entry))) (now (sheet .entry)) (now (request .entry))
-        (now (scope .entry)) part (messageOf (now (message .entry)) place) from to)) (bytesMost (3 + (to - from)))
-        (now (out .entry)) at (now (out .exit)) r ⌝ }
-{
-    let measured = put_option(
-        sheet,
-        request,
-        scope,
-        message,
-        place,
-        from,
-        to,
-        part,
-        &mut out[..0],
-        0,
-    );
-    let Stepped::Next(n) = measured else {
-        return measured;
-    };
-    let q = put_head(out, at, number, n);
-    if q < out.len() {
-        return put_option(
-            sheet,
-            request,
-            scope,
-            message,
-            place,
-            from,
-            to,
-            part,
-            out,
-            q,
-        );
-    }
-    Stepped::Next(q + n)
-}
-
-// The parts of a name from a place on, the one at `part` first, in the message of that name and place, and the constant behind them.
-pub fn put_option(
-    sheet: &[u8],
-    request: &[u8],
-    scope: &[u8],
-    message: &[u8],
-    place: LookupScope,
-    from: usize,
-    to: usize,
-    part: usize,
-    out: &mut [u8],
-    at: usize,
-) -> Stepped
-    requires { ⌜ Steppable (now sheet) (now request) (now scope) place from to part ⌝ }
-    requires { ⌜ Roomy at (to - from) (now request) ⌝ }
-    ensures { λ r. ⌜ Emits steppedOf (optionMade (walking (now (sheet .entry))) (now (sheet .entry)) (now (request .entry)) (now (scope .entry))
-        part (messageOf (now (message .entry)) place) from to) (bytesMost (to - from)) (now (out .entry)) at (now (out .exit)) r ⌝ }
-{
-    match reach_of(sheet, request, scope, message, place, from, to) {
-        Reach::Fails(why) => Stepped::Refused(Fault {
-            part: part,
-            why: why,
-        }),
-        Reach::Nothing => Stepped::Next(at),
-        Reach::Constant { shape, from: rest } => {
-            put_constant(sheet, request, shape, rest, to, part, out, at)
-        }
-        Reach::Inside {
-            shape,
-            place: inner,
-            from: rest,
-        } => {
-            let a = shape.path.from;
-            let e = shape.path.to;
-            put_inside(
-                sheet,
-                request,
-                scope,
-                shape.number,
-                &sheet[a..e],
-                inner,
-                rest,
-                to,
-                part + 1,
-                out,
-                at,
-            )
-        }
-    }
 }

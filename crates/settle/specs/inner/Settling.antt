@@ -23,7 +23,7 @@ use Rattle.records.specs.Records.{Recs, nil, encode}
 use Rattle.records.specs.Made.{Made, made, wrong}
 use Rattle.lookups.specs.Lookups.{Lookups, Message}
 use Rattle.known.specs.inner.Notes.{noteOf}
-use Rattle.steps.specs.declared.Fault.{Fault}
+use Rattle.settle.specs.declared.named.Fault.{Fault}
 use Rattle.settle.specs.declared.Start.{Start}
 use Rattle.settle.specs.declared.Settling.{Settling}
 use Rattle.settle.specs.declared.Settling.the-variants.{Gives, Fails}

@@ -1,21 +1,21 @@
--- `steps::put_inside` and `steps::put_option` meet their contracts.
+-- `settle::named::put_inside` and `settle::named::put_option` meet their contracts.
 -- Assumes nothing.
-use Rattle.steps.proofs.PutLaws.{put-inside-laws, put-option-laws}
+use Rattle.settle.proofs.PutLaws.{put-inside-laws, put-option-laws}
 use Rattle.basis.proofs.Kit.{needs}
 use Rattle.basis.specs.Kit.{ℕ, _+_, _-_, _*_, _<_}
 use borrow.Fn.Kinds.{In}
 use borrow.Fn.PlainCycle.{Measures, is, falls, and}
-use Rattle.steps.proofs.+put_inside+put_option.{statement}
-use Rattle.steps.proofs.+put_inside+put_option.Tie.{close}
-use Rattle.steps.proofs.put_inside.Reads as put-inside
-use Rattle.steps.proofs.put_inside.Kinds as put-inside-kinds
-use Rattle.steps.proofs.+put_inside+put_option.Lts-put_inside as put-inside-lts
-use Rattle.steps.proofs.put_option.Reads as put-option
-use Rattle.steps.proofs.put_option.Kinds as put-option-kinds
-use Rattle.steps.proofs.+put_inside+put_option.Lts-put_option as put-option-lts
+use Rattle.settle.proofs.named.+put_inside+put_option.{statement}
+use Rattle.settle.proofs.named.+put_inside+put_option.Tie.{close}
+use Rattle.settle.proofs.named.put_inside.Reads as put-inside
+use Rattle.settle.proofs.named.put_inside.Kinds as put-inside-kinds
+use Rattle.settle.proofs.named.+put_inside+put_option.Lts-put_inside as put-inside-lts
+use Rattle.settle.proofs.named.put_option.Reads as put-option
+use Rattle.settle.proofs.named.put_option.Kinds as put-option-kinds
+use Rattle.settle.proofs.named.+put_inside+put_option.Lts-put_option as put-option-lts
 use Rattle.records.proofs.put_head.Reads as put-head-reads
-use Rattle.steps.proofs.put_constant.Reads as put-constant-reads
+use Rattle.settle.proofs.named.put_constant.Reads as put-constant-reads
 use Rattle.steps.proofs.reach_of.Reads as reach-of-reads
 
 abbrev μ-put-inside : Measures 5 put-inside-kinds.ps ℕ
 μ-put-inside κs a = 2 * (a .1 .1 .1 .1 .1 .1 .1 .0 - a .1 .1 .1 .1 .1 .1 .0) + 1

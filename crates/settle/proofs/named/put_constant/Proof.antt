@@ -1,9 +1,9 @@
--- `steps::put_constant` meets its contract.
+-- `settle::named::put_constant` meets its contract.
 -- Assumes nothing.
-use Rattle.steps.proofs.PutLaws.{constant-laws}
+use Rattle.settle.proofs.PutLaws.{constant-laws}
 use Rattle.basis.proofs.Kit.{needs}
-use Rattle.steps.proofs.put_constant.Statement.{statement}
-use Rattle.steps.proofs.put_constant.Tie as tie
+use Rattle.settle.proofs.named.put_constant.Statement.{statement}
+use Rattle.settle.proofs.named.put_constant.Tie as tie
 
 pub put-constant-spec : {M : Type 1} → statement M
 put-constant-spec = tie.close (tie.spec

@@ -24,15 +24,16 @@ use Rattle.records.proofs.InsideLaws.{inside-laws}
 use Rattle.lookups.specs.Lookups.{Lookups, Message}
 use Rattle.values.specs.Values.{on, records}
 use Rattle.values.specs.inner.Writers.{valueMade}
-use Rattle.steps.specs.declared.Fault.{Fault}
-use Rattle.steps.specs.declared.Stepped.{Stepped}
-use Rattle.steps.specs.declared.Stepped.the-variants.{Next, Refused}
+use Rattle.settle.specs.declared.named.Fault.{Fault}
+use Rattle.settle.specs.declared.named.Stepped.{Stepped}
+use Rattle.settle.specs.declared.named.Stepped.the-variants.{Next, Refused}
 use Rattle.steps.specs.declared.Reach.{Reach}
 use Rattle.steps.specs.declared.Reach.the-variants.{Constant, Inside, Nothing, Fails}
-use Rattle.steps.specs.Steps.{faultAt, at as atPart}
-use Rattle.steps.specs.inner.Written.{message, steppedOf, constantMade, optionMade, reachOf, Led}
-use Rattle.steps.proofs.LedLaws.{led-places}
-use Rattle.steps.proofs.OptionLaws.{option-of}
+use Rattle.steps.specs.inner.Reached.{message, reachOf, Led}
+use Rattle.settle.specs.Named.{faultAt, at as atPart}
+use Rattle.settle.specs.inner.Written.{steppedOf, constantMade, optionMade}
+use Rattle.settle.proofs.LedPlaces.{led-places}
+use Rattle.settle.proofs.OptionLaws.{option-of}
 
 pub stepped-tells : Tells steppedOf Next Refused
 unfolding steppedOf
