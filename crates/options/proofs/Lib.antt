@@ -4,3 +4,6 @@ pub mod GatherLaws
 pub mod GatheredLaws
 pub mod HeldLaws
 pub mod KnownLaws
+pub mod OpenLaws
+pub mod MeasureLaws
+pub mod PutLaws

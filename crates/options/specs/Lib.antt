@@ -1,2 +1,3 @@
 pub mod Options
+pub mod Steps
 pub mod inner

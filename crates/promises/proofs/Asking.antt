@@ -34,7 +34,7 @@ use Rattle.values.specs.Values.{scalarMade}
 use Rattle.steps.specs.Steps.{stepOf}
 use Rattle.builtins.specs.Builtins.{isSkipped, builtinOf}
 use Rattle.settle.specs.Settle.{settle}
-use Rattle.measure.specs.Steps.{Steps, records, absent as none, refused as refusedFor, stepsOf}
+use Rattle.options.specs.Steps.{Steps, records, absent as none, refused as refusedFor, stepsOf}
 use Rattle.resolver.specs.Resolve.{resolvingBy, resolving}
 use Rattle.declform.specs.Declarations.{goodTypePath, goodShape, goodField, isField, isExtension, isValue}
 use Rattle.messageform.specs.Form.{judgeValue, judgeEnum, judgeItem, judgeItems}

@@ -38,7 +38,7 @@ use Rattle.steps.specs.declared.Step.the-variants.{NotFound}
 use Rattle.steps.specs.Steps.{whyOf, stepOf}
 use Rattle.settle.specs.Settle.{fails, stopAt, settle}
 use Rattle.options.specs.Options.{stopped, gather}
-use Rattle.measure.specs.Steps.{records}
+use Rattle.options.specs.Steps.{records}
 use Rattle.resolver.specs.Resolve.{resolving, resolveBytes, resolveTested}
 use Rattle.resolver.proofs.CallLaws as calls
 use Rattle.promises.specs.Levels.{deepest}

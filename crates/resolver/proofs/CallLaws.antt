@@ -14,10 +14,10 @@ use Rattle.judged.specs.declared.Stop.{Stop}
 use Rattle.judged.specs.declared.Judged.{Judged}
 use Rattle.judged.specs.declared.Judged.the-variants as judged
 use Rattle.judged.specs.Judged.{nowhere}
-use Rattle.measure.specs.declared.Measured.{Measured}
-use Rattle.measure.specs.declared.Measure.{Measure}
-use Rattle.measure.specs.declared.Measure.the-variants as measure
-use Rattle.measure.specs.inner.Measuring.{Measures}
+use Rattle.options.specs.declared.measure.Measured.{Measured}
+use Rattle.options.specs.declared.measure.Measure.{Measure}
+use Rattle.options.specs.declared.measure.Measure.the-variants as measure
+use Rattle.options.specs.inner.Measuring.{Measures}
 use Rattle.resolver.specs.Resolve.{Steps, resolvingBy, resolving, resolvingTested, outcomeOf, judgedOf, resolveBytes, resolveTested}
 use Rattle.resolver.specs.inner.Judging.{judgedBy}
 use Rattle.resolver.proofs.WriteLaws.{measured-judged}

@@ -14,11 +14,11 @@ use Rattle.lookups.specs.Lookups.{walking}
 use Rattle.known.specs.Known.{Known, knownRecs}
 use Rattle.options.specs.Options.{Gathered}
 use Rattle.options.specs.inner.Gathering.{gatheredBy}
-use Rattle.measure.specs.declared.Measured.{Measured}
-use Rattle.measure.specs.declared.Measure.{Measure}
-use Rattle.measure.specs.declared.Measure.the-variants as measure
-use Rattle.measure.specs.inner.Measuring as measuring
-use Rattle.measure.specs.inner.Measuring.{allOf, Ready, Measures}
+use Rattle.options.specs.declared.measure.Measured.{Measured}
+use Rattle.options.specs.declared.measure.Measure.{Measure}
+use Rattle.options.specs.declared.measure.Measure.the-variants as measure
+use Rattle.options.specs.inner.Measuring as measuring
+use Rattle.options.specs.inner.Measuring.{allOf, Ready, Measures}
 use Rattle.resolver.specs.Resolve.{Steps, stepsIn, resolvingTested, outcomeOf, judgedOf, resolveTested}
 use Rattle.resolver.specs.inner.Judging.{judgedBy}
 

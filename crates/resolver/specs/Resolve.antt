@@ -11,8 +11,8 @@ use Rattle.reply.specs.Outcome.{Outcome, refuse, nothing, give}
 use Rattle.judged.specs.declared.Judged.{Judged}
 use Rattle.judged.specs.declared.Judged.the-variants as judged
 use Rattle.records.specs.Records.{encode}
-pub use Rattle.measure.specs.Steps.{Steps, records, absent, refused, stepsIn, onType, someOptions, unless, resolving, resolvingTested}
-unfoldable pub use Rattle.measure.specs.Steps.{stepsOf, resolvingBy}
+pub use Rattle.options.specs.Steps.{Steps, records, absent, refused, stepsIn, onType, someOptions, unless, resolving, resolvingTested}
+unfoldable pub use Rattle.options.specs.Steps.{stepsOf, resolvingBy}
 
 -- "0 done: bytes and length, or Absent" [RESOLVE-2]
 abbrev pub outcomeOf : Steps → Outcome ℕ

@@ -5,8 +5,8 @@
 -- Assumes nothing.
 use Rattle.judged.specs.declared.Judged.{Judged}
 use Rattle.judged.specs.declared.Judged.the-variants as judged
-use Rattle.measure.specs.declared.Measure.{Measure}
-use Rattle.measure.specs.declared.Measure.the-variants.{Fine, Absent, Refused}
+use Rattle.options.specs.declared.measure.Measure.{Measure}
+use Rattle.options.specs.declared.measure.Measure.the-variants.{Fine, Absent, Refused}
 
 abbrev pub judgedBy : Measure → Judged
 judgedBy (Fine m) = judged.Fine (m .length)

@@ -27,16 +27,16 @@ use Rattle.judged.specs.Judged.{nowhere}
 use Rattle.settle.specs.declared.Settling.{Settling}
 use Rattle.settle.specs.declared.Settling.the-variants.{Gives, Fails}
 use Rattle.settle.specs.inner.Settling.{Started}
 use Rattle.options.specs.Options.{Gathered, gathered, stopped}
 use Rattle.options.specs.inner.Gathering.{gatheredBy, madeAt, knownsOf, FineFrom, Gathers, gives, stops}
-use Rattle.measure.specs.declared.Opening.{Opening}
-use Rattle.measure.specs.declared.Opening.the-variants.{At, Absent, Refused}
-use Rattle.measure.specs.declared.Measure.{Measure}
-use Rattle.measure.specs.declared.Measure.the-variants as measure
-use Rattle.measure.specs.Steps.{Steps, absent, refused, stepsIn, stepsOf, resolvingBy, resolvingTested}
-use Rattle.measure.specs.inner.Measuring.{Open, Opens, at, none, lost, restOf, Counted, Tallies, Measures, fine, refuses}
-use Rattle.measure.specs.inner.Measuring as measuring
-use Rattle.measure.proofs.OpenLaws.{fine-short}
+use Rattle.options.specs.declared.measure.Opening.{Opening}
+use Rattle.options.specs.declared.measure.Opening.the-variants.{At, Absent, Refused}
+use Rattle.options.specs.declared.measure.Measure.{Measure}
+use Rattle.options.specs.declared.measure.Measure.the-variants as measure
+use Rattle.options.specs.Steps.{Steps, absent, refused, stepsIn, stepsOf, resolvingBy, resolvingTested}
+use Rattle.options.specs.inner.Measuring.{Open, Opens, at, none, lost, restOf, Counted, Tallies, Measures, fine, refuses}
+use Rattle.options.specs.inner.Measuring as measuring
+use Rattle.options.proofs.OpenLaws.{fine-short}
 
 -- ---- what the loop over the options answered
 pub record Gave (made : ℕ → Recs) (k : ℕ) (g : Gathered) (at : ℕ) (l l′ ns : List ℕ) (n next : ℕ) : Type 0 where

@@ -1,9 +1,9 @@
--- `measure::open` meets its contract.
+-- `options::measure::open` meets its contract.
 -- Assumes nothing.
-use Rattle.measure.proofs.OpenLaws.{open-laws}
+use Rattle.options.proofs.OpenLaws.{open-laws}
 use Rattle.basis.proofs.Kit.{needs}
-use Rattle.measure.proofs.open.Statement.{statement}
-use Rattle.measure.proofs.open.Tie as tie
+use Rattle.options.proofs.measure.open.Statement.{statement}
+use Rattle.options.proofs.measure.open.Tie as tie
 
 pub open-spec : {M : Type 1} → statement M
 open-spec = tie.close (tie.spec

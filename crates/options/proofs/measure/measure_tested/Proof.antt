@@ -1,9 +1,9 @@
--- `measure::measure_tested` meets its contract.
+-- `options::measure::measure_tested` meets its contract.
 -- Assumes nothing.
-use Rattle.measure.proofs.MeasureLaws.{measure-tested-laws}
+use Rattle.options.proofs.MeasureLaws.{measure-tested-laws}
 use Rattle.basis.proofs.Kit.{needs}
-use Rattle.measure.proofs.measure_tested.Statement.{statement}
-use Rattle.measure.proofs.measure_tested.Tie as tie
+use Rattle.options.proofs.measure.measure_tested.Statement.{statement}
+use Rattle.options.proofs.measure.measure_tested.Tie as tie
 
 pub measure-tested-spec : {M : Type 1} → statement M
 measure-tested-spec = tie.close (tie.spec

@@ -13,11 +13,11 @@ use Rattle.lookups.specs.Lookups.{walking}
 use Rattle.known.specs.Known.{Known, knownRecs}
 use Rattle.settle.specs.declared.Settling.{Settling}
 use Rattle.settle.specs.inner.Settling.{Started}
 use Rattle.options.specs.Options.{Gathered, gathered}
 use Rattle.options.specs.inner.Gathering.{gatheredBy, madeAt, knownsOf, FineFrom, Gathers, gives, stops}
-use Rattle.measure.specs.declared.Measured.{Measured}
-use Rattle.measure.specs.inner.Measuring.{allOf, Counted, Ready}
-use Rattle.measure.proofs.MeasureLaws.{counted-count, counted-noted, counted-few}
+use Rattle.options.specs.declared.measure.Measured.{Measured}
+use Rattle.options.specs.inner.Measuring.{allOf, Counted, Ready}
+use Rattle.options.proofs.MeasureLaws.{counted-count, counted-noted, counted-few}
 
 record Relaid (at : ℕ) (l l′ : List ℕ) (x : Recs) : Type 0 where
   next : ℕ

@@ -35,11 +35,11 @@ use Rattle.lookups.proofs.LookupLaws.{message-lies}
 use Rattle.settle.specs.declared.Start.{Start}
 use Rattle.judged.specs.declared.Stop.{Stop}
 use Rattle.judged.specs.Judged.{nowhere}
 use Rattle.options.specs.inner.Gathering.{optionsOf, gatheredBy}
-use Rattle.measure.specs.declared.Opening.{Opening}
-use Rattle.measure.specs.declared.Opening.the-variants.{At, Absent, Refused}
-use Rattle.measure.specs.Steps.{Steps, absent, refused, stepsIn, onType, someOptions, stepsOf}
-use Rattle.measure.specs.inner.Measuring.{Opens, at, none, lost}
+use Rattle.options.specs.declared.measure.Opening.{Opening}
+use Rattle.options.specs.declared.measure.Opening.the-variants.{At, Absent, Refused}
+use Rattle.options.specs.Steps.{Steps, absent, refused, stepsIn, onType, someOptions, stepsOf}
+use Rattle.options.specs.inner.Measuring.{Opens, at, none, lost}
 
 -- a fine request is no longer than 01 allows
 pub fine-short : (r : List ℕ) → judgeRequest r ≡ Fine → length r ≤ mostRequest

@@ -21,14 +21,14 @@ use Rattle.judged.specs.declared.Stop.{Stop}
 use Rattle.settle.specs.declared.Settling.{Settling}
 use Rattle.settle.specs.declared.Settling.the-variants.{Gives, Fails}
 use Rattle.settle.specs.inner.Settling.{Started}
 use Rattle.options.specs.Options.{Gathered, gathered, stopped}
 use Rattle.options.specs.inner.Gathering.{gatheredBy, madeAt, FineFrom}
-use Rattle.measure.specs.declared.Opening.{Opening}
-use Rattle.measure.specs.declared.Opening.the-variants as opening
-use Rattle.measure.specs.declared.Measured.{Measured}
-use Rattle.measure.specs.declared.Measure.{Measure}
-use Rattle.measure.specs.declared.Measure.the-variants as measure
-use Rattle.measure.specs.Steps.{Steps, records, absent, refused, stepsIn, stepsOf}
+use Rattle.options.specs.declared.measure.Opening.{Opening}
+use Rattle.options.specs.declared.measure.Opening.the-variants as opening
+use Rattle.options.specs.declared.measure.Measured.{Measured}
+use Rattle.options.specs.declared.measure.Measure.{Measure}
+use Rattle.options.specs.declared.measure.Measure.the-variants as measure
+use Rattle.options.specs.Steps.{Steps, records, absent, refused, stepsIn, stepsOf}
 
 abbrev pub restOf : Gathered → Recs
 restOf (gathered ks x) = x

@@ -1,3 +1,0 @@
-pub mod OpenLaws
-pub mod MeasureLaws
-pub mod PutLaws
