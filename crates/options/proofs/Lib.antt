@@ -7,3 +7,4 @@ pub mod KnownLaws
 pub mod OpenLaws
 pub mod MeasureLaws
 pub mod PutLaws
+pub mod TestedLaws

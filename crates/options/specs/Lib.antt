@@ -1,3 +1,4 @@
 pub mod Options
 pub mod Steps
+pub mod Resolve
 pub mod inner

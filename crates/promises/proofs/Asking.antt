@@ -35,7 +35,7 @@ use Rattle.steps.specs.Steps.{stepOf}
 use Rattle.builtins.specs.Builtins.{isSkipped, builtinOf}
 use Rattle.settle.specs.Settle.{settle}
 use Rattle.options.specs.Steps.{Steps, records, absent as none, refused as refusedFor, stepsOf}
-use Rattle.resolver.specs.Resolve.{resolvingBy, resolving}
+use Rattle.options.specs.Resolve.{resolvingBy, resolving}
 use Rattle.declform.specs.Declarations.{goodTypePath, goodShape, goodField, isField, isExtension, isValue}
 use Rattle.messageform.specs.Form.{judgeValue, judgeEnum, judgeItem, judgeItems}
 use Rattle.sheetform.specs.Form.{judgeFile, judgeFiles, judgeLength, judgeSheet}

@@ -35,7 +35,7 @@ use Rattle.judged.specs.declared.Stop.{Stop}
 use Rattle.settle.specs.Settle.{Settled}
 use Rattle.options.specs.Options.{Gathered, gathered, stopped, next, gather}
 use Rattle.options.specs.Steps.{Steps, records, absent, refused, stepsIn, onType, someOptions, stepsOf}
-use Rattle.resolver.specs.Resolve.{unless, resolvingBy}
+use Rattle.options.specs.Resolve.{unless, resolvingBy}
 use Rattle.promises.proofs.SmallLaws.{deepest-append, length-encode-append}
 use Rattle.promises.proofs.SmallLaws.{Small, small-nil, small-self, small-more, small-append, set-small}
 use Rattle.promises.proofs.WidthLaws.{width, width-walk}

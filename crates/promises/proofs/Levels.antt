@@ -18,7 +18,7 @@ use Rattle.requestform.proofs.FineLaws.{fine-good}
 use Rattle.records.specs.Records.{Recs}
 use Rattle.lookups.specs.Lookups.{Lookups, walking}
 use Rattle.options.specs.Steps.{records, stepsOf}
-use Rattle.resolver.specs.Resolve.{resolvingBy}
+use Rattle.options.specs.Resolve.{resolvingBy}
 use Rattle.promises.specs.Levels.{deepest}
 use Rattle.promises.proofs.Bounds.{longest, records-small, resolved-fine, resolved-steps}
 

@@ -39,8 +39,8 @@ use Rattle.steps.specs.Steps.{whyOf, stepOf}
 use Rattle.settle.specs.Settle.{fails, stopAt, settle}
 use Rattle.options.specs.Options.{stopped, gather}
 use Rattle.options.specs.Steps.{records}
-use Rattle.resolver.specs.Resolve.{resolving, resolveBytes, resolveTested}
-use Rattle.resolver.proofs.CallLaws as calls
+use Rattle.options.specs.Resolve.{resolving, resolveBytes, resolveTested}
+use Rattle.options.proofs.TestedLaws as calls
 use Rattle.promises.specs.Levels.{deepest}
 use Rattle.promises.proofs.Asking.{answer}
 use Rattle.promises.proofs.Examples as examples

@@ -1,6 +1,6 @@
--- The ways through `resolve`, `verdict_tested` and `verdict`, and that a call agrees with the one for a sheet that was tested before.
+-- The ways through `resolve`, `judged_by`, `verdict_tested` and `verdict`.
 -- Assumes nothing.
-use Rattle.basis.specs.Kit.{_≡_, refl, sym, ap, _∙_, List, ℕ}
+use Rattle.basis.specs.Kit.{_≡_, refl, sym, _∙_, List, ℕ}
 use Rattle.reply.specs.declared.Refusal.{Refusal}
 use Rattle.reply.specs.declared.Verdict.{Verdict}
 use Rattle.reply.specs.declared.Verdict.the-variants.{Fine, Refused as Bad}
@@ -9,7 +9,6 @@ use Rattle.reply.specs.Reply as reply
 use Rattle.reply.specs.Outcome.{Answered}
 use Rattle.reply.proofs.Outcomes.{answered-refused}
 use Rattle.sheetform.specs.Form.{judgeSheet}
-use Rattle.sheetform.proofs.SheetLaws.{sheet-length}
 use Rattle.judged.specs.declared.Stop.{Stop}
 use Rattle.judged.specs.declared.Judged.{Judged}
 use Rattle.judged.specs.declared.Judged.the-variants as judged
@@ -18,21 +17,10 @@ use Rattle.options.specs.declared.measure.Measured.{Measured}
 use Rattle.options.specs.declared.measure.Measure.{Measure}
 use Rattle.options.specs.declared.measure.Measure.the-variants as measure
 use Rattle.options.specs.inner.Measuring.{Measures}
-use Rattle.resolver.specs.Resolve.{Steps, resolvingBy, resolving, resolvingTested, outcomeOf, judgedOf, resolveBytes, resolveTested}
+use Rattle.options.specs.Resolve.{Steps, resolvingBy, resolving, resolvingTested, judgedOf, resolveBytes, resolveTested}
 use Rattle.resolver.specs.inner.Judging.{judgedBy}
+use Rattle.options.proofs.TestedLaws.{resolve-tested, verdict-tested}
 use Rattle.resolver.proofs.WriteLaws.{measured-judged}
-
--- on a fine sheet a call comes to what the one for a tested sheet does
-module _ (s r : List ℕ) (h : judgeSheet s ≡ Fine) where
-  resolving-tested : resolving s r ≡ resolvingTested s r
-  resolving-tested = ap (λ (v : Verdict). resolvingBy v s r) (h ∙ sym (sheet-length s h))
-
-  pub resolve-tested : resolveBytes s r ≡ resolveTested s r
-  unfolding resolveBytes resolveTested
-  resolve-tested = ap outcomeOf resolving-tested
-
-  pub verdict-tested : judgedOf (resolving s r) ≡ judgedOf (resolvingTested s r)
-  verdict-tested = ap judgedOf resolving-tested
 
 -- ---- resolve
 module _ (s r l : List ℕ) (a : Answer) (v : Verdict) (q : v ≡ judgeSheet s) where

@@ -19,7 +19,7 @@ use Rattle.options.specs.declared.measure.Measure.{Measure}
 use Rattle.options.specs.declared.measure.Measure.the-variants as measure
 use Rattle.options.specs.inner.Measuring as measuring
 use Rattle.options.specs.inner.Measuring.{allOf, Ready, Measures}
-use Rattle.resolver.specs.Resolve.{Steps, stepsIn, resolvingTested, outcomeOf, judgedOf, resolveTested}
+use Rattle.options.specs.Resolve.{Steps, stepsIn, resolvingTested, outcomeOf, judgedOf, resolveTested}
 use Rattle.resolver.specs.inner.Judging.{judgedBy}
 
 -- ---- the verdict that was measured is the verdict on what a request comes to

@@ -8,7 +8,7 @@ ghost use Rattle.lookups.specs.Lookups.{walking};
 ghost use Rattle.options.specs.inner.Gathering.{gatheredBy};
 ghost use Rattle.options.specs.Steps.{stepsIn, resolving, resolvingTested};
 ghost use Rattle.options.specs.inner.Measuring.{Ready};
-ghost use Rattle.resolver.specs.Resolve.{outcomeOf, judgedOf, resolveBytes, resolveTested};
+ghost use Rattle.options.specs.Resolve.{outcomeOf, judgedOf, resolveBytes, resolveTested};
 ghost use Rattle.resolver.specs.inner.Judging.{judgedBy};
 use judged::Judged;
 use judged::answer_in;

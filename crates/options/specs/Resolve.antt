@@ -1,4 +1,4 @@
--- The calls `resolve` and `verdict`, from 01's "Replies". What a request comes to is said in `measure`, and passed on from here as it is.
+-- The calls `resolve` and `verdict`, from 01's "Replies". What a request comes to is said in Steps.antt, and passed on from here as it is.
 --
 --           outcomeOf o == what it gives to the lent memory
 --            judgedOf o == the verdict on it, without room
