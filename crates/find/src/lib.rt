@@ -1,30 +1,18 @@
 // The public search: of a sheet, a scope and a path, the extension that the path finds there.
-ghost use Rattle.basis.specs.Kit.{_≡_, true, _-_};
-ghost use Rattle.path.specs.Path.{isRelOrEmpty, isPath};
+ghost use Rattle.basis.specs.Kit.{_≡_, _-_};
 ghost use Rattle.reply.specs.Outcome.{Answered, give};
 ghost use Rattle.field.specs.Part.{PartOf};
-ghost use Rattle.search.specs.Lookup.{findExtensionByPath};
 ghost use Rattle.find.specs.Find.{finding, findingTested, wordsOf, findWords, findTested, nameSpan, nameSpanFor};
 ghost use Rattle.find.specs.inner.Small.{SmallSpan, Small};
 use field::Leaf;
 use field::Span;
 use field::part::none_of;
 use field::part::span_in;
-use limits::MOST_CANDIDATE;
 use reply::Answer;
 use reply::Refusal;
 use reply::Verdict;
 use search::extension::Found;
 use search::extension::Resolved;
-
-// The search, with room for the candidates.
-fn found_in(sheet: &[u8], scope: &[u8], path: &[u8]) -> Resolved
-    requires { ⌜ (isRelOrEmpty (now scope) ≡ true) × (isPath (now path) ≡ true) ⌝ }
-    ensures { λ r. ⌜ r ≡ findExtensionByPath (now (sheet .entry)) (now (scope .entry)) (now (path .entry)) ⌝ }
-{
-    let mut room = [0u8; MOST_CANDIDATE];
-    search::extension::find_extension_by_path(sheet, scope, path, &mut room)
-}
 
 // The extension, or why there is none: that the sheet is too long, the first fault of the scope and the path, or that no scope declares it.
 // The form of the sheet was tested before.
@@ -40,7 +28,7 @@ fn finding_tested(sheet: &[u8], scope: &[u8], path: &[u8]) -> Resolved
     if let Verdict::Refused(why) = requestform::check_path(path) {
         return Resolved::Refused(why);
     }
-    found_in(sheet, scope, path)
+    lookups::extension_named(sheet, scope, path)
 }
 
 // Where a span starts, as a word.

@@ -1,8 +1,9 @@
-// What the option steps ask of a sheet: a message, an enum, an extension, a field, a value. Nothing above this crate calls the search.
+// What is asked of a sheet: a message, an enum, an extension, a field, a value. Nothing above this crate calls the search.
 ghost use Rattle.basis.specs.Kit.{_≡_, true};
 ghost use Rattle.field.specs.Leaf.{text, Lies};
 ghost use Rattle.path.specs.Path.{isRelOrEmpty, isPath};
 ghost use Rattle.scope.specs.inner.Answers.{InSheet, declared, valued};
+ghost use Rattle.search.specs.Lookup.{findExtensionByPath};
 ghost use Rattle.lookups.specs.Lookups.{walking, fieldNamed, valueIn};
 use field::Span;
 use fullname::LookedUp;
@@ -10,6 +11,7 @@ use fullname::LookedUpEnum;
 use limits::MOST_CANDIDATE;
 use scope::lookup::LookupScope;
 use search::extension::Compared;
+use search::extension::Resolved;
 use sheet::declaration::Declared;
 use sheet::declaration::Valued;
 use sheet::table;
@@ -48,6 +50,15 @@ pub fn extension(sheet: &[u8], scope: &[u8], message: &[u8], name: &[u8]) -> Com
 {
     let mut room = [0u8; MOST_CANDIDATE];
     search::extension::ext_resolve_field_ext(sheet, scope, message, name, &mut room)
+}
+
+// The extension that a name finds in a scope, whatever it extends.
+pub fn extension_named(sheet: &[u8], scope: &[u8], name: &[u8]) -> Resolved
+    requires { ⌜ (isRelOrEmpty (now scope) ≡ true) × (isPath (now name) ≡ true) ⌝ }
+    ensures { λ r. ⌜ r ≡ findExtensionByPath (now (sheet .entry)) (now (scope .entry)) (now (name .entry)) ⌝ }
+{
+    let mut room = [0u8; MOST_CANDIDATE];
+    search::extension::find_extension_by_path(sheet, scope, name, &mut room)
 }
 
 // The field of that name in a message.
