@@ -96,7 +96,8 @@ module _
   judged-written w = elim (decLt (length before) n) [
     | yes h ↦
         let y = no-room-length a (length before) n e h in
-        let still : z ++ drop (a .length) before ≡ before = rw (w, y, sets-out bytes (take 0 before) 0 (omega (arith, length-take-le 0 before (omega arith)))) refl in
+        let none : length (take 0 before) ≤ 0 = omega (arith, length-take-le 0 before (omega arith)) in
+        let still : z ++ drop (a .length) before ≡ before = rw (w, y, sets-out bytes (take 0 before) 0 none) refl in
         let no : length before < length bytes = omega (arith, k, h) in
         rw (still, no-room-is a (length before) n e h) (answered-no-room o before bytes g no)
     | no h ↦

@@ -88,7 +88,8 @@ fn known_length(sheet: &[u8], request: &[u8], start: Start, notes: &[usize], cou
     requires { ⌜ FineFrom (now request) start ⌝ }
     requires { ⌜ mostOptions ≤ length (now notes) ⌝ }
     requires { ⌜ length (now request) ≤ mostRequest ⌝ }
-    ensures { λ r. ⌜ r ≡ length (encode (knownRecs (knownsOf (gatheredBy (walking (now (sheet .entry))) (now (sheet .entry)) (now (request .entry)) start)))) ⌝ }
+    ensures { λ r. ⌜ r ≡ length (encode (knownRecs (knownsOf (gatheredBy (walking (now (sheet .entry))) (now (sheet .entry))
+        (now (request .entry)) start)))) ⌝ }
 {
     let mut none = [0u8; 1];
     put_known(sheet, request, start, notes, count, &mut none, 0)
@@ -123,8 +124,8 @@ fn measure_from(sheet: &[u8], request: &[u8], start: Start, notes: &mut [usize])
 fn measure_all(sheet: &[u8], request: &[u8], notes: &mut [usize]) -> Measure
     requires { ⌜ judgeRequest (now request) ≡ Fine ⌝ }
     requires { ⌜ mostOptions ≤ length (now notes) ⌝ }
-    ensures { λ r. ⌜ Measures (now (sheet .entry)) (now (request .entry)) (stepsOf (walking (now (sheet .entry))) (now (sheet .entry)) (now (request .entry)))
-        (now (notes .exit)) r ⌝ }
+    ensures { λ r. ⌜ Measures (now (sheet .entry)) (now (request .entry))
+        (stepsOf (walking (now (sheet .entry))) (now (sheet .entry)) (now (request .entry))) (now (notes .exit)) r ⌝ }
 {
     match open(sheet, request) {
         Opening::Absent => Measure::Absent,

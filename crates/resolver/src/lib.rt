@@ -31,8 +31,8 @@ fn write(
 ) -> Answer
     requires { ⌜ Ready (now sheet) (now request) (now notes) measured ⌝ }
     requires { ⌜ mostOptions ≤ length (now notes) ⌝ }
-    ensures { λ r. ⌜ Answered (outcomeOf (stepsIn (gatheredBy (walking (now (sheet .entry))) (now (sheet .entry)) (now (request .entry)) (measured .start))))
-        (now (out .entry)) (now (out .exit)) r ⌝ }
+    ensures { λ r. ⌜ Answered (outcomeOf (stepsIn (gatheredBy (walking (now (sheet .entry))) (now (sheet .entry)) (now (request .entry))
+        (measured .start)))) (now (out .entry)) (now (out .exit)) r ⌝ }
 {
     let room = out.len();
     let answer = answer_in(room, Judged::Fine(measured.length));

@@ -70,7 +70,8 @@ fn built_at(sheet: &[u8], request: &[u8], start: Start, part: Part, to: usize) -
     requires { ⌜ (part .name .to ≤ to) × (to ≤ length (now request)) ⌝ }
     requires { ⌜ LastConstant (now request) (part .name .to) to ⌝ }
     ensures is { λ r. ⌜ r ≡ builtinOf (walking (now (sheet .entry))) (now (sheet .entry)) (now (request .entry))
-        (messageOf (now (request .entry)) start) (text (now (request .entry)) (part .name)) (constantAt (now (request .entry)) (part .name .to) to) ⌝ }
+        (messageOf (now (request .entry)) start) (text (now (request .entry)) (part .name))
+        (constantAt (now (request .entry)) (part .name .to) to) ⌝ }
     ensures inside { λ r. ⌜ InBuilt r (now (request .entry)) ⌝ }
 {
     let Field::Whole {
@@ -182,7 +183,8 @@ pub fn settle(
     requires { ⌜ (from ≤ to) × (to ≤ length (now request)) ⌝ }
     requires { ⌜ OptionParts (now request) from to ⌝ }
     requires { ⌜ Roomy at (to - from) (now request) ⌝ }
-    ensures { λ r. ⌜ Emits (settlingOf option (noteIn (settledAt (walking (now (sheet .entry))) (now (sheet .entry)) (now (request .entry)) start from to)))
+    ensures { λ r. ⌜ Emits (settlingOf option (noteIn (settledAt (walking (now (sheet .entry))) (now (sheet .entry)) (now (request .entry))
+        start from to)))
         (othersOf (settledAt (walking (now (sheet .entry))) (now (sheet .entry)) (now (request .entry)) start from to)) (bytesMost (to - from))
         (now (out .entry)) at (now (out .exit)) r ⌝ }
 {
@@ -206,7 +208,8 @@ pub fn put_set(
     requires { ⌜ (from ≤ to) × (to ≤ length (now request)) ⌝ }
     requires { ⌜ OptionParts (now request) from to ⌝ }
     requires { ⌜ at + length (now request) < 2 ^ 62 ⌝ }
-    ensures { λ r. ⌜ Laid (now (out .entry)) at (encode (setRecs (settledAt (walking (now (sheet .entry))) (now (sheet .entry)) (now (request .entry)) start from to)))
+    ensures { λ r. ⌜ Laid (now (out .entry)) at
+        (encode (setRecs (settledAt (walking (now (sheet .entry))) (now (sheet .entry)) (now (request .entry)) start from to)))
         (now (out .exit)) r ⌝ }
 {
     let Parted::Is(part) = builtin_part(request, from, to) else {

@@ -46,7 +46,8 @@ fn put_constant(
     requires { ⌜ (from ≤ to) × (to ≤ length (now request)) ⌝ }
     requires { ⌜ Lies (shape .path) (now sheet) ⌝ }
     requires { ⌜ Roomy at (to - from) (now request) ⌝ }
-    ensures { λ r. ⌜ Emits steppedOf (atPart part (constantMade (walking (now (sheet .entry))) (now (sheet .entry)) (now (request .entry)) shape from to))
+    ensures { λ r. ⌜ Emits steppedOf
+        (atPart part (constantMade (walking (now (sheet .entry))) (now (sheet .entry)) (now (request .entry)) shape from to))
         (bytesMost (to - from)) (now (out .entry)) at (now (out .exit)) r ⌝ }
 {
     let Field::Whole {
