@@ -5,12 +5,12 @@ usage: resolve.py [ROUNDS] [--program PROGRAM] [--original FOLDER]
        resolve.py search|nesting [SIZE] [--program PROGRAM] [--original FOLDER]
        resolve.py input
 
-`input` prints benchresolve's stored input: the sheet, and 20 of the requests once. Its stored output is what resolve.rs prints for it.
+`input` prints the stored input of `bench`: the sheet, and 20 of the requests once. Its stored output is what resolve.rs prints for it.
 
 The input is a sheet of 200 extensions, some of a message or an enum type, with an options message, and 1,000 requests of one to four
-options from nested scopes. PROGRAM is benchresolve as `rt check` builds it for x86-64, target/bin/benchresolve if none is given; `none`
+options from nested scopes. PROGRAM is `bench` as `rt check` builds it for x86-64, target/bin/bench if none is given; `none`
 leaves it out, and on another machine it has to be one that was compiled for that (docs/SPEED.md). resolve.rs is built here by rustc at
-level 3, as benchresolve is by its compiler. All programs read the same input and have to print the same line.
+level 3, as `bench` is by its compiler. All programs read the same input and have to print the same line.
 
 FOLDER is a workspace in which cargo builds the published source of protobuf-parse 3.7.2 over a stand-in for its runtime. It is copied, and
 bench/original.rs is built there as one more binary, in release mode; that file says what it does in a round.
@@ -253,7 +253,7 @@ def main():
         return
     parser = argparse.ArgumentParser()
     parser.add_argument("what", nargs="*", default=["20"])
-    parser.add_argument("--program", default="target/bin/benchresolve")
+    parser.add_argument("--program", default="target/bin/bench")
     parser.add_argument("--original")
     args = parser.parse_args()
     made = {"search": (search, 113), "nesting": (nesting, 2004)}.get(args.what[0])

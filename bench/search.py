@@ -1,23 +1,20 @@
 #!/usr/bin/env python3
 """Times the search beside the same walk in Rust, in one run, and prints the ratio.
 
-usage: search.py [ROUNDS]
-       search.py input
+usage: search.py [ROUNDS] [--program PROGRAM]
 
-The second prints benchfind's stored input: the sheet, and the look-ups once.
-
-The input is a sheet of 200 extensions and 1,000 look-ups from nested scopes. benchfind is the program that `rt check` builds under
-target/bin; search.rs is built here by rustc at level 3, as benchfind is by its compiler. Both read the same input and have to print the
-same line. Time is the least of ROUNDS runs of either program, taken in turn, less that of a run that looks nothing up; where valgrind is
+The input is a sheet of 200 extensions and 1,000 look-ups from nested scopes. PROGRAM is `bench` as `rt check` builds it for x86-64,
+target/bin/bench if none is given; on another machine it has to be one that was compiled for that (docs/SPEED.md). search.rs is built here
+by rustc at level 3, as `bench` is by its compiler. Both read the same input and have to print the same line. Time is the least of ROUNDS runs of either program, taken in turn, less that of a run that looks nothing up; where valgrind is
 there, instructions are counted as well. Run it from the root of the repository.
 """
+import argparse
 import os
 import random
 import re
 import shutil
 import struct
 import subprocess
-import sys
 import tempfile
 import time
 
@@ -92,22 +89,22 @@ def instructions(program, text):
 def main():
     data, where = sheet()
     pairs = look_ups(where)
-    if sys.argv[1:] == ["input"]:
-        text = (f(0x40, data) + f(0x44, struct.pack(">I", 1)) + pairs).hex()
-        print("\n".join(text[i : i + 120] for i in range(0, len(text), 120)))
-        return
-    rounds = int(sys.argv[1]) if len(sys.argv) > 1 else 20
-    texts = {n: (f(0x40, data) + f(0x44, struct.pack(">I", n)) + pairs).hex().encode() for n in (0, 1, TIMES)}
+    parser = argparse.ArgumentParser()
+    parser.add_argument("rounds", nargs="?", type=int, default=20)
+    parser.add_argument("--program", default="target/bin/bench")
+    args = parser.parse_args()
+    head = f(0x40, data), f(0x45, b"\x02") + pairs
+    texts = {n: (head[0] + f(0x44, struct.pack(">I", n)) + head[1]).hex().encode() for n in (0, 1, TIMES)}
     print("sheet %d bytes, 200 extensions, 1000 look-ups, %d times" % (len(data), TIMES))
     with tempfile.TemporaryDirectory() as folder:
         rust = os.path.join(folder, "search")
         subprocess.run(["rustc", "-C", "opt-level=3", "--edition", "2021", "-o", rust, "bench/search.rs"], check=True)
-        programs = [os.path.abspath("target/bin/benchfind"), rust]
+        programs = [os.path.abspath(args.program), rust]
         lines = [timed(p, texts[TIMES])[1] for p in programs]
         assert lines[0] == lines[1], lines
         print(lines[0].decode().strip())
         best = {(p, n): 1e9 for p in programs for n in (0, TIMES)}
-        for _ in range(rounds):
+        for _ in range(args.rounds):
             for p in programs:
                 for n in (0, TIMES):
                     best[p, n] = min(best[p, n], timed(p, texts[n])[0])

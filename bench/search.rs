@@ -1,5 +1,5 @@
 // The search in Rust: the same walk over the same bytes, function by function, in the order of the Rattle code and by its names. Reads the
-// same input as benchfind and prints the same line. Bytes are compared and copied by the standard library's functions. resolve.rs has this
+// same input as `bench` and prints the same line. Bytes are compared and copied by the standard library's functions. resolve.rs has this
 // file as a module.
 use std::io::Read;
 
@@ -295,7 +295,7 @@ pub fn find_extension_by_path(s: &[u8], scope: &[u8], path: &[u8], room: &mut [u
     None
 }
 
-// ---- the same tests of form as benchfind makes
+// ---- the same tests of form as `bench` makes
 pub fn is_ident(s: &[u8]) -> bool {
     !s.is_empty() && s.len() <= 64 && !s[0].is_ascii_digit() && s.iter().all(|b| b.is_ascii_alphanumeric() || *b == b'_')
 }
@@ -315,23 +315,28 @@ fn main() {
     let input: Vec<u8> = digits.chunks(2).map(|c| u8::from_str_radix(std::str::from_utf8(c).unwrap(), 16).unwrap()).collect();
     let sheet = leaf_at(&input, 0, input.len(), 0x40).unwrap();
     let times = sized_at(&input, sheet.to, input.len(), 0x44, 4).unwrap();
+    let call = sized_at(&input, times.to, input.len(), 0x45, 1).unwrap();
+    assert!(input[call.from] == 2, "the search");
     let count = u32::from_be_bytes([input[times.from], input[times.from + 1], input[times.from + 2], input[times.from + 3]]);
-    let (mut found, mut sum) = (0u32, 0u32);
+    let (mut done, mut answered, mut sum) = (0u32, 0u32, 0u32);
     for _ in 0..count {
-        let mut at = times.to;
+        let mut at = call.to;
         while at < input.len() {
             let scope = leaf_at(&input, at, input.len(), 0x42).unwrap();
             let path = leaf_at(&input, scope.to, input.len(), 0x43).unwrap();
             let (a, b) = (&input[scope.from..scope.to], &input[path.from..path.to]);
+            let mut number = 0;
             if (a.is_empty() || is_rel_path(a)) && is_path(b) {
                 let mut room = [0u8; MOST_CANDIDATE];
                 if let Some(f) = find_extension_by_path(&input[sheet.from..sheet.to], a, b, &mut room) {
-                    found = found.wrapping_add(1);
-                    sum = sum.wrapping_add(f.declaration.shape.number);
+                    number = f.declaration.shape.number;
                 }
             }
+            done = done.wrapping_add(1);
+            answered = answered.wrapping_add((number != 0) as u32);
+            sum = sum.wrapping_mul(31).wrapping_add(number);
             at = path.to;
         }
     }
-    println!("found {} sum {}", found, sum);
+    println!("done {} answered {} sum {}", done, answered, sum);
 }

@@ -1,0 +1,2 @@
+pub mod CaseLaws
+pub mod RoundLaws
