@@ -5,12 +5,14 @@ usage: resolve.py [ROUNDS] [--program PROGRAM] [--original FOLDER]
        resolve.py search|nesting [SIZE] [--program PROGRAM] [--original FOLDER]
        resolve.py input
 
-`input` prints the stored input of `bench`: the sheet, and 20 of the requests once. Its stored output is what resolve.rs prints for it.
+`input` prints bench's stored input: the sheet, and once 20 of the requests for `resolve`, 20 for `resolve_tested`, one without options for
+either, and 23 look-ups, three of which find nothing: one has a scope and one a path that is none. Its stored output is what resolve.rs
+prints for it.
 
 The input is a sheet of 200 extensions, some of a message or an enum type, with an options message, and 1,000 requests of one to four
-options from nested scopes. PROGRAM is `bench` as `rt check` builds it for x86-64, target/bin/bench if none is given; `none`
-leaves it out, and on another machine it has to be one that was compiled for that (docs/SPEED.md). resolve.rs is built here by rustc at
-level 3, as `bench` is by its compiler. All programs read the same input and have to print the same line.
+options from nested scopes. PROGRAM is bench as `rt check` builds it for x86-64, target/bin/bench if none is given; `none` leaves it out,
+and on another machine it has to be one that was compiled for that (docs/SPEED.md). resolve.rs is built here by rustc at level 3, as bench
+is by its compiler. All programs read the same input and have to print the same line.
 
 FOLDER is a workspace in which cargo builds the published source of protobuf-parse 3.7.2 over a stand-in for its runtime. It is copied, and
 bench/original.rs is built there as one more binary, in release mode; that file says what it does in a round.
@@ -33,6 +35,7 @@ import tempfile
 from search import f, instructions, timed
 
 TIMES = 5
+RESOLVE, TESTED, SEARCH = 0, 1, 2
 TYPE = b"google.protobuf.FieldOptions"
 BOOL, STRING, DOUBLE, UINT32, INT32, SINT64, MESSAGE, ENUM = 8, 9, 1, 13, 5, 18, 11, 14
 TYPES = [UINT32, INT32, BOOL, MESSAGE, UINT32, STRING, ENUM, DOUBLE, SINT64, UINT32]
@@ -150,7 +153,7 @@ def requests(where):
         if i % 20 == 19:
             options[-1] = f(8, f(0x1B, b"nothing") + integer())
         total += len(options)
-        out.append(f(0x41, f(0x18, scope) + f(0x19, TYPE) + b"".join(options)))
+        out.append(f(0x18, scope) + f(0x19, TYPE) + b"".join(options))
     return out, total
 
 
@@ -181,8 +184,24 @@ def nesting(elements):
     return data, f(0x18) + f(0x19, b"M") + f(8, f(0x1A, b"n") * 16 + f(0x26, value))
 
 
-def text_of(data, times, once, queries):
-    return (f(0x40, data) + f(0x44, struct.pack(">I", times)) + f(0x45, bytes([once])) + b"".join(queries)).hex().upper()
+def case(call, *fields):
+    return f(0x45, bytes([call])) + b"".join(f(tag, payload) for tag, payload in fields)
+
+
+def text_of(data, times, cases):
+    return (f(0x40, data) + f(0x44, struct.pack(">I", times)) + b"".join(cases)).hex().upper()
+
+
+def stored(data, where, queries):
+    """The stored input: each call, each with answers and with refusals."""
+    none = f(0x18, b"plant") + f(0x19, TYPE)
+    cases = [case(RESOLVE, (0x41, q)) for q in queries[:20] + [none]] + [case(TESTED, (0x41, q)) for q in queries[20:40] + [none]]
+    pairs = [(b"plant..", b"set1"), (b"plant", b"9"), (b"plant", b"nothing")]
+    for i, (path, name, _) in enumerate(where[::10]):
+        pairs.append((path + b".Unit0.Dispatch", b"." + path + b"." + name if i % 5 == 0 else name))
+    for scope, name in pairs:
+        cases.append(case(SEARCH, (0x42, scope), (0x43, name)))
+    return text_of(data, 1, cases)
 
 
 def built_original(folder, into):
@@ -219,12 +238,13 @@ def show(what, names, table, form):
     print("%s a request: " % what + ", ".join("%s " % names[p] + form % n + " (%.2f)" % (first / n) for p, n in table.items()))
 
 
-def compare(names, data, queries, once, times, rounds, counted):
+def compare(names, data, queries, call, times, rounds, counted):
     """Prints time and instructions of a request for each program. All have to print the same line."""
-    texts = {n: text_of(data, n, once, queries).encode() for n in {0, 1, times}}
+    cases = [case(call, (0x41, q)) for q in queries]
+    texts = {n: text_of(data, n, cases).encode() for n in {0, 1, times}}
     lines = {timed(p, texts[1])[1] for p in names}
     assert len(lines) == 1, lines
-    print("the sheet is tested %s: %s" % ("once" if once else "each time", lines.pop().decode().strip()))
+    print("%s: %s" % ("resolve_tested" if call == TESTED else "resolve", lines.pop().decode().strip()))
     spent = seconds(names, texts, times, rounds)
     show("time", names, {p: t / len(queries) * 1e6 for p, t in spent.items()}, "%.2f us")
     if counted and shutil.which("valgrind"):
@@ -248,7 +268,7 @@ def main():
     data, where = sheet()
     queries, total = requests(where)
     if sys.argv[1:] == ["input"]:
-        text = text_of(data, 1, 0, queries[:20])
+        text = stored(data, where, queries)
         print("\n".join(text[i : i + 120] for i in range(0, len(text), 120)))
         return
     parser = argparse.ArgumentParser()
@@ -261,16 +281,16 @@ def main():
         total = int(args.what[1]) if len(args.what) > 1 else made[1]
         data, query = made[0](total)
         assert len(data) <= 32768 and len(query) <= 8192
-        queries = [f(0x41, query)]
-    print("sheet %d bytes; requests %d, %d bytes; size %d" % (len(data), len(queries), sum(map(len, queries)), total))
+        queries = [query]
+    print("sheet %d bytes; requests %d, %d bytes; size %d" % (len(data), len(queries), sum(len(f(0x41, q)) for q in queries), total))
     with tempfile.TemporaryDirectory() as folder:
         names = built(args, folder)
         if made:
-            compare(names, data, queries, 1, 1, 1, total == 1)
+            compare(names, data, queries, TESTED, 1, 1, total == 1)
             return
-        compare(names, data, queries, 1, TIMES, int(args.what[0]), True)
+        compare(names, data, queries, TESTED, TIMES, int(args.what[0]), True)
         ours = {p: n for p, n in names.items() if n != "original"}
-        compare(ours, data, queries, 0, TIMES, int(args.what[0]), True)
+        compare(ours, data, queries, RESOLVE, TIMES, int(args.what[0]), True)
 
 
 if __name__ == "__main__":

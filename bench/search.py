@@ -3,10 +3,11 @@
 
 usage: search.py [ROUNDS] [--program PROGRAM]
 
-The input is a sheet of 200 extensions and 1,000 look-ups from nested scopes. PROGRAM is `bench` as `rt check` builds it for x86-64,
+The input is a sheet of 200 extensions and 1,000 look-ups from nested scopes. PROGRAM is bench as `rt check` builds it for x86-64,
 target/bin/bench if none is given; on another machine it has to be one that was compiled for that (docs/SPEED.md). search.rs is built here
-by rustc at level 3, as `bench` is by its compiler. Both read the same input and have to print the same line. Time is the least of ROUNDS runs of either program, taken in turn, less that of a run that looks nothing up; where valgrind is
-there, instructions are counted as well. Run it from the root of the repository.
+by rustc at level 3, as bench is by its compiler. Both read the same input and have to print the same line. Time is the least of ROUNDS runs
+of either program, taken in turn, less that of a run that looks nothing up; where valgrind is there, instructions are counted as well. Run
+it from the root of the repository.
 """
 import argparse
 import os
@@ -70,7 +71,7 @@ def look_ups(where):
             name = b"." + path + b"." + name
         if i % 10 == 1:
             name = b"nothing"
-        pairs += f(0x42, scope) + f(0x43, name)
+        pairs += f(0x45, b"\2") + f(0x42, scope) + f(0x43, name)
     return pairs
 
 
@@ -87,14 +88,13 @@ def instructions(program, text):
 
 
 def main():
-    data, where = sheet()
-    pairs = look_ups(where)
     parser = argparse.ArgumentParser()
     parser.add_argument("rounds", nargs="?", type=int, default=20)
     parser.add_argument("--program", default="target/bin/bench")
     args = parser.parse_args()
-    head = f(0x40, data), f(0x45, b"\x02") + pairs
-    texts = {n: (head[0] + f(0x44, struct.pack(">I", n)) + head[1]).hex().encode() for n in (0, 1, TIMES)}
+    data, where = sheet()
+    pairs = look_ups(where)
+    texts = {n: (f(0x40, data) + f(0x44, struct.pack(">I", n)) + pairs).hex().encode() for n in (0, 1, TIMES)}
     print("sheet %d bytes, 200 extensions, 1000 look-ups, %d times" % (len(data), TIMES))
     with tempfile.TemporaryDirectory() as folder:
         rust = os.path.join(folder, "search")

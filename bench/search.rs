@@ -1,6 +1,6 @@
 // The search in Rust: the same walk over the same bytes, function by function, in the order of the Rattle code and by its names. Reads the
-// same input as `bench` and prints the same line. Bytes are compared and copied by the standard library's functions. resolve.rs has this
-// file as a module.
+// same input as the program bench, of look-ups alone, and prints the same line. Bytes are compared and copied by the standard library's
+// functions. resolve.rs has this file as a module.
 use std::io::Read;
 
 pub const FILE: u8 = 0x01;
@@ -295,7 +295,7 @@ pub fn find_extension_by_path(s: &[u8], scope: &[u8], path: &[u8], room: &mut [u
     None
 }
 
-// ---- the same tests of form as `bench` makes
+// ---- the same tests of form as bench makes
 pub fn is_ident(s: &[u8]) -> bool {
     !s.is_empty() && s.len() <= 64 && !s[0].is_ascii_digit() && s.iter().all(|b| b.is_ascii_alphanumeric() || *b == b'_')
 }
@@ -308,34 +308,60 @@ pub fn is_path(s: &[u8]) -> bool {
     s.len() <= 255 && is_rel_path(s.strip_prefix(b".").unwrap_or(s))
 }
 
-fn main() {
+// ---- the program
+pub fn mixed(sum: u32, n: u32) -> u32 {
+    sum.wrapping_mul(31).wrapping_add(n)
+}
+
+pub fn read_input() -> Vec<u8> {
     let mut text = String::new();
     std::io::stdin().read_to_string(&mut text).unwrap();
     let digits: Vec<u8> = text.bytes().filter(|b| b.is_ascii_hexdigit()).collect();
-    let input: Vec<u8> = digits.chunks(2).map(|c| u8::from_str_radix(std::str::from_utf8(c).unwrap(), 16).unwrap()).collect();
-    let sheet = leaf_at(&input, 0, input.len(), 0x40).unwrap();
-    let times = sized_at(&input, sheet.to, input.len(), 0x44, 4).unwrap();
-    let call = sized_at(&input, times.to, input.len(), 0x45, 1).unwrap();
-    assert!(input[call.from] == 2, "the search");
-    let count = u32::from_be_bytes([input[times.from], input[times.from + 1], input[times.from + 2], input[times.from + 3]]);
+    digits.chunks(2).map(|c| u8::from_str_radix(std::str::from_utf8(c).unwrap(), 16).unwrap()).collect()
+}
+
+// The sheet, how often, and where the cases start.
+pub fn heading(input: &[u8]) -> (Span, u32, usize) {
+    let sheet = leaf_at(input, 0, input.len(), 0x40).unwrap();
+    let times = sized_at(input, sheet.to, input.len(), 0x44, 4).unwrap();
+    (sheet, u32::from_be_bytes(input[times.from..times.to].try_into().unwrap()), times.to)
+}
+
+// What is called in the case at a place, and where that which it takes starts.
+pub fn call_at(input: &[u8], at: usize) -> (u8, usize) {
+    let call = sized_at(input, at, input.len(), 0x45, 1).unwrap();
+    (input[call.from], call.to)
+}
+
+fn number_found(sheet: &[u8], scope: &[u8], path: &[u8]) -> u32 {
+    let mut room = [0u8; MOST_CANDIDATE];
+    if !(scope.is_empty() || is_rel_path(scope)) || !is_path(path) {
+        return 0;
+    }
+    find_extension_by_path(sheet, scope, path, &mut room).map_or(0, |f| f.declaration.shape.number)
+}
+
+// The number that the pair at a place finds, 0 where it finds none, and where the next case starts.
+pub fn look_up_at(input: &[u8], sheet: &[u8], at: usize) -> (u32, usize) {
+    let scope = leaf_at(input, at, input.len(), 0x42).unwrap();
+    let path = leaf_at(input, scope.to, input.len(), 0x43).unwrap();
+    (number_found(sheet, &input[scope.from..scope.to], &input[path.from..path.to]), path.to)
+}
+
+fn main() {
+    let input = read_input();
+    let (sheet, times, cases) = heading(&input);
     let (mut done, mut answered, mut sum) = (0u32, 0u32, 0u32);
-    for _ in 0..count {
-        let mut at = call.to;
+    for _ in 0..times {
+        let mut at = cases;
         while at < input.len() {
-            let scope = leaf_at(&input, at, input.len(), 0x42).unwrap();
-            let path = leaf_at(&input, scope.to, input.len(), 0x43).unwrap();
-            let (a, b) = (&input[scope.from..scope.to], &input[path.from..path.to]);
-            let mut number = 0;
-            if (a.is_empty() || is_rel_path(a)) && is_path(b) {
-                let mut room = [0u8; MOST_CANDIDATE];
-                if let Some(f) = find_extension_by_path(&input[sheet.from..sheet.to], a, b, &mut room) {
-                    number = f.declaration.shape.number;
-                }
-            }
+            let (call, from) = call_at(&input, at);
+            assert_eq!(call, 2);
+            let (found, next) = look_up_at(&input, &input[sheet.from..sheet.to], from);
             done = done.wrapping_add(1);
-            answered = answered.wrapping_add((number != 0) as u32);
-            sum = sum.wrapping_mul(31).wrapping_add(number);
-            at = path.to;
+            answered = answered.wrapping_add((found != 0) as u32);
+            sum = mixed(sum, found);
+            at = next;
         }
     }
     println!("done {} answered {} sum {}", done, answered, sum);

@@ -1,7 +1,7 @@
-// Calls of the library for the bench. Input: 40 a sheet, 44 how often (4 bytes), 45 what is called (1 byte: 0 `resolve`, 1
-// `resolve_tested`, 2 the search), then the cases: 41 requests, or for 2 pairs of 42 a scope and 43 a path. All cases are called so often;
-// the line says how many calls there were, how many of these were answered 0 or found a number, and a checksum of the replies with their
-// bytes, or of the numbers, all modulo 2^32.
+// Calls of the library for the bench. Input: 40 a sheet, 44 how often (4 bytes), then the cases, each 45 what is called (1 byte) and what
+// that takes: 0 `resolve` or 1 `resolve_tested`, 41 a request; 2 the search, 42 a scope and 43 a path. All cases are called so often, with
+// no test of the sheet before. The line says how many calls there were, how many were answered 0 or found a number, and a checksum of the
+// replies with their bytes and of the numbers, all modulo 2^32.
 ghost use Rattle.basis.specs.Kit.{_≤_, length};
 use console::input::Input;
 use console::input::MOST_BYTES;
@@ -30,7 +30,7 @@ const TIMES: u8 = 0x44;
 
 const CALL: u8 = 0x45;
 
-// What is called, by number; any other number is `resolve`.
+// What is called; any other number is `resolve`.
 const RESOLVE_TESTED: u8 = 1;
 
 const SEARCH: u8 = 2;
@@ -38,8 +38,7 @@ const SEARCH: u8 = 2;
 // The room that is lent for the option bytes of a request.
 const ROOM: usize = 65_536;
 
-// What a case came to: 1 if it was answered, its reply or the number that was found, how many bytes were written, and where the next case
-// starts, 0 where the input is no case.
+// What a case came to: 1 where it was answered, its reply or the number found, how many bytes were written, and where the next case starts.
 struct Case {
     answered: u32,
     word: u32,
@@ -47,6 +46,7 @@ struct Case {
     next: usize,
 }
 
+// Where the input is no case; that has been said.
 const NO_CASE: Case = Case {
     answered: 0,
     word: 0,
@@ -54,7 +54,7 @@ const NO_CASE: Case = Case {
     next: 0,
 };
 
-// The checksum with a word more, and then the first n bytes of a slice: each time 31 times what it was, and the word or the byte.
+// The checksum with a word and then the first n bytes of a slice more. Each time it is 31 times what it was, and the word or the byte.
 fn mixed(sum: u32, first: u32, bytes: &[u8], n: usize) -> u32 {
     let end = least(n, bytes.len());
     let mut mix = sum;
@@ -70,7 +70,7 @@ fn mixed(sum: u32, first: u32, bytes: &[u8], n: usize) -> u32 {
     }
 }
 
-// The number of the extension that is found, 0 where none is: so for what is no scope or no path.
+// The number of the extension that is found; 0 where none is, and for what is no scope or no path, which the search does not take.
 fn number_found(sheet: &[u8], scope: &[u8], path: &[u8]) -> u32 {
     if is_rel_or_empty(scope) {
         if is_path(path) {
@@ -102,7 +102,7 @@ fn look_up_at(s: &[u8], sheet: &[u8], at: usize) -> Case
     }
 }
 
-// The call for a request.
+// The call that a request is for.
 fn resolved(sheet: &[u8], request: &[u8], call: u8, out: &mut [u8]) -> Answer {
     if call == RESOLVE_TESTED {
         return resolver::resolve_tested(sheet, request, out);
@@ -110,15 +110,22 @@ fn resolved(sheet: &[u8], request: &[u8], call: u8, out: &mut [u8]) -> Answer {
     resolver::resolve(sheet, request, out)
 }
 
-// The case at a place: a pair, or a request, whose bytes are written to lent room.
-fn answer_at(s: &[u8], sheet: &[u8], at: usize, call: u8, out: &mut [u8]) -> Case
+// The case at a place; the bytes of a request are written to lent room.
+fn answer_at(s: &[u8], sheet: &[u8], at: usize, out: &mut [u8]) -> Case
     requires { ⌜ at ≤ length (now s) ⌝ }
     ensures { λ r. ⌜ r .next ≤ length (now (s .entry)) ⌝ }
 {
-    if call == SEARCH {
-        return look_up_at(s, sheet, at);
+    let Leaf::At { from: c, to: a } = field_of(s, at, CALL) else {
+        return NO_CASE;
+    };
+    if !has_size(CALL, c, a, 1) {
+        return NO_CASE;
     }
-    let Leaf::At { from, to } = field_of(s, at, REQUEST) else {
+    let call = octets::octet_at(s, c);
+    if call == SEARCH {
+        return look_up_at(s, sheet, a);
+    }
+    let Leaf::At { from, to } = field_of(s, a, REQUEST) else {
         return NO_CASE;
     };
     let answer = resolved(sheet, &s[from..to], call, out);
@@ -140,8 +147,8 @@ fn tell(done: u32, answered: u32, sum: u32) {
     text(b"\n");
 }
 
-// All cases from a place on, so often.
-fn answer_all(s: &[u8], sheet: &[u8], from: usize, times: u32, call: u8, out: &mut [u8])
+// All cases from a place on, so often. A case that is none ends the program.
+fn answer_all(s: &[u8], sheet: &[u8], from: usize, times: u32, out: &mut [u8])
     requires { ⌜ from ≤ length (now s) ⌝ }
 {
     let mut done = 0;
@@ -150,7 +157,7 @@ fn answer_all(s: &[u8], sheet: &[u8], from: usize, times: u32, call: u8, out: &m
     let mut left = times;
     let mut at = from;
     while left != 0 {
-        let case = answer_at(s, sheet, at, call, out);
+        let case = answer_at(s, sheet, at, out);
         if case.next <= at {
             return;
         }
@@ -171,18 +178,11 @@ fn run(s: &[u8], out: &mut [u8]) {
     let Leaf::At { from, to } = field_of(s, 0, SHEET) else {
         return;
     };
-    let Leaf::At { from: n, to: m } = field_of(s, to, TIMES) else {
+    let Leaf::At { from: n, to: cases } = field_of(s, to, TIMES) else {
         return;
     };
-    if !has_size(TIMES, n, m, 4) {
-        return;
-    }
-    let times = octets::u32_at(s, n);
-    let Leaf::At { from: c, to: cases } = field_of(s, m, CALL) else {
-        return;
-    };
-    if has_size(CALL, c, cases, 1) {
-        answer_all(s, &s[from..to], cases, times, octets::octet_at(s, c), out);
+    if has_size(TIMES, n, cases, 4) {
+        answer_all(s, &s[from..to], cases, octets::u32_at(s, n), out);
     }
 }
 

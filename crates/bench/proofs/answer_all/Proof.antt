@@ -7,11 +7,11 @@ use Rattle.bench.proofs.answer_all.Statement.{statement}
 use Rattle.bench.proofs.answer_all.Tie as tie
 
 abbrev Inv-loop : tie.InvT-loop
-Inv-loop s sheet from times call out₀ done₀ answered₀ sum₀ left₀ at₀ out done answered sum left at =
+Inv-loop s sheet from times out₀ done₀ answered₀ sum₀ left₀ at₀ out done answered sum left at =
     (length out ≡ length out₀) × (at ≤ length s)
 
 abbrev μ-loop : tie.MeasureT-loop
-μ-loop s sheet from times call out₀ done₀ answered₀ sum₀ left₀ at₀ out done answered sum left at =
+μ-loop s sheet from times out₀ done₀ answered₀ sum₀ left₀ at₀ out done answered sum left at =
     ahead (length s) left at
 
 pub answer-all-spec : {M : Type 1} → statement M

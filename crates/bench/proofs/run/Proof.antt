@@ -1,9 +1,8 @@
 -- `bench::run` meets its contract.
 -- Assumes nothing.
-use Rattle.basis.proofs.Kit.{needs, not-false}
-use Rattle.field.proofs.LeafLaws.{leaf-ordered, leaf-inside}
+use Rattle.basis.proofs.Kit.{needs}
 use Rattle.console.proofs.InputLaws.{payload-holds}
-use Rattle.bench.proofs.CaseLaws.{byte-held}
+use Rattle.bench.proofs.CaseLaws.{place-laws}
 use Rattle.bench.proofs.run.Statement.{statement}
 use Rattle.bench.proofs.run.Tie as tie
 
@@ -13,23 +12,16 @@ run-spec = tie.close (tie.spec
     (λ c. search)
     (λ c. search)
     (λ c. search)
-    (λ c κs. search leaf-inside)
+    (λ c κs. search place-laws)
     (λ c. search)
     (λ c. search)
     (λ c. search)
-    (λ c κs. search leaf-ordered)
-    (λ c. search)
-    (λ c κs. search (payload-holds, not-false))
-    (λ c κs. search leaf-inside)
-    (λ c. search)
-    (λ c. search)
-    (λ c. search)
-    (λ c κs. search leaf-ordered)
-    (λ c. search leaf-ordered)
-    (λ c. search leaf-ordered)
-    (λ c. search leaf-inside)
-    (λ c κs. search byte-held)
-    (λ c κs. search leaf-inside)
-    (λ c. search)
+    (λ c κs. search place-laws)
+    (λ c. search place-laws)
+    (λ c. search place-laws)
+    (λ c. search place-laws)
+    (λ c κs. search payload-holds)
+    (λ c κs. search place-laws)
+    (λ c. search needs)
     (λ c. search)
     (λ c. search))
