@@ -17,7 +17,7 @@ use Rattle.emit.proofs.WriteLaws.{sets-front}
 use Rattle.judged.specs.declared.Stop.{Stop}
 use Rattle.judged.specs.declared.Judged.{Judged}
 use Rattle.judged.specs.declared.Judged.the-variants.{Fine, Absent, Refused}
-use Rattle.judged.specs.Judged.{Judges, fine, absent, refuses, answerIn}
+use Rattle.judged.specs.inner.Answering.{Judges, fine, absent, refuses, answerIn}
 
 -- ---- answer_in
 module _ (room : ℕ) (v : Judged) (a : Answer) where

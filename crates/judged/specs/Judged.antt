@@ -1,31 +1,11 @@
--- The verdict on a request, and what is answered of it in a room, from 01's "Replies".
+-- Where a request is refused.
 --
---         nowhere w ==  the refusal w, nowhere in the request
---        Judges o v <-> v is the verdict on what comes to the outcome o
---   answerIn room v ==  what is answered of the verdict v, where there is room for so many bytes
+--   nowhere w == the refusal w, nowhere in the request
 --
 -- Assumes nothing.
-use Rattle.basis.specs.Kit.{true, false, List, ℕ, ltb, length}
 use Rattle.reply.specs.declared.Refusal.{Refusal}
-use Rattle.reply.specs.declared.Refusal.the-variants.{NoRoom}
-use Rattle.reply.specs.declared.Answer.{Answer}
-use Rattle.reply.specs.Reply.{refusedBy, doneWith, absentAnswer}
-use Rattle.reply.specs.Outcome.{Outcome, refuse, nothing, give}
 use Rattle.judged.specs.declared.Stop.{Stop}
 use Rattle.judged.specs.declared.Place.the-variants.{Nowhere}
-use Rattle.judged.specs.declared.Judged.{Judged}
-use Rattle.judged.specs.declared.Judged.the-variants.{Fine, Absent, Refused}
 
 abbrev pub nowhere : Refusal → Stop
 nowhere w = record { place = Nowhere; why = w }
-
-pub data Judges : Outcome ℕ → Judged → Type 0 where
-  fine : (bytes : List ℕ) → Judges (give bytes) (Fine (length bytes))
-  absent : Judges nothing Absent
-  refuses : (e : Stop) → Judges (refuse (e .why)) (Refused e)
-
--- 17 "comes only when all else has passed" [REPLY-6]
-unfoldable pub answerIn : (room : ℕ) → Judged → Answer
-answerIn room (Fine n) = elim (ltb room n) [ true ↦ refusedBy NoRoom | false ↦ doneWith n ]
-answerIn room Absent = absentAnswer
-answerIn room (Refused e) = refusedBy (e .why)

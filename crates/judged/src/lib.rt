@@ -1,7 +1,8 @@
 // The verdict on a request, before there is any room: how many bytes it comes to, Absent, or why it is refused and where. And what is answered
 // of a verdict in a room, so that NoRoom comes only when all else has passed.
 ghost use Rattle.basis.specs.Kit.{_≡_};
-ghost use Rattle.judged.specs.Judged.{nowhere as nowhereOf, answerIn};
+ghost use Rattle.judged.specs.Judged.{nowhere as nowhereOf};
+ghost use Rattle.judged.specs.inner.Answering.{answerIn};
 use reply::Answer;
 use reply::Refusal;
 

@@ -7,7 +7,7 @@ use Rattle.reply.specs.declared.Answer.{Answer}
 use Rattle.reply.specs.Outcome.{Outcome, give, Answered}
 use Rattle.judged.specs.declared.Stop.{Stop}
 use Rattle.judged.specs.declared.Judged.the-variants as judged
-use Rattle.judged.specs.Judged.{Judges, fine, absent, refuses, answerIn}
+use Rattle.judged.specs.inner.Answering.{Judges, fine, absent, refuses, answerIn}
 use Rattle.judged.proofs.JudgedLaws.{judged-absent, judged-refused, granted-within, judged-written}
 use Rattle.records.specs.Records.{Recs, append, encode}
 use Rattle.lookups.specs.Lookups.{walking}
