@@ -16,18 +16,18 @@ abbrev μ-loop : tie.MeasureT-loop
 
 pub answer-all-spec : {M : Type 1} → statement M
 answer-all-spec = tie.close (tie.spec Inv-loop μ-loop
-    (λ c. search needs)
+    (λ c. search)
     (λ c κs. search)
-    (λ c. search needs)
+    (λ c. search)
     (λ c. search)
     (λ c κs. search)
     (λ c κs. search)
     (λ c κs. search)
     (λ c. search needs)
     (λ c. search round-laws)
-    (λ c. search needs)
+    (λ c. search)
     (λ c. search round-laws)
-    (λ c. search needs)
+    (λ c. search)
     (λ c κs. search)
-    (λ c. search needs)
+    (λ c. search)
     (λ c. search))

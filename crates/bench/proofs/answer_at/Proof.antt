@@ -26,5 +26,5 @@ answer-at-spec = tie.close (tie.spec
     (λ c κs. search)
     (λ c. search)
     (λ c. search needs)
-    (λ c. search needs)
+    (λ c. search)
     (λ c. search place-laws))

@@ -13,11 +13,11 @@ abbrev μ-loop : tie.MeasureT-loop
 
 pub mixed-spec : {M : Type 1} → statement M
 mixed-spec = tie.close (tie.spec Inv-loop μ-loop
-    (λ c κs. search needs)
+    (λ c κs. search)
     (λ c. search needs)
-    (λ c κs. search needs)
-    (λ c κs. search needs)
-    (λ c. search needs)
+    (λ c κs. search)
+    (λ c κs. search)
+    (λ c. search)
     (λ c κs. search needs)
     (λ c. search needs)
     (λ c. search needs)

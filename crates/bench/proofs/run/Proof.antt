@@ -22,6 +22,6 @@ run-spec = tie.close (tie.spec
     (λ c. search place-laws)
     (λ c κs. search payload-holds)
     (λ c κs. search place-laws)
-    (λ c. search needs)
+    (λ c. search)
     (λ c. search)
     (λ c. search))

@@ -7,11 +7,11 @@ use Rattle.declform.proofs.good_shape.Tie as tie
 
 pub good-shape-spec : {M : Type 1} → statement M
 good-shape-spec = tie.close (tie.spec
-    (λ c. search (needs, shape-is))
-    (λ c κs. search (needs, shape-is))
-    (λ c. search (needs, shape-is))
-    (λ c κs. search (needs, shape-is))
-    (λ c. search (needs, shape-is))
-    (λ c κs. search (needs, shape-is))
-    (λ c κs. search (needs, shape-is))
-    (λ c. search (needs, shape-is)))
+    (λ c. search needs)
+    (λ c κs. search)
+    (λ c. search needs)
+    (λ c κs. search)
+    (λ c. search needs)
+    (λ c κs. search)
+    (λ c κs. search)
+    (λ c. search shape-is))

@@ -7,11 +7,11 @@ use Rattle.declform.proofs.good_type_path.Tie as tie
 
 pub good-type-path-spec : {M : Type 1} → statement M
 good-type-path-spec = tie.close (tie.spec
-    (λ c. search (needs, type-path-laws))
-    (λ c κs. search (needs, type-path-laws))
-    (λ c. search (needs, type-path-laws))
-    (λ c. search (needs, type-path-laws))
-    (λ c. search (needs, type-path-laws))
-    (λ c. search (needs, type-path-laws))
-    (λ c κs. search (needs, type-path-laws))
-    (λ c. search (needs, type-path-laws)))
+    (λ c. search needs)
+    (λ c κs. search)
+    (λ c. search type-path-laws)
+    (λ c. search)
+    (λ c. search)
+    (λ c. search)
+    (λ c κs. search)
+    (λ c. search type-path-laws))

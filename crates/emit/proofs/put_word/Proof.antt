@@ -7,8 +7,8 @@ use Rattle.emit.proofs.put_word.Tie as tie
 
 pub put-word-spec : {M : Type 1} → statement M
 put-word-spec = tie.close (tie.spec
-    (λ c. search (needs, put-out))
-    (λ c. search (needs, put-out))
-    (λ c. search (needs, put-out))
-    (λ c. search (needs, put-out))
-    (λ c. search (needs, put-out)))
+    (λ c. search needs)
+    (λ c. search)
+    (λ c. search needs)
+    (λ c. search)
+    (λ c. search put-out))

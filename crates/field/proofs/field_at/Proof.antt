@@ -7,13 +7,13 @@ use Rattle.field.proofs.field_at.Tie as tie
 
 pub field-at-spec : {M : Type 1} → statement M
 field-at-spec = tie.close (tie.spec
-    (λ c. search (needs, field-laws))
-    (λ c. search (needs, field-laws))
-    (λ c. search (needs, field-laws))
-    (λ c. search (needs, field-laws))
-    (λ c κs. search (needs, field-laws))
-    (λ c. search (needs, field-laws))
-    (λ c. search (needs, field-laws))
-    (λ c. search (needs, field-laws))
-    (λ c. search (needs, field-laws))
-    (λ c. search (needs, field-laws)))
+    (λ c. search)
+    (λ c. search field-laws)
+    (λ c. search needs)
+    (λ c. search needs)
+    (λ c κs. search needs)
+    (λ c. search needs)
+    (λ c. search field-laws)
+    (λ c. search needs)
+    (λ c. search needs)
+    (λ c. search field-laws))

@@ -1,7 +1,6 @@
 -- `fullname::next_enum` meets its contract.
 -- Assumes nothing.
 use Rattle.basis.specs.Kit.{length}
-use Rattle.basis.proofs.Kit.{needs}
 use Rattle.basis.specs.First.{collect}
 use Rattle.scopes.specs.inner.Cursor.{ahead}
 use Rattle.fullname.specs.inner.Ahead.{kept, passing, declaresEnum}
@@ -18,14 +17,14 @@ abbrev μ-loop : tie.MeasureT-loop
 
 pub next-enum-spec : {M : Type 1} → statement M
 next-enum-spec = tie.close (tie.spec Inv-loop μ-loop
-    (λ c. search (needs, next-enum-laws))
-    (λ c κs. search (needs, next-enum-laws))
-    (λ c. search (needs, next-enum-laws))
-    (λ c. search (needs, next-enum-laws))
-    (λ c. search (needs, next-enum-laws))
-    (λ c κs. search (needs, next-enum-laws))
-    (λ c. search (needs, next-enum-laws))
-    (λ c. search (needs, next-enum-laws))
-    (λ c. search (needs, next-enum-laws))
-    (λ c. search (needs, next-enum-laws))
-    (λ c. search (needs, next-enum-laws)))
+    (λ c. search)
+    (λ c κs. search)
+    (λ c. search)
+    (λ c. search)
+    (λ c. search next-enum-laws)
+    (λ c κs. search next-enum-laws)
+    (λ c. search)
+    (λ c. search next-enum-laws)
+    (λ c. search)
+    (λ c. search next-enum-laws)
+    (λ c. search next-enum-laws))

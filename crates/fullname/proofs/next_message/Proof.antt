@@ -1,7 +1,6 @@
 -- `fullname::next_message` meets its contract.
 -- Assumes nothing.
 use Rattle.basis.specs.Kit.{length}
-use Rattle.basis.proofs.Kit.{needs}
 use Rattle.basis.specs.First.{collect}
 use Rattle.scopes.specs.inner.Cursor.{ahead}
 use Rattle.fullname.specs.inner.Ahead.{kept, passing, isMessage}
@@ -18,11 +17,11 @@ abbrev μ-loop : tie.MeasureT-loop
 
 pub next-message-spec : {M : Type 1} → statement M
 next-message-spec = tie.close (tie.spec Inv-loop μ-loop
-    (λ c. search (needs, next-message-laws))
-    (λ c κs. search (needs, next-message-laws))
-    (λ c. search (needs, next-message-laws))
-    (λ c. search (needs, next-message-laws))
-    (λ c. search (needs, next-message-laws))
-    (λ c. search (needs, next-message-laws))
-    (λ c. search (needs, next-message-laws))
-    (λ c. search (needs, next-message-laws)))
+    (λ c. search)
+    (λ c κs. search)
+    (λ c. search)
+    (λ c. search)
+    (λ c. search next-message-laws)
+    (λ c. search next-message-laws)
+    (λ c. search next-message-laws)
+    (λ c. search next-message-laws))

@@ -1,7 +1,6 @@
 -- `messageform::check_enum` meets its contract.
 -- Assumes nothing.
 use Rattle.basis.specs.Kit.{_-_}
-use Rattle.basis.proofs.Kit.{needs}
 use Rattle.field.proofs.Rest.{Rest}
 use Rattle.messageform.specs.Form.{judgeEnum}
 use Rattle.messageform.proofs.MessageLaws.{values, enum-laws}
@@ -16,19 +15,19 @@ abbrev μ-loop : tie.MeasureT-loop
 
 pub check-enum-spec : {M : Type 1} → statement M
 check-enum-spec = tie.close (tie.spec Inv-loop μ-loop
-    (λ c κs. search (needs, enum-laws))
-    (λ c. search (needs, enum-laws))
-    (λ c. search (needs, enum-laws))
-    (λ c. search (needs, enum-laws))
-    (λ c. search (needs, enum-laws))
-    (λ c κs. search (needs, enum-laws))
-    (λ c. search (needs, enum-laws))
-    (λ c. search (needs, enum-laws))
-    (λ c. search (needs, enum-laws))
-    (λ c κs. search (needs, enum-laws))
-    (λ c. search (needs, enum-laws))
-    (λ c. search (needs, enum-laws))
-    (λ c. search (needs, enum-laws))
-    (λ c. search (needs, enum-laws))
-    (λ c. search (needs, enum-laws))
-    (λ c. search (needs, enum-laws)))
+    (λ c κs. search)
+    (λ c. search)
+    (λ c. search)
+    (λ c. search enum-laws)
+    (λ c. search enum-laws)
+    (λ c κs. search)
+    (λ c. search)
+    (λ c. search)
+    (λ c. search enum-laws)
+    (λ c κs. search enum-laws)
+    (λ c. search)
+    (λ c. search enum-laws)
+    (λ c. search)
+    (λ c. search enum-laws)
+    (λ c. search enum-laws)
+    (λ c. search enum-laws))

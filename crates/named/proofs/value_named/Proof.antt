@@ -1,7 +1,6 @@
 -- `named::value_named` meets its contract.
 -- Assumes nothing.
 use Rattle.basis.specs.Kit.{_-_}
-use Rattle.basis.proofs.Kit.{needs}
 use Rattle.sheet.specs.declared.declaration.Valued.the-variants.{NoValue}
 use Rattle.scope.specs.inner.Steps.{tellsValued, firstOf, valueNamedAt}
 use Rattle.field.proofs.Seek.{Seeking}
@@ -17,15 +16,15 @@ abbrev μ-loop : tie.MeasureT-loop
 
 pub value-named-spec : {M : Type 1} → statement M
 value-named-spec = tie.close (tie.spec Inv-loop μ-loop
-    (λ c. search (needs, value-named-laws))
-    (λ c κs. search (needs, value-named-laws))
-    (λ c. search (needs, value-named-laws))
-    (λ c. search (needs, value-named-laws))
-    (λ c. search (needs, value-named-laws))
-    (λ c κs. search (needs, value-named-laws))
-    (λ c. search (needs, value-named-laws))
-    (λ c. search (needs, value-named-laws))
-    (λ c. search (needs, value-named-laws))
-    (λ c. search (needs, value-named-laws))
-    (λ c. search (needs, value-named-laws))
-    (λ c. search (needs, value-named-laws)))
+    (λ c. search value-named-laws)
+    (λ c κs. search)
+    (λ c. search)
+    (λ c. search)
+    (λ c. search value-named-laws)
+    (λ c κs. search value-named-laws)
+    (λ c. search)
+    (λ c. search value-named-laws)
+    (λ c. search)
+    (λ c. search value-named-laws)
+    (λ c. search value-named-laws)
+    (λ c. search value-named-laws))

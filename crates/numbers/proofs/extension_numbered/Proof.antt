@@ -1,7 +1,6 @@
 -- `numbers::extension_numbered` meets its contract.
 -- Assumes nothing.
 use Rattle.basis.specs.Kit.{_-_}
-use Rattle.basis.proofs.Kit.{needs}
 use Rattle.field.proofs.Seek.{Seeking}
 use Rattle.sheet.specs.declared.declaration.Declared.the-variants.{NoDeclaration}
 use Rattle.numbers.specs.Number.{isExtensionOf}
@@ -19,15 +18,15 @@ abbrev μ-loop : tie.MeasureT-loop
 
 pub extension-numbered-spec : {M : Type 1} → statement M
 extension-numbered-spec = tie.close (tie.spec Inv-loop μ-loop
-    (λ c. search (needs, extension-numbered-laws))
-    (λ c κs. search (needs, extension-numbered-laws))
-    (λ c. search (needs, extension-numbered-laws))
-    (λ c. search (needs, extension-numbered-laws))
-    (λ c. search (needs, extension-numbered-laws))
-    (λ c κs. search (needs, extension-numbered-laws))
-    (λ c. search (needs, extension-numbered-laws))
-    (λ c. search (needs, extension-numbered-laws))
-    (λ c. search (needs, extension-numbered-laws))
-    (λ c. search (needs, extension-numbered-laws))
-    (λ c. search (needs, extension-numbered-laws))
-    (λ c. search (needs, extension-numbered-laws)))
+    (λ c. search extension-numbered-laws)
+    (λ c κs. search)
+    (λ c. search)
+    (λ c. search)
+    (λ c. search extension-numbered-laws)
+    (λ c κs. search extension-numbered-laws)
+    (λ c. search)
+    (λ c. search extension-numbered-laws)
+    (λ c. search)
+    (λ c. search extension-numbered-laws)
+    (λ c. search extension-numbered-laws)
+    (λ c. search extension-numbered-laws))

@@ -1,7 +1,6 @@
 -- `numbers::field_numbered` meets its contract.
 -- Assumes nothing.
 use Rattle.basis.specs.Kit.{_-_}
-use Rattle.basis.proofs.Kit.{needs}
 use Rattle.sheet.specs.Table.{fieldTag}
 use Rattle.field.proofs.Seek.{Seeking}
 use Rattle.sheet.specs.declared.declaration.Declared.the-variants.{NoDeclaration}
@@ -21,15 +20,15 @@ abbrev μ-loop : tie.MeasureT-loop
 
 pub field-numbered-spec : {M : Type 1} → statement M
 field-numbered-spec = tie.close (tie.spec Inv-loop μ-loop
-    (λ c. search (needs, field-numbered-laws))
-    (λ c κs. search (needs, field-numbered-laws))
-    (λ c. search (needs, field-numbered-laws))
-    (λ c. search (needs, field-numbered-laws))
-    (λ c. search (needs, field-numbered-laws))
-    (λ c κs. search (needs, field-numbered-laws))
-    (λ c. search (needs, field-numbered-laws))
-    (λ c. search (needs, field-numbered-laws))
-    (λ c. search (needs, field-numbered-laws))
-    (λ c. search (needs, field-numbered-laws))
-    (λ c. search (needs, field-numbered-laws))
-    (λ c. search (needs, field-numbered-laws)))
+    (λ c. search field-numbered-laws)
+    (λ c κs. search)
+    (λ c. search)
+    (λ c. search)
+    (λ c. search field-numbered-laws)
+    (λ c κs. search field-numbered-laws)
+    (λ c. search)
+    (λ c. search field-numbered-laws)
+    (λ c. search)
+    (λ c. search field-numbered-laws)
+    (λ c. search field-numbered-laws)
+    (λ c. search field-numbered-laws))

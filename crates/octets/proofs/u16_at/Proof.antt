@@ -7,9 +7,9 @@ use Rattle.octets.proofs.u16_at.Tie as tie
 
 pub u16-at-spec : {M : Type 1} → statement M
 u16-at-spec = tie.close (tie.spec
-    (λ c κs. search (needs, big-laws))
-    (λ c. search (needs, big-laws))
-    (λ c. search (needs, big-laws))
-    (λ c κs. search (needs, big-laws))
-    (λ c. search (needs, big-laws))
+    (λ c κs. search needs)
+    (λ c. search needs)
+    (λ c. search needs)
+    (λ c κs. search needs)
+    (λ c. search needs)
     (λ c. search (needs, big-laws)))

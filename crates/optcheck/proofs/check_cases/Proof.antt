@@ -2,7 +2,6 @@
 -- Assumes nothing.
 use Rattle.basis.specs.Kit.{_-_, _≤_, length}
 use Rattle.basis.proofs.Kit.{needs}
-use Rattle.optcheck.proofs.CaseLaws.{case-laws}
 use Rattle.optcheck.proofs.check_cases.Statement.{statement}
 use Rattle.optcheck.proofs.check_cases.Tie as tie
 
@@ -14,9 +13,9 @@ abbrev μ-loop : tie.MeasureT-loop
 
 pub check-cases-spec : {M : Type 1} → statement M
 check-cases-spec = tie.close (tie.spec Inv-loop μ-loop
-    (λ c. search (needs, case-laws))
-    (λ c κs. search (needs, case-laws))
-    (λ c. search (needs, case-laws))
-    (λ c. search (needs, case-laws))
-    (λ c. search (needs, case-laws))
-    (λ c. search (needs, case-laws)))
+    (λ c. search needs)
+    (λ c κs. search)
+    (λ c. search)
+    (λ c. search)
+    (λ c. search needs)
+    (λ c. search))

@@ -2,7 +2,6 @@
 -- Assumes nothing.
 use Rattle.basis.specs.Kit.{_≡_, _-_, _≤_, length}
 use Rattle.basis.proofs.Kit.{needs}
-use Rattle.optlower.proofs.CaseLaws.{case-laws}
 use Rattle.optlower.proofs.resolve_cases.Statement.{statement}
 use Rattle.optlower.proofs.resolve_cases.Tie as tie
 
@@ -14,11 +13,11 @@ abbrev μ-loop : tie.MeasureT-loop
 
 pub resolve-cases-spec : {M : Type 1} → statement M
 resolve-cases-spec = tie.close (tie.spec Inv-loop μ-loop
-    (λ c. search (needs, case-laws))
-    (λ c κs. search (needs, case-laws))
-    (λ c. search (needs, case-laws))
-    (λ c. search (needs, case-laws))
-    (λ c. search (needs, case-laws))
-    (λ c. search (needs, case-laws))
-    (λ c. search (needs, case-laws))
-    (λ c. search (needs, case-laws)))
+    (λ c. search needs)
+    (λ c κs. search)
+    (λ c. search)
+    (λ c. search)
+    (λ c. search)
+    (λ c. search)
+    (λ c. search needs)
+    (λ c. search))

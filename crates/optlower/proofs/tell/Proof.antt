@@ -7,11 +7,11 @@ use Rattle.optlower.proofs.tell.Tie as tie
 
 pub tell-spec : {M : Type 1} → statement M
 tell-spec = tie.close (tie.spec
-    (λ c. search (needs, case-laws))
-    (λ c κs. search (needs, case-laws))
-    (λ c. search (needs, case-laws))
-    (λ c. search (needs, case-laws))
-    (λ c κs. search (needs, case-laws))
-    (λ c. search (needs, case-laws))
-    (λ c κs. search (needs, case-laws))
-    (λ c. search (needs, case-laws)))
+    (λ c. search)
+    (λ c κs. search)
+    (λ c. search)
+    (λ c. search needs)
+    (λ c κs. search)
+    (λ c. search case-laws)
+    (λ c κs. search)
+    (λ c. search))

@@ -7,8 +7,8 @@ use Rattle.ranges.proofs.put.Tie as tie
 
 pub put-spec : {M : Type 1} → statement M
 put-spec = tie.close (tie.spec
-    (λ c. search (needs, put-out))
-    (λ c. search (needs, put-out))
-    (λ c. search (needs, put-out))
-    (λ c. search (needs, put-out))
-    (λ c. search (needs, put-out)))
+    (λ c. search needs)
+    (λ c. search)
+    (λ c. search needs)
+    (λ c. search needs)
+    (λ c. search put-out))

@@ -7,8 +7,8 @@ use Rattle.ranges.proofs.put_range.Tie as tie
 
 pub put-range-spec : {M : Type 1} → statement M
 put-range-spec = tie.close (tie.spec
-    (λ c κs. search (needs, range-put))
-    (λ c. search (needs, range-put))
-    (λ c κs. search (needs, range-put))
-    (λ c. search (needs, range-put))
-    (λ c. search (needs, range-put)))
+    (λ c κs. search)
+    (λ c. search needs)
+    (λ c κs. search)
+    (λ c. search)
+    (λ c. search range-put))

@@ -7,7 +7,7 @@ use Rattle.records.proofs.put_bytes.Tie as tie
 
 pub put-bytes-spec : {M : Type 1} → statement M
 put-bytes-spec = tie.close (tie.spec
-    (λ c κs. search (needs, bytes-laws))
-    (λ c κs. search (needs, bytes-laws))
-    (λ c. search (needs, bytes-laws))
-    (λ c. search (needs, bytes-laws)))
+    (λ c κs. search needs)
+    (λ c κs. search bytes-laws)
+    (λ c. search)
+    (λ c. search bytes-laws))

@@ -7,8 +7,8 @@ use Rattle.records.proofs.put_head.Tie as tie
 
 pub put-head-spec : {M : Type 1} → statement M
 put-head-spec = tie.close (tie.spec
-    (λ c κs. search (needs, tag-laws))
-    (λ c κs. search (needs, tag-laws))
-    (λ c κs. search (needs, tag-laws))
-    (λ c. search (needs, tag-laws))
-    (λ c. search (needs, tag-laws)))
+    (λ c κs. search)
+    (λ c κs. search needs)
+    (λ c κs. search tag-laws)
+    (λ c. search)
+    (λ c. search tag-laws))

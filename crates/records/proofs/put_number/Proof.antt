@@ -7,9 +7,9 @@ use Rattle.records.proofs.put_number.Tie as tie
 
 pub put-number-spec : {M : Type 1} → statement M
 put-number-spec = tie.close (tie.spec
-    (λ c κs. search (needs, tag-laws))
-    (λ c κs. search (needs, tag-laws))
-    (λ c κs. search (needs, tag-laws))
-    (λ c κs. search (needs, tag-laws))
-    (λ c. search (needs, tag-laws))
-    (λ c. search (needs, tag-laws)))
+    (λ c κs. search)
+    (λ c κs. search)
+    (λ c κs. search needs)
+    (λ c κs. search tag-laws)
+    (λ c. search)
+    (λ c. search tag-laws))

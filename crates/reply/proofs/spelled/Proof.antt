@@ -14,10 +14,10 @@ abbrev μ-loop : tie.MeasureT-loop
 
 pub spelled-spec : {M : Type 1} → statement M
 spelled-spec = tie.close (tie.spec Inv-loop μ-loop
-    (λ c. search (needs, spelling-laws))
-    (λ c. search (needs, spelling-laws))
-    (λ c. search (needs, spelling-laws))
-    (λ c. search (needs, spelling-laws))
-    (λ c. search (needs, spelling-laws))
-    (λ c. search (needs, spelling-laws))
+    (λ c. search needs)
+    (λ c. search)
+    (λ c. search needs)
+    (λ c. search needs)
+    (λ c. search needs)
+    (λ c. search spelling-laws)
     (λ c. search (needs, spelling-laws)))

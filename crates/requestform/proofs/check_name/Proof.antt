@@ -7,9 +7,9 @@ use Rattle.requestform.proofs.check_name.Tie as tie
 
 pub check-name-spec : {M : Type 1} → statement M
 check-name-spec = tie.close (tie.spec
-    (λ c κs. search (needs, name-laws))
-    (λ c. search (needs, name-laws))
-    (λ c. search (needs, name-laws))
-    (λ c κs. search (needs, name-laws))
-    (λ c. search (needs, name-laws))
-    (λ c. search (needs, name-laws)))
+    (λ c κs. search needs)
+    (λ c. search)
+    (λ c. search)
+    (λ c κs. search)
+    (λ c. search name-laws)
+    (λ c. search name-laws))

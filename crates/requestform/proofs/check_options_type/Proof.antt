@@ -1,12 +1,11 @@
 -- `requestform::check_options_type` meets its contract.
 -- Assumes nothing.
-use Rattle.basis.proofs.Kit.{needs}
 use Rattle.requestform.proofs.RequestLaws.{alone-laws}
 use Rattle.requestform.proofs.check_options_type.Statement.{statement}
 use Rattle.requestform.proofs.check_options_type.Tie as tie
 
 pub check-options-type-spec : {M : Type 1} → statement M
 check-options-type-spec = tie.close (tie.spec
-    (λ c κs. search needs)
-    (λ c κs. search needs)
-    (λ c. search (needs, alone-laws)))
+    (λ c κs. search)
+    (λ c κs. search)
+    (λ c. search alone-laws))

@@ -7,14 +7,14 @@ use Rattle.requestform.proofs.check_request.Tie as tie
 
 pub check-request-spec : {M : Type 1} → statement M
 check-request-spec = tie.close (tie.spec
-    (λ c. search (needs, request-laws))
+    (λ c. search request-laws)
+    (λ c κs. search needs)
+    (λ c. search)
+    (λ c. search)
+    (λ c. search request-laws)
     (λ c κs. search (needs, request-laws))
-    (λ c. search (needs, request-laws))
-    (λ c. search (needs, request-laws))
-    (λ c. search (needs, request-laws))
+    (λ c. search)
+    (λ c. search)
+    (λ c. search request-laws)
     (λ c κs. search (needs, request-laws))
-    (λ c. search (needs, request-laws))
-    (λ c. search (needs, request-laws))
-    (λ c. search (needs, request-laws))
-    (λ c κs. search (needs, request-laws))
-    (λ c. search (needs, request-laws)))
+    (λ c. search request-laws))

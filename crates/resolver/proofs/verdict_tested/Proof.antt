@@ -7,7 +7,7 @@ use Rattle.resolver.proofs.verdict_tested.Tie as tie
 
 pub verdict-tested-spec : {M : Type 1} → statement M
 verdict-tested-spec = tie.close (tie.spec
-    (λ c. search (needs, verdict-tested-laws))
-    (λ c κs. search (needs, verdict-tested-laws))
-    (λ c κs. search (needs, verdict-tested-laws))
-    (λ c. search (needs, verdict-tested-laws)))
+    (λ c. search)
+    (λ c κs. search needs)
+    (λ c κs. search)
+    (λ c. search verdict-tested-laws))

@@ -6,8 +6,8 @@ use Rattle.round.proofs.int_to_f32_bits.Tie as tie
 
 pub int-to-f32-bits-spec : {M : Type 1} → statement M
 int-to-f32-bits-spec = tie.close (tie.spec
-    (λ c κs. search (needs, sign-laws))
-    (λ c. search (needs, sign-laws))
-    (λ c. search (needs, sign-laws))
-    (λ c. search (needs, sign-laws))
-    (λ c. search (needs, sign-laws)))
+    (λ c κs. search)
+    (λ c. search sign-laws)
+    (λ c. search needs)
+    (λ c. search sign-laws)
+    (λ c. search sign-laws))

@@ -7,12 +7,12 @@ use Rattle.round.proofs.u64_to_f32_bits.Tie as tie
 pub u64-to-f32-bits-spec : {M : Type 1} → statement M
 u64-to-f32-bits-spec = tie.close (tie.spec
     (λ c. search (needs, int-laws))
-    (λ c κs. search (needs, int-laws))
-    (λ c. search (needs, int-laws))
-    (λ c. search (needs, int-laws))
-    (λ c κs. search (needs, int-laws))
-    (λ c. search (needs, int-laws))
-    (λ c. search (needs, int-laws))
+    (λ c κs. search needs)
+    (λ c. search needs)
+    (λ c. search)
+    (λ c κs. search needs)
+    (λ c. search needs)
+    (λ c. search needs)
     (λ c. search (needs, int-laws))
     (λ c. search (needs, int-laws))
     (λ c. search (needs, int-laws)))

@@ -7,8 +7,8 @@ use Rattle.scalars.proofs.float_on.Tie as tie
 
 pub float-on-spec : {M : Type 1} → statement M
 float-on-spec = tie.close (tie.spec
-    (λ c. search (needs, float-laws))
-    (λ c κs. search (needs, float-laws))
-    (λ c. search (needs, float-laws))
-    (λ c. search (needs, float-laws))
-    (λ c. search (needs, float-laws)))
+    (λ c. search float-laws)
+    (λ c κs. search)
+    (λ c. search needs)
+    (λ c. search float-laws)
+    (λ c. search float-laws))

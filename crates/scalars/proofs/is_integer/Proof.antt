@@ -1,12 +1,11 @@
 -- `scalars::is_integer` meets its contract.
 -- Assumes nothing.
-use Rattle.basis.proofs.Kit.{needs}
 use Rattle.scalars.proofs.ScalarLaws.{is-integer}
 use Rattle.scalars.proofs.is_integer.Statement.{statement}
 use Rattle.scalars.proofs.is_integer.Tie as tie
 
 pub is-integer-spec : {M : Type 1} → statement M
 is-integer-spec = tie.close (tie.spec
-    (λ c κs. search needs)
-    (λ c κs. search needs)
-    (λ c. search (needs, is-integer)))
+    (λ c κs. search)
+    (λ c κs. search)
+    (λ c. search is-integer))

@@ -1,10 +1,9 @@
 -- `scalars::is_small` meets its contract.
 -- Assumes nothing.
-use Rattle.basis.proofs.Kit.{needs}
 use Rattle.scalars.proofs.ScalarLaws.{is-small}
 use Rattle.scalars.proofs.is_small.Statement.{statement}
 use Rattle.scalars.proofs.is_small.Tie as tie
 
 pub is-small-spec : {M : Type 1} → statement M
 is-small-spec = tie.close (tie.spec
-    (λ c. search (needs, is-small)))
+    (λ c. search is-small))

@@ -7,8 +7,8 @@ use Rattle.scalars.proofs.pattern_of.Tie as tie
 
 pub pattern-of-spec : {M : Type 1} → statement M
 pattern-of-spec = tie.close (tie.spec
-    (λ c. search (needs, pattern-laws))
-    (λ c. search (needs, pattern-laws))
-    (λ c. search (needs, pattern-laws))
-    (λ c. search (needs, pattern-laws))
-    (λ c. search (needs, pattern-laws)))
+    (λ c. search pattern-laws)
+    (λ c. search needs)
+    (λ c. search needs)
+    (λ c. search pattern-laws)
+    (λ c. search pattern-laws))

@@ -15,13 +15,13 @@ abbrev μ-loop : tie.MeasureT-loop
 
 pub next-scope-spec : {M : Type 1} → statement M
 next-scope-spec = tie.close (tie.spec Inv-loop μ-loop
-    (λ c. search (needs, scopes-laws))
-    (λ c κs. search (needs, scopes-laws))
-    (λ c. search (needs, scopes-laws))
-    (λ c. search (needs, scopes-laws))
-    (λ c. search (needs, scopes-laws))
-    (λ c. search (needs, scopes-laws))
-    (λ c κs. search (needs, scopes-laws))
-    (λ c. search (needs, scopes-laws))
-    (λ c. search (needs, scopes-laws))
-    (λ c. search (needs, scopes-laws)))
+    (λ c. search)
+    (λ c κs. search)
+    (λ c. search)
+    (λ c. search scopes-laws)
+    (λ c. search)
+    (λ c. search scopes-laws)
+    (λ c κs. search)
+    (λ c. search scopes-laws)
+    (λ c. search needs)
+    (λ c. search scopes-laws))

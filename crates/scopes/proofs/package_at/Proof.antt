@@ -1,12 +1,11 @@
 -- `scopes::package_at` meets its contract.
 -- Assumes nothing.
-use Rattle.basis.proofs.Kit.{needs}
 use Rattle.scopes.proofs.ScopesLaws.{package-laws}
 use Rattle.scopes.proofs.package_at.Statement.{statement}
 use Rattle.scopes.proofs.package_at.Tie as tie
 
 pub package-at-spec : {M : Type 1} → statement M
 package-at-spec = tie.close (tie.spec
-    (λ c. search (needs, package-laws))
-    (λ c κs. search (needs, package-laws))
-    (λ c. search (needs, package-laws)))
+    (λ c. search package-laws)
+    (λ c κs. search)
+    (λ c. search package-laws))

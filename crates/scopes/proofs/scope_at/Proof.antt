@@ -1,20 +1,19 @@
 -- `scopes::scope_at` meets its contract.
 -- Assumes nothing.
-use Rattle.basis.proofs.Kit.{needs}
 use Rattle.scopes.proofs.ScopesLaws.{scope-laws}
 use Rattle.scopes.proofs.scope_at.Statement.{statement}
 use Rattle.scopes.proofs.scope_at.Tie as tie
 
 pub scope-at-spec : {M : Type 1} → statement M
 scope-at-spec = tie.close (tie.spec
-    (λ c. search (needs, scope-laws))
-    (λ c. search (needs, scope-laws))
-    (λ c. search (needs, scope-laws))
-    (λ c κs. search (needs, scope-laws))
-    (λ c. search (needs, scope-laws))
-    (λ c. search (needs, scope-laws))
-    (λ c. search (needs, scope-laws))
-    (λ c κs. search (needs, scope-laws))
-    (λ c. search (needs, scope-laws))
-    (λ c κs. search (needs, scope-laws))
-    (λ c. search (needs, scope-laws)))
+    (λ c. search)
+    (λ c. search)
+    (λ c. search)
+    (λ c κs. search)
+    (λ c. search scope-laws)
+    (λ c. search scope-laws)
+    (λ c. search scope-laws)
+    (λ c κs. search)
+    (λ c. search scope-laws)
+    (λ c κs. search scope-laws)
+    (λ c. search scope-laws))

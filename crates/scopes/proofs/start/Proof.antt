@@ -1,11 +1,10 @@
 -- `scopes::start` meets its contract.
 -- Assumes nothing.
-use Rattle.basis.proofs.Kit.{needs}
 use Rattle.scopes.proofs.ScopesLaws.{start-laws}
 use Rattle.scopes.proofs.start.Statement.{statement}
 use Rattle.scopes.proofs.start.Tie as tie
 
 pub start-spec : {M : Type 1} → statement M
 start-spec = tie.close (tie.spec
-    (λ c. search (needs, start-laws))
-    (λ c. search (needs, start-laws)))
+    (λ c. search start-laws)
+    (λ c. search start-laws))

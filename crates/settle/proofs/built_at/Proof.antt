@@ -1,18 +1,17 @@
 -- `settle::built_at` meets its contract.
 -- Assumes nothing.
 use Rattle.settle.proofs.BuiltinPartLaws.{built-at-laws}
-use Rattle.basis.proofs.Kit.{needs}
 use Rattle.settle.proofs.built_at.Statement.{statement}
 use Rattle.settle.proofs.built_at.Tie as tie
 
 pub built-at-spec : {M : Type 1} → statement M
 built-at-spec = tie.close (tie.spec
-    (λ c κs. search (needs, built-at-laws))
-    (λ c. search (needs, built-at-laws))
-    (λ c. search (needs, built-at-laws))
-    (λ c. search (needs, built-at-laws))
-    (λ c. search (needs, built-at-laws))
-    (λ c. search (needs, built-at-laws))
-    (λ c. search (needs, built-at-laws))
-    (λ c κs. search (needs, built-at-laws))
-    (λ c. search (needs, built-at-laws)))
+    (λ c κs. search)
+    (λ c. search)
+    (λ c. search)
+    (λ c. search built-at-laws)
+    (λ c. search)
+    (λ c. search)
+    (λ c. search)
+    (λ c κs. search built-at-laws)
+    (λ c. search built-at-laws))

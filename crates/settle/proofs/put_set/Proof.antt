@@ -7,11 +7,11 @@ use Rattle.settle.proofs.put_set.Tie as tie
 
 pub put-set-spec : {M : Type 1} → statement M
 put-set-spec = tie.close (tie.spec
-    (λ c κs. search (needs, put-set-laws))
-    (λ c. search (needs, put-set-laws))
-    (λ c. search (needs, put-set-laws))
-    (λ c. search (needs, put-set-laws))
+    (λ c κs. search)
+    (λ c. search)
+    (λ c. search)
+    (λ c. search put-set-laws)
     (λ c κs. (search (needs, put-set-laws), (search (needs, put-set-laws), (search (needs, put-set-laws), search (needs, put-set-laws)))))
-    (λ c κs. search (needs, put-set-laws))
-    (λ c. search (needs, put-set-laws))
-    (λ c. search (needs, put-set-laws)))
+    (λ c κs. search)
+    (λ c. search)
+    (λ c. search put-set-laws))

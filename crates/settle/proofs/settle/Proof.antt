@@ -7,12 +7,12 @@ use Rattle.settle.proofs.settle.Tie as tie
 
 pub settle-spec : {M : Type 1} → statement M
 settle-spec = tie.close (tie.spec
-    (λ c κs. search (needs, settle-laws))
-    (λ c. search (needs, settle-laws))
-    (λ c. search (needs, settle-laws))
-    (λ c κs. search (needs, settle-laws))
-    (λ c. search (needs, settle-laws))
-    (λ c. search (needs, settle-laws))
+    (λ c κs. search)
+    (λ c. search)
+    (λ c. search)
+    (λ c κs. search)
+    (λ c. search)
+    (λ c. search settle-laws)
     (λ c κs. (search (needs, settle-laws), (search (needs, settle-laws), (search (needs, settle-laws), search (needs, settle-laws)))))
-    (λ c κs. search (needs, settle-laws))
-    (λ c. search (needs, settle-laws)))
+    (λ c κs. search)
+    (λ c. search settle-laws))

@@ -1,22 +1,21 @@
 -- `settle::settle_named` meets its contract.
 -- Assumes nothing.
 use Rattle.settle.proofs.SettleLaws.{settle-named-laws}
-use Rattle.basis.proofs.Kit.{needs}
 use Rattle.settle.proofs.settle_named.Statement.{statement}
 use Rattle.settle.proofs.settle_named.Tie as tie
 
 pub settle-named-spec : {M : Type 1} → statement M
 settle-named-spec = tie.close (tie.spec
-    (λ c. search (needs, settle-named-laws))
-    (λ c. search (needs, settle-named-laws))
-    (λ c. search (needs, settle-named-laws))
-    (λ c. search (needs, settle-named-laws))
-    (λ c. search (needs, settle-named-laws))
-    (λ c. search (needs, settle-named-laws))
-    (λ c κs. search (needs, settle-named-laws))
-    (λ c. search (needs, settle-named-laws))
-    (λ c. search (needs, settle-named-laws))
-    (λ c. search (needs, settle-named-laws))
-    (λ c. search (needs, settle-named-laws))
-    (λ c. search (needs, settle-named-laws))
-    (λ c. search (needs, settle-named-laws)))
+    (λ c. search)
+    (λ c. search)
+    (λ c. search)
+    (λ c. search)
+    (λ c. search)
+    (λ c. search)
+    (λ c κs. search settle-named-laws)
+    (λ c. search)
+    (λ c. search)
+    (λ c. search)
+    (λ c. search settle-named-laws)
+    (λ c. search)
+    (λ c. search settle-named-laws))

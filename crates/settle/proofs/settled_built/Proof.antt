@@ -7,11 +7,11 @@ use Rattle.settle.proofs.settled_built.Tie as tie
 
 pub settled-built-spec : {M : Type 1} → statement M
 settled-built-spec = tie.close (tie.spec
-    (λ c. search (needs, settled-built-laws))
-    (λ c. search (needs, settled-built-laws))
-    (λ c. search (needs, settled-built-laws))
-    (λ c. search (needs, settled-built-laws))
-    (λ c. search (needs, settled-built-laws))
-    (λ c. search (needs, settled-built-laws))
-    (λ c. search (needs, settled-built-laws))
-    (λ c. search (needs, settled-built-laws)))
+    (λ c. search)
+    (λ c. search)
+    (λ c. search needs)
+    (λ c. search needs)
+    (λ c. search)
+    (λ c. search settled-built-laws)
+    (λ c. search settled-built-laws)
+    (λ c. search settled-built-laws))

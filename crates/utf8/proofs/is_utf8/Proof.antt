@@ -14,10 +14,10 @@ abbrev μ-loop : tie.MeasureT-loop
 
 pub is-utf8-spec : {M : Type 1} → statement M
 is-utf8-spec = tie.close (tie.spec Inv-loop μ-loop
-    (λ c. search (needs, scan-laws))
-    (λ c κs. search (needs, scan-laws))
-    (λ c. search (needs, scan-laws))
-    (λ c. search (needs, scan-laws))
-    (λ c. search (needs, scan-laws))
-    (λ c. search (needs, scan-laws))
-    (λ c. search (needs, scan-laws)))
+    (λ c. search scan-laws)
+    (λ c κs. search)
+    (λ c. search scan-laws)
+    (λ c. search scan-laws)
+    (λ c. search needs)
+    (λ c. search scan-laws)
+    (λ c. search scan-laws))

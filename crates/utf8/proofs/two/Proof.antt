@@ -7,9 +7,9 @@ use Rattle.utf8.proofs.two.Tie as tie
 
 pub two-spec : {M : Type 1} → statement M
 two-spec = tie.close (tie.spec
-    (λ c. search (needs, two-laws))
-    (λ c κs. search (needs, two-laws))
-    (λ c κs. search (needs, two-laws))
-    (λ c. search (needs, two-laws))
-    (λ c. search (needs, two-laws))
-    (λ c. search (needs, two-laws)))
+    (λ c. search two-laws)
+    (λ c κs. search needs)
+    (λ c κs. search)
+    (λ c. search two-laws)
+    (λ c. search two-laws)
+    (λ c. search two-laws))

@@ -14,10 +14,10 @@ abbrev μ-loop : tie.MeasureT-loop
 
 pub ancestor-spec : {M : Type 1} → statement M
 ancestor-spec = tie.close (tie.spec Inv-loop μ-loop
-    (λ c. search (needs, climbed-laws))
-    (λ c κs. search (needs, climbed-laws))
-    (λ c. search (needs, climbed-laws))
-    (λ c. search (needs, climbed-laws))
-    (λ c. search (needs, climbed-laws))
-    (λ c. search (needs, climbed-laws))
-    (λ c. search (needs, climbed-laws)))
+    (λ c. search climbed-laws)
+    (λ c κs. search)
+    (λ c. search needs)
+    (λ c. search needs)
+    (λ c. search climbed-laws)
+    (λ c. search climbed-laws)
+    (λ c. search climbed-laws))

@@ -13,10 +13,10 @@ abbrev μ-loop : tie.MeasureT-loop
 
 pub hex-spec : {M : Type 1} → statement M
 hex-spec = tie.close (tie.spec Inv-loop μ-loop
+    (λ c. search)
+    (λ c. search)
+    (λ c κs. search)
     (λ c. search needs)
     (λ c. search needs)
-    (λ c κs. search needs)
-    (λ c. search needs)
-    (λ c. search needs)
-    (λ c. search needs)
-    (λ c. search needs))
+    (λ c. search)
+    (λ c. search))

@@ -7,9 +7,9 @@ use Rattle.console.proofs.output.size.Tie as tie
 
 pub size-spec : {M : Type 1} → statement M
 size-spec = tie.close (tie.spec
-    (λ c. search (needs, size-laws))
-    (λ c. search (needs, size-laws))
-    (λ c. search (needs, size-laws))
-    (λ c. search (needs, size-laws))
-    (λ c. search (needs, size-laws))
-    (λ c. search (needs, size-laws)))
+    (λ c. search size-laws)
+    (λ c. search size-laws)
+    (λ c. search size-laws)
+    (λ c. search size-laws)
+    (λ c. search size-laws)
+    (λ c. search needs))

@@ -7,6 +7,6 @@ use Rattle.constantform.proofs.leaves.is_bool.Tie as tie
 
 pub is-bool-spec : {M : Type 1} → statement M
 is-bool-spec = tie.close (tie.spec
-    (λ c. search (needs, bool-laws))
-    (λ c. search (needs, bool-laws))
-    (λ c. search (needs, bool-laws)))
+    (λ c. search bool-laws)
+    (λ c. search needs)
+    (λ c. search bool-laws))

@@ -1,7 +1,6 @@
 -- `counts::declarations::count` meets its contract.
 -- Assumes nothing.
 use Rattle.basis.specs.Kit.{_-_}
-use Rattle.basis.proofs.Kit.{needs}
 use Rattle.sheet.specs.Tree.{treeOf}
 use Rattle.counts.specs.Declarations.{filesHold}
 use Rattle.counts.specs.inner.Fields.{fileCount}
@@ -18,13 +17,13 @@ abbrev μ-loop : tie.MeasureT-loop
 
 pub count-spec : {M : Type 1} → statement M
 count-spec = tie.close (tie.spec Inv-loop μ-loop
-    (λ c. search (needs, files-count-laws))
-    (λ c κs. search (needs, files-count-laws))
-    (λ c. search (needs, files-count-laws))
-    (λ c. search (needs, files-count-laws))
-    (λ c. search (needs, files-count-laws))
-    (λ c κs. search (needs, files-count-laws))
-    (λ c. search (needs, files-count-laws))
-    (λ c. search (needs, files-count-laws))
-    (λ c. search (needs, files-count-laws))
-    (λ c. search (needs, files-count-laws)))
+    (λ c. search files-count-laws)
+    (λ c κs. search)
+    (λ c. search)
+    (λ c. search)
+    (λ c. search files-count-laws)
+    (λ c κs. search files-count-laws)
+    (λ c. search files-count-laws)
+    (λ c. search files-count-laws)
+    (λ c. search files-count-laws)
+    (λ c. search files-count-laws))

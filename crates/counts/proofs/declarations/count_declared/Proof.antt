@@ -7,8 +7,8 @@ use Rattle.counts.proofs.declarations.count_declared.Tie as tie
 
 pub count-declared-spec : {M : Type 1} → statement M
 count-declared-spec = tie.close (tie.spec
-    (λ c. search (needs, declared-count-laws))
-    (λ c. search (needs, declared-count-laws))
-    (λ c. search (needs, declared-count-laws))
-    (λ c κs. search (needs, declared-count-laws))
-    (λ c. search (needs, declared-count-laws)))
+    (λ c. search)
+    (λ c. search)
+    (λ c. search needs)
+    (λ c κs. search)
+    (λ c. search declared-count-laws))

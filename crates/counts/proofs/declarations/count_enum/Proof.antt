@@ -7,13 +7,13 @@ use Rattle.counts.proofs.declarations.count_enum.Tie as tie
 
 pub count-enum-spec : {M : Type 1} → statement M
 count-enum-spec = tie.close (tie.spec
-    (λ c κs. search (needs, enum-count-laws))
+    (λ c κs. search)
+    (λ c. search)
+    (λ c. search)
     (λ c. search (needs, enum-count-laws))
-    (λ c. search (needs, enum-count-laws))
-    (λ c. search (needs, enum-count-laws))
-    (λ c κs. search (needs, enum-count-laws))
-    (λ c κs. search (needs, enum-count-laws))
-    (λ c κs. search (needs, enum-count-laws))
-    (λ c. search (needs, enum-count-laws))
-    (λ c. search (needs, enum-count-laws))
-    (λ c. search (needs, enum-count-laws)))
+    (λ c κs. search)
+    (λ c κs. search)
+    (λ c κs. search enum-count-laws)
+    (λ c. search enum-count-laws)
+    (λ c. search enum-count-laws)
+    (λ c. search enum-count-laws))

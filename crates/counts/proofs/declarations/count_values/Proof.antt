@@ -18,13 +18,13 @@ abbrev μ-loop : tie.MeasureT-loop
 
 pub count-values-spec : {M : Type 1} → statement M
 count-values-spec = tie.close (tie.spec Inv-loop μ-loop
-    (λ c. search (needs, values-count-laws))
-    (λ c κs. search (needs, values-count-laws))
-    (λ c. search (needs, values-count-laws))
-    (λ c. search (needs, values-count-laws))
-    (λ c. search (needs, values-count-laws))
-    (λ c κs. search (needs, values-count-laws))
-    (λ c. search (needs, values-count-laws))
-    (λ c. search (needs, values-count-laws))
-    (λ c. search (needs, values-count-laws))
-    (λ c. search (needs, values-count-laws)))
+    (λ c. search values-count-laws)
+    (λ c κs. search)
+    (λ c. search)
+    (λ c. search)
+    (λ c. search values-count-laws)
+    (λ c κs. search values-count-laws)
+    (λ c. search needs)
+    (λ c. search values-count-laws)
+    (λ c. search values-count-laws)
+    (λ c. search values-count-laws))

@@ -1,7 +1,6 @@
 -- `counts::options::count_parts` meets its contract.
 -- Assumes nothing.
 use Rattle.basis.specs.Kit.{_-_}
-use Rattle.basis.proofs.Kit.{needs}
 use Rattle.request.specs.Request.{requestOf}
 use Rattle.counts.specs.Options.{partsOf}
 use Rattle.field.proofs.Tally.{Tally}
@@ -17,19 +16,19 @@ abbrev μ-loop : tie.MeasureT-loop
 
 pub count-parts-spec : {M : Type 1} → statement M
 count-parts-spec = tie.close (tie.spec Inv-loop μ-loop
-    (λ c κs. search (needs, names-laws))
-    (λ c. search (needs, names-laws))
-    (λ c. search (needs, names-laws))
-    (λ c. search (needs, names-laws))
-    (λ c. search (needs, names-laws))
-    (λ c κs. search (needs, names-laws))
-    (λ c. search (needs, names-laws))
-    (λ c. search (needs, names-laws))
-    (λ c. search (needs, names-laws))
-    (λ c κs. search (needs, names-laws))
-    (λ c. search (needs, names-laws))
-    (λ c. search (needs, names-laws))
-    (λ c. search (needs, names-laws))
-    (λ c. search (needs, names-laws))
-    (λ c. search (needs, names-laws))
-    (λ c. search (needs, names-laws)))
+    (λ c κs. search)
+    (λ c. search)
+    (λ c. search)
+    (λ c. search names-laws)
+    (λ c. search names-laws)
+    (λ c κs. search)
+    (λ c. search)
+    (λ c. search)
+    (λ c. search names-laws)
+    (λ c κs. search names-laws)
+    (λ c. search names-laws)
+    (λ c. search names-laws)
+    (λ c. search names-laws)
+    (λ c. search names-laws)
+    (λ c. search names-laws)
+    (λ c. search names-laws))

@@ -16,12 +16,12 @@ abbrev μ-loop : tie.MeasureT-loop
 
 pub count-parts-at-spec : {M : Type 1} → statement M
 count-parts-at-spec = tie.close (tie.spec Inv-loop μ-loop
-    (λ c. search (needs, parts-laws))
-    (λ c κs. search (needs, parts-laws))
-    (λ c. search (needs, parts-laws))
-    (λ c. search (needs, parts-laws))
-    (λ c. search (needs, parts-laws))
-    (λ c. search (needs, parts-laws))
-    (λ c. search (needs, parts-laws))
-    (λ c. search (needs, parts-laws))
-    (λ c. search (needs, parts-laws)))
+    (λ c. search parts-laws)
+    (λ c κs. search)
+    (λ c. search)
+    (λ c. search)
+    (λ c. search parts-laws)
+    (λ c. search needs)
+    (λ c. search parts-laws)
+    (λ c. search parts-laws)
+    (λ c. search parts-laws))

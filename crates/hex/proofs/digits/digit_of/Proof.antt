@@ -7,13 +7,13 @@ use Rattle.hex.proofs.digits.digit_of.Tie as tie
 
 pub digit-of-spec : {M : Type 1} → statement M
 digit-of-spec = tie.close (tie.spec
-    (λ c. search (needs, digit-laws))
-    (λ c. search (needs, digit-laws))
-    (λ c. search (needs, digit-laws))
-    (λ c. search (needs, digit-laws))
-    (λ c. search (needs, digit-laws))
-    (λ c. search (needs, digit-laws))
-    (λ c. search (needs, digit-laws))
-    (λ c. search (needs, digit-laws))
+    (λ c. search digit-laws)
+    (λ c. search digit-laws)
+    (λ c. search digit-laws)
+    (λ c. search needs)
+    (λ c. search digit-laws)
+    (λ c. search digit-laws)
+    (λ c. search needs)
+    (λ c. search digit-laws)
     (λ c. search (needs, digit-laws))
     (λ c. search (needs, digit-laws)))

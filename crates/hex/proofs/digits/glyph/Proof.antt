@@ -7,8 +7,8 @@ use Rattle.hex.proofs.digits.glyph.Tie as tie
 
 pub glyph-spec : {M : Type 1} → statement M
 glyph-spec = tie.close (tie.spec
-    (λ c. search (needs, glyph-laws))
-    (λ c. search (needs, glyph-laws))
-    (λ c. search (needs, glyph-laws))
-    (λ c. search (needs, glyph-laws))
-    (λ c. search (needs, glyph-laws)))
+    (λ c. search needs)
+    (λ c. search needs)
+    (λ c. search needs)
+    (λ c. search glyph-laws)
+    (λ c. search glyph-laws))

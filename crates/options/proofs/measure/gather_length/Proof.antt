@@ -7,7 +7,7 @@ use Rattle.options.proofs.measure.gather_length.Tie as tie
 
 pub gather-length-spec : {M : Type 1} → statement M
 gather-length-spec = tie.close (tie.spec
-    (λ c. search (needs, gather-length-laws))
+    (λ c. search)
     (λ c κs. (search (needs, gather-length-laws), (search (needs, gather-length-laws), (search (needs, gather-length-laws), search (needs, gather-length-laws)))))
-    (λ c. search (needs, gather-length-laws))
-    (λ c. search (needs, gather-length-laws)))
+    (λ c. search)
+    (λ c. search gather-length-laws))

@@ -7,6 +7,6 @@ use Rattle.options.proofs.measure.known_length.Tie as tie
 
 pub known-length-spec : {M : Type 1} → statement M
 known-length-spec = tie.close (tie.spec
-    (λ c. search (needs, known-length-laws))
+    (λ c. search)
     (λ c κs. (search (needs, known-length-laws), (search (needs, known-length-laws), (search (needs, known-length-laws), (search (needs, known-length-laws), (search (needs, known-length-laws), (search (needs, known-length-laws), search (needs, known-length-laws))))))))
-    (λ c. search (needs, known-length-laws)))
+    (λ c. search needs))

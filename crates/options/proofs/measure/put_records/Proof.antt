@@ -9,6 +9,6 @@ pub put-records-spec : {M : Type 1} → statement M
 put-records-spec = tie.close (tie.spec
     (λ c κs. (search (needs, put-records-laws), (search (needs, put-records-laws), (search (needs, put-records-laws), (search (needs, put-records-laws), (search (needs, put-records-laws), (search (needs, put-records-laws), search (needs, put-records-laws))))))))
     (λ c κs. (search (needs, put-records-laws), (search (needs, put-records-laws), (search (needs, put-records-laws), search (needs, put-records-laws)))))
-    (λ c. search (needs, put-records-laws))
-    (λ c. search (needs, put-records-laws))
-    (λ c. search (needs, put-records-laws)))
+    (λ c. search)
+    (λ c. search)
+    (λ c. search put-records-laws))

@@ -7,6 +7,6 @@ use Rattle.path.proofs.protobuf_abs_path.is_abs.Tie as tie
 
 pub is-abs-spec : {M : Type 1} → statement M
 is-abs-spec = tie.close (tie.spec
-    (λ c. search (needs, abs-laws))
-    (λ c. search (needs, abs-laws))
-    (λ c. search (needs, abs-laws)))
+    (λ c. search abs-laws)
+    (λ c. search needs)
+    (λ c. search abs-laws))

@@ -14,11 +14,11 @@ abbrev μ-loop : tie.MeasureT-loop
 
 pub all-word-spec : {M : Type 1} → statement M
 all-word-spec = tie.close (tie.spec Inv-loop μ-loop
-    (λ c. search (needs, words-laws))
-    (λ c. search (needs, words-laws))
-    (λ c κs. search (needs, words-laws))
-    (λ c. search (needs, words-laws))
-    (λ c. search (needs, words-laws))
-    (λ c. search (needs, words-laws))
-    (λ c. search (needs, words-laws))
-    (λ c. search (needs, words-laws)))
+    (λ c. search)
+    (λ c. search)
+    (λ c κs. search)
+    (λ c. search words-laws)
+    (λ c. search needs)
+    (λ c. search needs)
+    (λ c. search words-laws)
+    (λ c. search words-laws))

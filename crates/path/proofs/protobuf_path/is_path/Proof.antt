@@ -7,7 +7,7 @@ use Rattle.path.proofs.protobuf_path.is_path.Tie as tie
 
 pub is-path-spec : {M : Type 1} → statement M
 is-path-spec = tie.close (tie.spec
-    (λ c. search (needs, form-laws))
-    (λ c κs. search (needs, form-laws))
-    (λ c κs. search (needs, form-laws))
-    (λ c. search (needs, form-laws)))
+    (λ c. search form-laws)
+    (λ c κs. search)
+    (λ c κs. search needs)
+    (λ c. search form-laws))

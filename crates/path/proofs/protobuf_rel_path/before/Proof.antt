@@ -7,8 +7,8 @@ use Rattle.path.proofs.protobuf_rel_path.before.Tie as tie
 
 pub before-spec : {M : Type 1} → statement M
 before-spec = tie.close (tie.spec
-    (λ c. search (needs, before-laws))
-    (λ c. search (needs, before-laws))
-    (λ c. search (needs, before-laws))
-    (λ c. search (needs, before-laws))
-    (λ c. search (needs, before-laws)))
+    (λ c. search)
+    (λ c. search before-laws)
+    (λ c. search needs)
+    (λ c. search before-laws)
+    (λ c. search))

@@ -14,10 +14,10 @@ abbrev μ-loop : tie.MeasureT-loop
 
 pub component-end-spec : {M : Type 1} → statement M
 component-end-spec = tie.close (tie.spec Inv-loop μ-loop
-    (λ c. search (needs, ending-laws))
-    (λ c. search (needs, ending-laws))
-    (λ c. search (needs, ending-laws))
-    (λ c. search (needs, ending-laws))
-    (λ c. search (needs, ending-laws))
-    (λ c. search (needs, ending-laws))
-    (λ c. search (needs, ending-laws)))
+    (λ c. search)
+    (λ c. search)
+    (λ c. search ending-laws)
+    (λ c. search needs)
+    (λ c. search needs)
+    (λ c. search ending-laws)
+    (λ c. search ending-laws))

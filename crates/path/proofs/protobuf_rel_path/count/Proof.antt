@@ -14,11 +14,11 @@ abbrev μ-loop : tie.MeasureT-loop
 
 pub count-spec : {M : Type 1} → statement M
 count-spec = tie.close (tie.spec Inv-loop μ-loop
-    (λ c. search (needs, counted-laws))
-    (λ c. search (needs, counted-laws))
-    (λ c κs. search (needs, counted-laws))
-    (λ c. search (needs, counted-laws))
-    (λ c. search (needs, counted-laws))
-    (λ c. search (needs, counted-laws))
-    (λ c. search (needs, counted-laws))
-    (λ c. search (needs, counted-laws)))
+    (λ c. search counted-laws)
+    (λ c. search counted-laws)
+    (λ c κs. search)
+    (λ c. search needs)
+    (λ c. search counted-laws)
+    (λ c. search needs)
+    (λ c. search needs)
+    (λ c. search counted-laws))

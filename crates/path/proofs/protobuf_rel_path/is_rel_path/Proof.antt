@@ -7,6 +7,6 @@ use Rattle.path.proofs.protobuf_rel_path.is_rel_path.Tie as tie
 
 pub is-rel-path-spec : {M : Type 1} → statement M
 is-rel-path-spec = tie.close (tie.spec
-    (λ c. search (needs, form-laws))
-    (λ c κs. search (needs, form-laws))
-    (λ c. search (needs, form-laws)))
+    (λ c. search form-laws)
+    (λ c κs. search needs)
+    (λ c. search form-laws))

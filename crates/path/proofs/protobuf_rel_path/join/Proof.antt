@@ -8,11 +8,11 @@ use Rattle.path.proofs.protobuf_rel_path.join.Tie as tie
 
 pub join-spec : {M : Type 1} → statement M
 join-spec = tie.close (tie.spec
-    (λ c κs. search (needs, join-laws))
-    (λ c. search (needs, join-laws))
-    (λ c. search (needs, join-laws))
-    (λ c κs. search (needs, join-laws))
-    (λ c. search (needs, join-laws))
-    (λ c κs. search (needs, join-laws))
-    (λ c. search (needs, join-laws))
-    (λ c. search (needs, join-laws)))
+    (λ c κs. search needs)
+    (λ c. search)
+    (λ c. search join-laws)
+    (λ c κs. search)
+    (λ c. search needs)
+    (λ c κs. search needs)
+    (λ c. search)
+    (λ c. search join-laws))

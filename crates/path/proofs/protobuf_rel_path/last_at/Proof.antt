@@ -13,11 +13,11 @@ abbrev μ-loop : tie.MeasureT-loop
 
 pub last-at-spec : {M : Type 1} → statement M
 last-at-spec = tie.close (tie.spec Inv-loop μ-loop
-    (λ c. search (needs, tail-laws))
-    (λ c. search (needs, tail-laws))
-    (λ c. search (needs, tail-laws))
-    (λ c. search (needs, tail-laws))
-    (λ c. search (needs, tail-laws))
-    (λ c. search (needs, tail-laws))
-    (λ c. search (needs, tail-laws))
-    (λ c. search (needs, tail-laws)))
+    (λ c. search tail-laws)
+    (λ c. search)
+    (λ c. search needs)
+    (λ c. search tail-laws)
+    (λ c. search)
+    (λ c. search needs)
+    (λ c. search tail-laws)
+    (λ c. search tail-laws))

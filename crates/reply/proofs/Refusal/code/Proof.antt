@@ -1,6 +1,6 @@
 -- `reply::Refusal::code` meets its contract.
 -- Assumes nothing.
-use Rattle.basis.specs.Kit.{_≡_, refl}
+use Rattle.basis.specs.Kit.{_≡_}
 use Rattle.basis.proofs.Kit.{needs}
 use Rattle.reply.specs.inner.Table.{codeOf}
 use Rattle.reply.proofs.Rows.{either, coded, code-kept, code-positive, code-small}
@@ -36,25 +36,25 @@ result-is c =
 
 pub code-spec : {M : Type 1} → statement M
 code-spec = tie.close (tie.spec
-    (λ c. search needs)
-    (λ c. search needs)
-    (λ c. search needs)
-    (λ c. search needs)
-    (λ c. search needs)
-    (λ c. search needs)
-    (λ c. search needs)
-    (λ c. search needs)
-    (λ c. search needs)
-    (λ c. search needs)
-    (λ c. search needs)
-    (λ c. search needs)
-    (λ c. search needs)
-    (λ c. search needs)
-    (λ c. search needs)
-    (λ c. search needs)
-    (λ c. search needs)
-    (λ c. search needs)
-    (λ c. search needs)
-    (λ c. search needs)
+    (λ c. search)
+    (λ c. search)
+    (λ c. search)
+    (λ c. search)
+    (λ c. search)
+    (λ c. search)
+    (λ c. search)
+    (λ c. search)
+    (λ c. search)
+    (λ c. search)
+    (λ c. search)
+    (λ c. search)
+    (λ c. search)
+    (λ c. search)
+    (λ c. search)
+    (λ c. search)
+    (λ c. search)
+    (λ c. search)
+    (λ c. search)
+    (λ c. search)
     (λ c. (code-positive (c .before .args .self) _ (result-is c), code-small (c .before .args .self) _ (result-is c)))
     (λ c. code-kept (c .before .args .self) _ (result-is c)))

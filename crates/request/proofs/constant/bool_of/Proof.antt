@@ -7,9 +7,9 @@ use Rattle.request.proofs.constant.bool_of.Tie as tie
 
 pub bool-of-spec : {M : Type 1} → statement M
 bool-of-spec = tie.close (tie.spec
-    (λ c. search (needs, bool-laws))
-    (λ c. search (needs, bool-laws))
-    (λ c. search (needs, bool-laws))
-    (λ c. search (needs, bool-laws))
-    (λ c. search (needs, bool-laws))
-    (λ c. search (needs, bool-laws)))
+    (λ c. search)
+    (λ c. search bool-laws)
+    (λ c. search needs)
+    (λ c. search bool-laws)
+    (λ c. search needs)
+    (λ c. search bool-laws))

@@ -7,7 +7,7 @@ use Rattle.request.proofs.constant.integer_of.Tie as tie
 
 pub integer-of-spec : {M : Type 1} → statement M
 integer-of-spec = tie.close (tie.spec
-    (λ c. search (needs, signed-laws))
-    (λ c. search (needs, signed-laws))
-    (λ c. search (needs, signed-laws))
-    (λ c. search (needs, signed-laws)))
+    (λ c. search needs)
+    (λ c. search needs)
+    (λ c. search signed-laws)
+    (λ c. search signed-laws))

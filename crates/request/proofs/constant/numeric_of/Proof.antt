@@ -7,12 +7,12 @@ use Rattle.request.proofs.constant.numeric_of.Tie as tie
 
 pub numeric-of-spec : {M : Type 1} → statement M
 numeric-of-spec = tie.close (tie.spec
-    (λ c. search (needs, number-laws))
-    (λ c. search (needs, number-laws))
-    (λ c κs. search (needs, number-laws))
-    (λ c. search (needs, number-laws))
-    (λ c κs. search (needs, number-laws))
-    (λ c. search (needs, number-laws))
-    (λ c κs. search (needs, number-laws))
-    (λ c. search (needs, number-laws))
-    (λ c. search (needs, number-laws)))
+    (λ c. search)
+    (λ c. search number-laws)
+    (λ c κs. search needs)
+    (λ c. search number-laws)
+    (λ c κs. search)
+    (λ c. search number-laws)
+    (λ c κs. search)
+    (λ c. search number-laws)
+    (λ c. search number-laws))

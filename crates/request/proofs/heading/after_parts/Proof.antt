@@ -1,7 +1,6 @@
 -- `request::heading::after_parts` meets its contract.
 -- Assumes nothing.
 use Rattle.basis.specs.Kit.{_-_}
-use Rattle.basis.proofs.Kit.{needs}
 use Rattle.field.specs.Walk.{walk}
 use Rattle.field.proofs.Rest.{Rest}
 use Rattle.request.specs.Name.{afterParts}
@@ -17,11 +16,11 @@ abbrev μ-loop : tie.MeasureT-loop
 
 pub after-parts-spec : {M : Type 1} → statement M
 after-parts-spec = tie.close (tie.spec Inv-loop μ-loop
-    (λ c. search (needs, after-laws))
-    (λ c κs. search (needs, after-laws))
-    (λ c. search (needs, after-laws))
-    (λ c. search (needs, after-laws))
-    (λ c. search (needs, after-laws))
-    (λ c. search (needs, after-laws))
-    (λ c. search (needs, after-laws))
-    (λ c. search (needs, after-laws)))
+    (λ c. search after-laws)
+    (λ c κs. search)
+    (λ c. search)
+    (λ c. search)
+    (λ c. search after-laws)
+    (λ c. search after-laws)
+    (λ c. search after-laws)
+    (λ c. search after-laws))

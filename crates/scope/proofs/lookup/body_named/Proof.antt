@@ -1,7 +1,6 @@
 -- `scope::lookup::body_named` meets its contract.
 -- Assumes nothing.
 use Rattle.basis.specs.Kit.{_-_}
-use Rattle.basis.proofs.Kit.{needs}
 use Rattle.field.specs.declared.Leaf.the-variants.{Not}
 use Rattle.scope.specs.inner.Steps.{tellsLeaf, firstOf, bodyAt}
 use Rattle.field.proofs.Seek.{Seeking}
@@ -17,15 +16,15 @@ abbrev μ-loop : tie.MeasureT-loop
 
 pub body-named-spec : {M : Type 1} → statement M
 body-named-spec = tie.close (tie.spec Inv-loop μ-loop
-    (λ c. search (needs, body-named-laws))
-    (λ c κs. search (needs, body-named-laws))
-    (λ c. search (needs, body-named-laws))
-    (λ c. search (needs, body-named-laws))
-    (λ c. search (needs, body-named-laws))
-    (λ c κs. search (needs, body-named-laws))
-    (λ c. search (needs, body-named-laws))
-    (λ c. search (needs, body-named-laws))
-    (λ c. search (needs, body-named-laws))
-    (λ c. search (needs, body-named-laws))
-    (λ c. search (needs, body-named-laws))
-    (λ c. search (needs, body-named-laws)))
+    (λ c. search body-named-laws)
+    (λ c κs. search)
+    (λ c. search)
+    (λ c. search)
+    (λ c. search body-named-laws)
+    (λ c κs. search body-named-laws)
+    (λ c. search)
+    (λ c. search body-named-laws)
+    (λ c. search)
+    (λ c. search body-named-laws)
+    (λ c. search body-named-laws)
+    (λ c. search body-named-laws))

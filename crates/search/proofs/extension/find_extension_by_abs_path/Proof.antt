@@ -7,12 +7,12 @@ use Rattle.search.proofs.extension.find_extension_by_abs_path.Tie as ti
 
 pub find-extension-by-abs-path-spec : {M : Type 1} → statement M
 find-extension-by-abs-path-spec = tie.close (tie.spec
-    (λ c. search (needs, abs-extension-laws))
-    (λ c κs. search (needs, abs-extension-laws))
-    (λ c κs. search (needs, abs-extension-laws))
-    (λ c κs. search (needs, abs-extension-laws))
-    (λ c. search (needs, abs-extension-laws))
-    (λ c. search (needs, abs-extension-laws))
-    (λ c. search (needs, abs-extension-laws))
-    (λ c κs. search (needs, abs-extension-laws))
-    (λ c. search (needs, abs-extension-laws)))
+    (λ c. search abs-extension-laws)
+    (λ c κs. search)
+    (λ c κs. search needs)
+    (λ c κs. search)
+    (λ c. search)
+    (λ c. search)
+    (λ c. search needs)
+    (λ c κs. search abs-extension-laws)
+    (λ c. search abs-extension-laws))

@@ -1,16 +1,15 @@
 -- `search::extension::find_extension_by_path` meets its contract.
 -- Assumes nothing.
-use Rattle.basis.proofs.Kit.{needs}
 use Rattle.search.proofs.ExtensionLaws.{extension-by-path-laws}
 use Rattle.search.proofs.extension.find_extension_by_path.Statement.{statement}
 use Rattle.search.proofs.extension.find_extension_by_path.Tie as tie
 
 pub find-extension-by-path-spec : {M : Type 1} → statement M
 find-extension-by-path-spec = tie.close (tie.spec
-    (λ c κs. search (needs, extension-by-path-laws))
-    (λ c. search (needs, extension-by-path-laws))
-    (λ c. search (needs, extension-by-path-laws))
-    (λ c. search (needs, extension-by-path-laws))
-    (λ c. search (needs, extension-by-path-laws))
-    (λ c. search (needs, extension-by-path-laws))
-    (λ c. search (needs, extension-by-path-laws)))
+    (λ c κs. search)
+    (λ c. search)
+    (λ c. search)
+    (λ c. search)
+    (λ c. search extension-by-path-laws)
+    (λ c. search)
+    (λ c. search extension-by-path-laws))

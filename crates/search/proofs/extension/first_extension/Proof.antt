@@ -1,7 +1,6 @@
 -- `search::extension::first_extension` meets its contract.
 -- Assumes nothing.
 use Rattle.basis.specs.Kit.{length}
-use Rattle.basis.proofs.Kit.{needs}
 use Rattle.scopes.specs.inner.Cursor.{ahead}
 use Rattle.scopes.proofs.Left.{Left}
 use Rattle.search.proofs.ExtensionLaws.{namedIn, first-extension-laws}
@@ -16,14 +15,14 @@ abbrev μ-loop : tie.MeasureT-loop
 
 pub first-extension-spec : {M : Type 1} → statement M
 first-extension-spec = tie.close (tie.spec Inv-loop μ-loop
-    (λ c. search (needs, first-extension-laws))
-    (λ c κs. search (needs, first-extension-laws))
-    (λ c. search (needs, first-extension-laws))
-    (λ c. search (needs, first-extension-laws))
-    (λ c. search (needs, first-extension-laws))
-    (λ c κs. search (needs, first-extension-laws))
-    (λ c. search (needs, first-extension-laws))
-    (λ c. search (needs, first-extension-laws))
-    (λ c. search (needs, first-extension-laws))
-    (λ c. search (needs, first-extension-laws))
-    (λ c. search (needs, first-extension-laws)))
+    (λ c. search)
+    (λ c κs. search)
+    (λ c. search)
+    (λ c. search)
+    (λ c. search first-extension-laws)
+    (λ c κs. search first-extension-laws)
+    (λ c. search)
+    (λ c. search first-extension-laws)
+    (λ c. search)
+    (λ c. search first-extension-laws)
+    (λ c. search first-extension-laws))

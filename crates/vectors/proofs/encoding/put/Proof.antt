@@ -7,11 +7,11 @@ use Rattle.vectors.proofs.encoding.put.Tie as tie
 
 pub put-spec : {M : Type 1} → statement M
 put-spec = tie.close (tie.spec
-    (λ c κs. search (needs, put-laws))
-    (λ c. search (needs, put-laws))
-    (λ c. search (needs, put-laws))
-    (λ c. search (needs, put-laws))
-    (λ c. search (needs, put-laws))
+    (λ c κs. search needs)
+    (λ c. search)
+    (λ c. search)
+    (λ c. search)
+    (λ c. search)
     (λ c κs. (search (needs, put-laws), (search (needs, put-laws), search (needs, put-laws))))
-    (λ c. search (needs, put-laws))
-    (λ c. search (needs, put-laws)))
+    (λ c. search)
+    (λ c. search))

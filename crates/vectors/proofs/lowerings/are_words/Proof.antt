@@ -2,7 +2,6 @@
 -- Assumes nothing.
 use Rattle.basis.specs.Kit.{_-_, length}
 use Rattle.basis.proofs.Kit.{needs}
-use Rattle.vectors.proofs.CaseLaws.{case-laws}
 use Rattle.vectors.proofs.lowerings.are_words.Statement.{statement}
 use Rattle.vectors.proofs.lowerings.are_words.Tie as tie
 
@@ -14,14 +13,14 @@ abbrev μ-loop : tie.MeasureT-loop
 
 pub are-words-spec : {M : Type 1} → statement M
 are-words-spec = tie.close (tie.spec Inv-loop μ-loop
-    (λ c. search (needs, case-laws))
-    (λ c. search (needs, case-laws))
-    (λ c. search (needs, case-laws))
-    (λ c. search (needs, case-laws))
-    (λ c. search (needs, case-laws))
-    (λ c κs. search (needs, case-laws))
-    (λ c. search (needs, case-laws))
-    (λ c. search (needs, case-laws))
-    (λ c. search (needs, case-laws))
-    (λ c. search (needs, case-laws))
-    (λ c. search (needs, case-laws)))
+    (λ c. search)
+    (λ c. search)
+    (λ c. search needs)
+    (λ c. search)
+    (λ c. search needs)
+    (λ c κs. search needs)
+    (λ c. search)
+    (λ c. search needs)
+    (λ c. search needs)
+    (λ c. search)
+    (λ c. search))

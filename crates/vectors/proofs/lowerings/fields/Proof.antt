@@ -7,9 +7,9 @@ use Rattle.vectors.proofs.lowerings.fields.Tie as tie
 
 pub fields-spec : {M : Type 1} → statement M
 fields-spec = tie.close (tie.spec
-    (λ c. search (needs, case-laws))
-    (λ c κs. search (needs, case-laws))
-    (λ c. search (needs, case-laws))
-    (λ c. search (needs, case-laws))
-    (λ c κs. search (needs, case-laws))
-    (λ c. search (needs, case-laws)))
+    (λ c. search)
+    (λ c κs. search)
+    (λ c. search needs)
+    (λ c. search case-laws)
+    (λ c κs. search)
+    (λ c. search))

@@ -13,12 +13,12 @@ abbrev μ-loop : tie.MeasureT-loop
 
 pub little-at-spec : {M : Type 1} → statement M
 little-at-spec = tie.close (tie.spec Inv-loop μ-loop
-    (λ c. search (needs, summing-laws))
-    (λ c. search (needs, summing-laws))
-    (λ c. search (needs, summing-laws))
-    (λ c. search (needs, summing-laws))
-    (λ c κs. search (needs, summing-laws))
-    (λ c. search (needs, summing-laws))
-    (λ c. search (needs, summing-laws))
-    (λ c. search (needs, summing-laws))
-    (λ c. search (needs, summing-laws)))
+    (λ c. search summing-laws)
+    (λ c. search)
+    (λ c. search summing-laws)
+    (λ c. search needs)
+    (λ c κs. search needs)
+    (λ c. search summing-laws)
+    (λ c. search needs)
+    (λ c. search summing-laws)
+    (λ c. search summing-laws))

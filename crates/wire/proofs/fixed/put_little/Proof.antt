@@ -14,13 +14,13 @@ abbrev μ-loop : tie.MeasureT-loop
 
 pub put-little-spec : {M : Type 1} → statement M
 put-little-spec = tie.close (tie.spec Inv-loop μ-loop
-    (λ c. search (needs, filling-laws))
-    (λ c. search (needs, filling-laws))
-    (λ c. search (needs, filling-laws))
-    (λ c κs. search (needs, filling-laws))
-    (λ c. search (needs, filling-laws))
-    (λ c. search (needs, filling-laws))
-    (λ c. search (needs, filling-laws))
-    (λ c. search (needs, filling-laws))
-    (λ c. search (needs, filling-laws))
-    (λ c. search (needs, filling-laws)))
+    (λ c. search filling-laws)
+    (λ c. search needs)
+    (λ c. search needs)
+    (λ c κs. search)
+    (λ c. search needs)
+    (λ c. search needs)
+    (λ c. search filling-laws)
+    (λ c. search needs)
+    (λ c. search filling-laws)
+    (λ c. search filling-laws))

@@ -7,6 +7,6 @@ use Rattle.wire.proofs.numbers.unzigzag.Tie as tie
 
 pub unzigzag-spec : {M : Type 1} → statement M
 unzigzag-spec = tie.close (tie.spec
-    (λ c. search (needs, number-laws))
-    (λ c. search (needs, number-laws))
-    (λ c. search (needs, number-laws)))
+    (λ c. search needs)
+    (λ c. search number-laws)
+    (λ c. search number-laws))

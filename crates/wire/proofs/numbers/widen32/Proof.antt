@@ -7,6 +7,6 @@ use Rattle.wire.proofs.numbers.widen32.Tie as tie
 
 pub widen32-spec : {M : Type 1} → statement M
 widen32-spec = tie.close (tie.spec
-    (λ c. search (needs, number-laws))
-    (λ c. search (needs, number-laws))
-    (λ c. search (needs, number-laws)))
+    (λ c. search needs)
+    (λ c. search number-laws)
+    (λ c. search number-laws))

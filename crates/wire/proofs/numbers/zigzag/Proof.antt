@@ -7,9 +7,9 @@ use Rattle.wire.proofs.numbers.zigzag.Tie as tie
 
 pub zigzag-spec : {M : Type 1} → statement M
 zigzag-spec = tie.close (tie.spec
-    (λ c. search (needs, number-laws))
-    (λ c. search (needs, number-laws))
-    (λ c. search (needs, number-laws))
-    (λ c. search (needs, number-laws))
-    (λ c. search (needs, number-laws))
-    (λ c. search (needs, number-laws)))
+    (λ c. search needs)
+    (λ c. search needs)
+    (λ c. search needs)
+    (λ c. search needs)
+    (λ c. search number-laws)
+    (λ c. search number-laws))
