@@ -29,12 +29,12 @@ use Rattle.known.specs.inner.Notes.{noteOf, noted, Noted}
 use Rattle.known.proofs.KnownLaws.{known-few}
 use Rattle.known.proofs.NoteLaws.{noted-length}
 use Rattle.known.proofs.NotedLaws.{noted-start, noted-none, noted-set}
-use Rattle.settle.specs.declared.Start.{Start}
+use Rattle.options.specs.declared.settle.Start.{Start}
 use Rattle.judged.specs.declared.Stop.{Stop}
-use Rattle.settle.specs.declared.Settling.{Settling}
-use Rattle.settle.specs.declared.Settling.the-variants.{Gives, Fails}
-use Rattle.settle.specs.Settle.{Settled, known, others, fails}
-use Rattle.settle.specs.inner.Settling.{messageOf, settledAt, othersOf, noteIn, setRecs, settlingOf}
+use Rattle.options.specs.declared.settle.Settling.{Settling}
+use Rattle.options.specs.declared.settle.Settling.the-variants.{Gives, Fails}
+use Rattle.options.specs.Settle.{Settled, known, others, fails}
+use Rattle.options.specs.inner.Settling.{messageOf, settledAt, othersOf, noteIn, setRecs, settlingOf}
 use Rattle.options.specs.Options.{Gathered, stopped, next, gather}
 use Rattle.options.specs.inner.Gathering.{optionsOf, gatheredBy, madeAt, FineFrom, Gathers, gives, stops}
 use Rattle.options.proofs.ReachedLaws.{Reached, reached-start, reached-end, reached-cut, reached-parts, reached-few, reached-fits}

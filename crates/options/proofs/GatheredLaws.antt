@@ -9,8 +9,8 @@ use Rattle.records.specs.Records.{Recs, append, encode}
 use Rattle.known.specs.Known.{Known, knownRecs}
 use Rattle.known.specs.inner.Notes.{Noted}
 use Rattle.judged.specs.declared.Stop.{Stop}
-use Rattle.settle.specs.declared.Settling.{Settling}
-use Rattle.settle.specs.declared.Settling.the-variants.{Gives, Fails}
+use Rattle.options.specs.declared.settle.Settling.{Settling}
+use Rattle.options.specs.declared.settle.Settling.the-variants.{Gives, Fails}
 use Rattle.options.specs.Options.{Gathered, gathered, stopped}
 use Rattle.options.specs.inner.Gathering.{knownsOf, Gathers, gives, stops}
 use Rattle.options.proofs.GatherLaws.{append-size}

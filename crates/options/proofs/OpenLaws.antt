@@ -32,7 +32,7 @@ use Rattle.requestform.proofs.FineLaws.{fine-scope, fine-options-start, fine-op
 use Rattle.requestform.proofs.RequestLaws.{request-long}
 use Rattle.lookups.specs.Lookups.{walking}
 use Rattle.lookups.proofs.LookupLaws.{message-lies}
-use Rattle.settle.specs.declared.Start.{Start}
+use Rattle.options.specs.declared.settle.Start.{Start}
 use Rattle.judged.specs.declared.Stop.{Stop}
 use Rattle.judged.specs.Judged.{nowhere}
 use Rattle.options.specs.inner.Gathering.{optionsOf, gatheredBy}

@@ -11,8 +11,8 @@ use Rattle.records.specs.inner.Emits.{Roomy}
 use Rattle.records.proofs.RecsLaws.{encode-append}
 use Rattle.lookups.specs.Lookups.{walking}
 use Rattle.known.specs.Known.{Known, knownRecs}
-use Rattle.settle.specs.declared.Settling.{Settling}
-use Rattle.settle.specs.inner.Settling.{Started}
+use Rattle.options.specs.declared.settle.Settling.{Settling}
+use Rattle.options.specs.inner.Settling.{Started}
 use Rattle.options.specs.Options.{Gathered, gathered}
 use Rattle.options.specs.inner.Gathering.{gatheredBy, madeAt, knownsOf, FineFrom, Gathers, gives, stops}
 use Rattle.options.specs.declared.measure.Measured.{Measured}

@@ -26,8 +26,8 @@ use Rattle.optionform.specs.inner.Parts.{OptionParts}
 use Rattle.optionform.proofs.FineLaws.{option-tagged, option-few, fine-option-parts}
 use Rattle.requestform.proofs.FineLaws.{fine-option-at, fine-option-next}
 use Rattle.lookups.specs.Lookups.{Lookups}
-use Rattle.settle.specs.declared.Start.{Start}
-use Rattle.settle.specs.inner.Settling.{settledAt, setRecs}
+use Rattle.options.specs.declared.settle.Start.{Start}
+use Rattle.options.specs.inner.Settling.{settledAt, setRecs}
 use Rattle.options.specs.inner.Gathering.{optionsOf, setBy, madeAt, FineFrom}
 
 pub record Reached (r : List ℕ) (h : Start) (n i : ℕ) : Type 0 where

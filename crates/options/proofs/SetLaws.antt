@@ -18,15 +18,15 @@ use Rattle.records.specs.Records.{encode}
 use Rattle.records.specs.Made.{Made, made, wrong}
 use Rattle.records.specs.inner.Emits.{bytesMost}
 use Rattle.lookups.specs.Lookups.{Lookups}
-use Rattle.settle.specs.declared.named.Fault.{Fault}
-use Rattle.settle.specs.Named.{optionFrom}
+use Rattle.options.specs.declared.named.Fault.{Fault}
+use Rattle.options.specs.Named.{optionFrom}
 use Rattle.builtins.specs.declared.Built.{Built}
 use Rattle.builtins.specs.declared.Built.the-variants.{Skipped, Sets, Wrong}
 use Rattle.builtins.specs.Builtins.{builtinOf, builtRecs}
 use Rattle.builtins.proofs.BuiltLaws.{built-few}
-use Rattle.settle.specs.declared.Start.{Start}
-use Rattle.settle.specs.Settle.{Settled, settledBuilt, settled, builtinPart, settle}
-use Rattle.settle.specs.inner.Settling.{messageOf, settledAt, setRecs}
+use Rattle.options.specs.declared.settle.Start.{Start}
+use Rattle.options.specs.Settle.{Settled, settledBuilt, settled, builtinPart, settle}
+use Rattle.options.specs.inner.Settling.{messageOf, settledAt, setRecs}
 
 set-built : (r : List ℕ) (b : Built) → setRecs (settledBuilt r b) ≡ builtRecs r b
 set-built r Skipped = refl

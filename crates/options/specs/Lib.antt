@@ -1,3 +1,5 @@
+pub mod Named
+pub mod Settle
 pub mod Options
 pub mod Steps
 pub mod Resolve

@@ -10,7 +10,7 @@ use Rattle.records.specs.Records.{Recs, append}
 use Rattle.lookups.specs.Lookups.{Lookups, Message}
 use Rattle.known.specs.Known.{Known, setKnown}
 use Rattle.judged.specs.declared.Stop.{Stop}
-use Rattle.settle.specs.Settle.{Settled, known, others, fails, stopAt, settle}
+use Rattle.options.specs.Settle.{Settled, known, others, fails, stopAt, settle}
 
 pub data Gathered : Type 0 where
   gathered : (knowns : List Known) (rest : Recs) → Gathered

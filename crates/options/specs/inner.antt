@@ -1,4 +1,6 @@
--- Notions of inner contracts, of what the functions of all options answer and leave: a reader of 01 need not read them.
+-- Notions of inner contracts, of what the functions of one option and of all answer and leave: a reader of 01 need not read them.
 -- Assumes nothing.
+pub mod Written
+pub mod Settling
 pub mod Gathering
 pub mod Measuring

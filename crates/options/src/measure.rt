@@ -7,20 +7,20 @@ ghost use Rattle.requestform.specs.Form.{judgeRequest};
 ghost use Rattle.records.specs.Records.{encode};
 ghost use Rattle.lookups.specs.Lookups.{walking};
 ghost use Rattle.known.specs.Known.{knownRecs};
-ghost use Rattle.settle.specs.inner.Settling.{Started};
+ghost use Rattle.options.specs.inner.Settling.{Started};
 ghost use Rattle.options.specs.inner.Gathering.{gatheredBy, knownsOf, FineFrom};
 ghost use Rattle.options.specs.Steps.{stepsIn, stepsOf, resolvingTested};
 ghost use Rattle.options.specs.inner.Measuring.{allOf, Opens, Counted, Tallies, Ready, Measures};
 use crate::gather;
 use crate::put_known;
+use crate::settle::Settling;
+use crate::settle::Start;
 use fullname::LookedUp;
 use judged::Stop;
 use judged::nowhere;
 use reply::Verdict;
 use request::heading::Headed;
 use request::heading::heading_of;
-use settle::Settling;
-use settle::Start;
 
 // What the options start with, if there are any and the options type is found.
 pub enum Opening {

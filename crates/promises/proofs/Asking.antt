@@ -33,7 +33,7 @@ use Rattle.scalars.specs.Scalars.{scalarOn}
 use Rattle.values.specs.Values.{scalarMade}
 use Rattle.steps.specs.Steps.{stepOf}
 use Rattle.builtins.specs.Builtins.{isSkipped, builtinOf}
-use Rattle.settle.specs.Settle.{settle}
+use Rattle.options.specs.Settle.{settle}
 use Rattle.options.specs.Steps.{Steps, records, absent as none, refused as refusedFor, stepsOf}
 use Rattle.options.specs.Resolve.{resolvingBy, resolving}
 use Rattle.declform.specs.Declarations.{goodTypePath, goodShape, goodField, isField, isExtension, isValue}

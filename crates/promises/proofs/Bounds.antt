@@ -32,7 +32,7 @@ use Rattle.requestform.proofs.RequestLaws.{request-long}
 use Rattle.lookups.specs.Lookups.{Lookups, Message, walking}
 use Rattle.known.specs.Known.{Known, setKnown, knownRecs}
 use Rattle.judged.specs.declared.Stop.{Stop}
-use Rattle.settle.specs.Settle.{Settled}
+use Rattle.options.specs.Settle.{Settled}
 use Rattle.options.specs.Options.{Gathered, gathered, stopped, next, gather}
 use Rattle.options.specs.Steps.{Steps, records, absent, refused, stepsIn, onType, someOptions, stepsOf}
 use Rattle.options.specs.Resolve.{unless, resolvingBy}

@@ -44,14 +44,14 @@ use Rattle.scalars.specs.declared.Scalar.the-variants.{Fits, Misfit}
 use Rattle.scalars.specs.Scalars.{scalarOn, unsupported}
 use Rattle.values.specs.Values.{on, records}
 use Rattle.known.specs.Known.{Known}
-use Rattle.settle.specs.declared.named.Fault.{Fault}
+use Rattle.options.specs.declared.named.Fault.{Fault}
 use Rattle.steps.specs.declared.Step.{Step}
 use Rattle.steps.specs.declared.Step.the-variants.{Found, NotFound}
 use Rattle.steps.specs.Steps.{stepOf}
-use Rattle.settle.specs.Named.{faultAt, at, onStep, reached, left, optionFrom}
+use Rattle.options.specs.Named.{faultAt, at, onStep, reached, left, optionFrom}
 use Rattle.builtins.specs.declared.Built.the-variants.{Skipped, Wrong}
 use Rattle.builtins.specs.Builtins.{repeated, isSkipped, builtOf, builtinOn, builtinField, builtinOf}
-use Rattle.settle.specs.Settle.{Settled, known, others, fails, settledBuilt, settled, builtinPart, settle}
+use Rattle.options.specs.Settle.{Settled, known, others, fails, settledBuilt, settled, builtinPart, settle}
 use Rattle.promises.proofs.SmallLaws.{Small, small-nil, small-more}
 use Rattle.promises.proofs.SmallLaws.{SmallMade, small, refused, made-more, holding-small}
 use Rattle.promises.proofs.WidthLaws.{parts-width}

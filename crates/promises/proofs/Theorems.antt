@@ -28,10 +28,10 @@ use Rattle.known.specs.Known.{Known}
 use Rattle.steps.specs.declared.Lack.{Lack}
 use Rattle.steps.specs.declared.Lack.the-variants.{NoField, NoExtension, OtherMessage}
 use Rattle.steps.specs.declared.Step.the-variants.{NotFound}
-use Rattle.settle.specs.declared.named.Fault.{Fault}
+use Rattle.options.specs.declared.named.Fault.{Fault}
 use Rattle.steps.specs.Steps.{whyOf, stepExtension, stepOf}
-use Rattle.settle.specs.Named.{faultAt, optionFrom}
-use Rattle.settle.specs.Settle.{Settled, known, others, fails, stopAt, settle}
+use Rattle.options.specs.Named.{faultAt, optionFrom}
+use Rattle.options.specs.Settle.{Settled, known, others, fails, stopAt, settle}
 use Rattle.options.specs.Options.{Gathered, gathered, stopped, next, gather}
 
 -- ---- an extension part that is reached

@@ -28,12 +28,12 @@ use Rattle.records.specs.Records.{Recs, nil, append, encode}
 use Rattle.lookups.specs.Lookups.{Lookups}
 use Rattle.known.specs.Known.{Known, knownRecs}
 use Rattle.known.specs.inner.Notes.{Noted}
-use Rattle.settle.specs.declared.Start.{Start}
+use Rattle.options.specs.declared.settle.Start.{Start}
 use Rattle.judged.specs.declared.Stop.{Stop}
-use Rattle.settle.specs.declared.Settling.{Settling}
-use Rattle.settle.specs.declared.Settling.the-variants.{Gives, Fails}
-use Rattle.settle.specs.Settle.{settle}
-use Rattle.settle.specs.inner.Settling.{messageOf, setRecs}
+use Rattle.options.specs.declared.settle.Settling.{Settling}
+use Rattle.options.specs.declared.settle.Settling.the-variants.{Gives, Fails}
+use Rattle.options.specs.Settle.{settle}
+use Rattle.options.specs.inner.Settling.{messageOf, setRecs}
 use Rattle.options.specs.Options.{Gathered, gathered, stopped, gather}
 
 unfoldable pub optionsOf : (r : List ℕ) → Start → List Option

@@ -1,3 +1,0 @@
-pub mod Named
-pub mod Settle
-pub mod inner
