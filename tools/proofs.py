@@ -90,8 +90,8 @@ def carried(kept, old):
 
 
 def written(path, text, crate, laws, old):
-    found = re.findall(r"search \(needs, ([^)]*)\)", old)
-    laws = laws or list(dict.fromkeys(", ".join(found).split(", "))) if laws or found else []
+    found = [name for names in re.findall(r"search \(?([^()]+)\)", old) for name in re.split(r",\s*", names)]
+    laws = laws or [name for name in dict.fromkeys(found) if name != "needs"]
     lines, kept, closing = compact(text, "search (needs, %s)" % ", ".join(laws) if laws else "search needs")
     kept = carried(kept, old)
     opening = re.match(r"(?:--.*\n)*", old).group(0).split("\n")[:-1] or heading(path.parent, crate, "Inv-" in text)
