@@ -7,6 +7,9 @@ Run it at the root of the repository, on a crate that is proved. A need that is 
 with each of these alone and with fewer of them together; the first that is proved stands. All that is to be tried is declared in the proof
 files and checked in one run of `rt dev CRATE`, then the files are written and the crate is checked again: if it is not proved then, every
 file is as it was. `use` lines of laws that no answer names any more go. `rt fmt` sets the layout.
+
+A function that a must-fail edit bends keeps its laws, unless it is named: with fewer, the edit may be refused by what the file leaves out
+and not by the fact that it breaks.
 """
 import argparse
 import itertools
@@ -111,13 +114,28 @@ def shortened(text, places, refused):
     return re.sub(r"(?m)^use (\S+)\.\{([^}]*)\}\n", used, text), len(chosen)
 
 
+def bent(crate):
+    """The functions that hold what a must-fail edit changes."""
+    names = set()
+    for edit in crate.glob("must-fail/*.edit"):
+        file = None
+        for line in edit.read_text(encoding="utf-8").split("\n"):
+            if line.startswith("file: src/"):
+                file = (crate / line[6:]).read_text(encoding="utf-8")
+            elif line.startswith("old: ") and file and line[5:] in file:
+                names.update(re.findall(r"(?m)^ *(?:pub )?fn (\w+)", file[:file.index(line[5:])])[-1:])
+    return names
+
+
 def main():
     parser = argparse.ArgumentParser(description=__doc__, formatter_class=argparse.RawDescriptionHelpFormatter)
     parser.add_argument("crate", metavar="CRATE")
     parser.add_argument("functions", nargs="*", metavar="FUNCTION")
     args = parser.parse_args()
-    files = sorted(pathlib.Path("crates", args.crate, "proofs").glob("**/Proof.antt"))
-    files = [f for f in files if not args.functions or set(args.functions) & set(f.parent.name.lstrip("+").split("+"))]
+    crate = pathlib.Path("crates", args.crate)
+    files, kept_laws = sorted(crate.glob("proofs/**/Proof.antt")), bent(crate)
+    of = lambda f: set(f.parent.name.lstrip("+").split("+"))
+    files = [f for f in files if (of(f) & set(args.functions) if args.functions else not of(f) & kept_laws)]
     old = {f: f.read_text(encoding="utf-8") for f in files}
     kept, count = old, 0
     try:

@@ -1,6 +1,7 @@
 -- `named::declaration_named` meets its contract.
 -- Assumes nothing.
 use Rattle.basis.specs.Kit.{_-_}
+use Rattle.basis.proofs.Kit.{needs}
 use Rattle.sheet.specs.declared.declaration.Declared.the-variants.{NoDeclaration}
 use Rattle.field.proofs.Seek.{Seeking}
 use Rattle.field.specs.Leaf.{isText}
@@ -18,15 +19,15 @@ abbrev μ-loop : tie.MeasureT-loop
 
 pub declaration-named-spec : {M : Type 1} → statement M
 declaration-named-spec = tie.close (tie.spec Inv-loop μ-loop
-    (λ c. search declaration-named-laws)
-    (λ c κs. search)
-    (λ c. search)
-    (λ c. search)
-    (λ c. search declaration-named-laws)
-    (λ c κs. search declaration-named-laws)
-    (λ c. search)
-    (λ c. search declaration-named-laws)
-    (λ c. search)
-    (λ c. search declaration-named-laws)
-    (λ c. search declaration-named-laws)
-    (λ c. search declaration-named-laws))
+    (λ c. search (needs, declaration-named-laws))
+    (λ c κs. search (needs, declaration-named-laws))
+    (λ c. search (needs, declaration-named-laws))
+    (λ c. search (needs, declaration-named-laws))
+    (λ c. search (needs, declaration-named-laws))
+    (λ c κs. search (needs, declaration-named-laws))
+    (λ c. search (needs, declaration-named-laws))
+    (λ c. search (needs, declaration-named-laws))
+    (λ c. search (needs, declaration-named-laws))
+    (λ c. search (needs, declaration-named-laws))
+    (λ c. search (needs, declaration-named-laws))
+    (λ c. search (needs, declaration-named-laws)))

@@ -1,6 +1,7 @@
 -- `sheetform::check_files` meets its contract.
 -- Assumes nothing.
 use Rattle.basis.specs.Kit.{_-_}
+use Rattle.basis.proofs.Kit.{needs}
 use Rattle.field.proofs.Rest.{Rest}
 use Rattle.sheetform.specs.Form.{judgeFiles}
 use Rattle.sheetform.proofs.SheetLaws.{files, files-laws}
@@ -15,16 +16,16 @@ abbrev μ-loop : tie.MeasureT-loop
 
 pub check-files-spec : {M : Type 1} → statement M
 check-files-spec = tie.close (tie.spec Inv-loop μ-loop
-    (λ c. search files-laws)
-    (λ c κs. search)
-    (λ c. search)
-    (λ c. search)
-    (λ c. search files-laws)
-    (λ c κs. search files-laws)
-    (λ c. search)
-    (λ c. search files-laws)
-    (λ c. search)
-    (λ c. search files-laws)
-    (λ c. search files-laws)
-    (λ c. search files-laws)
-    (λ c. search files-laws))
+    (λ c. search (needs, files-laws))
+    (λ c κs. search (needs, files-laws))
+    (λ c. search (needs, files-laws))
+    (λ c. search (needs, files-laws))
+    (λ c. search (needs, files-laws))
+    (λ c κs. search (needs, files-laws))
+    (λ c. search (needs, files-laws))
+    (λ c. search (needs, files-laws))
+    (λ c. search (needs, files-laws))
+    (λ c. search (needs, files-laws))
+    (λ c. search (needs, files-laws))
+    (λ c. search (needs, files-laws))
+    (λ c. search (needs, files-laws)))

@@ -9,6 +9,6 @@ use Rattle.types.proofs.wire_of.Tie as tie
 pub wire-of-spec : {M : Type 1} → statement M
 unfolding wireOf
 wire-of-spec = tie.close (tie.spec
-    (λ c. search needs)
     (λ c. search (needs, wire-laws))
-    (λ c. search wire-laws))
+    (λ c. search (needs, wire-laws))
+    (λ c. search (needs, wire-laws)))

@@ -13,8 +13,8 @@ abbrev μ-loop : tie.MeasureT-loop
 
 pub varint-len-spec : {M : Type 1} → statement M
 varint-len-spec = tie.close (tie.spec Inv-loop μ-loop
-    (λ c. search counting-laws)
-    (λ c. search counting-laws)
-    (λ c. search needs)
-    (λ c. search counting-laws)
-    (λ c. search counting-laws))
+    (λ c. search (needs, counting-laws))
+    (λ c. search (needs, counting-laws))
+    (λ c. search (needs, counting-laws))
+    (λ c. search (needs, counting-laws))
+    (λ c. search (needs, counting-laws)))

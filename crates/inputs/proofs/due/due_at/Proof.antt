@@ -7,10 +7,10 @@ use Rattle.inputs.proofs.due.due_at.Tie as tie
 
 pub due-at-spec : {M : Type 1} → statement M
 due-at-spec = tie.close (tie.spec
-    (λ c. search due-laws)
-    (λ c κs. search needs)
-    (λ c. search)
-    (λ c. search)
-    (λ c. search due-laws)
-    (λ c. search due-laws)
-    (λ c. search due-laws))
+    (λ c. search (needs, due-laws))
+    (λ c κs. search (needs, due-laws))
+    (λ c. search (needs, due-laws))
+    (λ c. search (needs, due-laws))
+    (λ c. search (needs, due-laws))
+    (λ c. search (needs, due-laws))
+    (λ c. search (needs, due-laws)))

@@ -7,10 +7,10 @@ use Rattle.path.proofs.protobuf_ident.is_ident.Tie as tie
 
 pub is-ident-spec : {M : Type 1} → statement M
 is-ident-spec = tie.close (tie.spec
-    (λ c. search ident-laws)
-    (λ c. search ident-laws)
-    (λ c. search needs)
-    (λ c κs. search)
-    (λ c. search ident-laws)
-    (λ c κs. search needs)
-    (λ c. search ident-laws))
+    (λ c. search (needs, ident-laws))
+    (λ c. search (needs, ident-laws))
+    (λ c. search (needs, ident-laws))
+    (λ c κs. search (needs, ident-laws))
+    (λ c. search (needs, ident-laws))
+    (λ c κs. search (needs, ident-laws))
+    (λ c. search (needs, ident-laws)))

@@ -7,10 +7,10 @@ use Rattle.scope.proofs.lookup.down.Tie as tie
 
 pub down-spec : {M : Type 1} → statement M
 down-spec = tie.close (tie.spec
-    (λ c. search down-laws)
-    (λ c κs. search)
-    (λ c. search)
-    (λ c. search)
-    (λ c. search down-laws)
-    (λ c. search needs)
-    (λ c. search down-laws))
+    (λ c. search (needs, down-laws))
+    (λ c κs. search (needs, down-laws))
+    (λ c. search (needs, down-laws))
+    (λ c. search (needs, down-laws))
+    (λ c. search (needs, down-laws))
+    (λ c. search (needs, down-laws))
+    (λ c. search (needs, down-laws)))
