@@ -8,8 +8,8 @@ with each of these alone and with fewer of them together; the first that is prov
 files and checked in one run of `rt dev CRATE`, then the files are written and the crate is checked again: if it is not proved then, every
 file is as it was. `use` lines of laws that no answer names any more go. `rt fmt` sets the layout.
 
-A function that a must-fail edit bends keeps its laws, unless it is named: with fewer, the edit may be refused by what the file leaves out
-and not by the fact that it breaks.
+A function that holds what a must-fail edit changes keeps its laws, unless it is named: with fewer, the edit may be refused by what the
+file leaves out and not by the fact that it breaks. Of an edit outside any function (a table, a definition) this sees nothing.
 """
 import argparse
 import itertools
