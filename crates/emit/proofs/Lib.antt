@@ -1,2 +1,3 @@
 pub mod WriteLaws
 pub mod Copying
+pub mod Filling

@@ -1,7 +1,7 @@
 // Elements for the lent memory: what a writer of elements comes to, and the writers that all calls share. A writer is run over an empty
 // part of the lent memory first, which finds a refusal and the length, and then over the whole, so that a refusal writes nothing and
 // NoRoom comes last.
-ghost use Rattle.basis.specs.Kit.{_≡_, [], _∷_, _^_, _<_, length, sets};
+ghost use Rattle.basis.specs.Kit.{_≡_, [], _∷_, _+_, _^_, _<_, length, sets};
 ghost use Rattle.reply.specs.Outcome.{give, Answered};
 use reply::Answer;
 use reply::Cause;
@@ -19,6 +19,18 @@ pub fn put_word(out: &mut [u32], at: usize, word: u32)
 {
     if at < out.len() {
         out[at] = word;
+    }
+}
+
+// Words from a place on, as far as there is room.
+pub fn put_words(words: &[u32], out: &mut [u32], at: usize)
+    requires { ⌜ at + length (now words) < 2 ^ 64 ⌝ }
+    ensures { λ _. ⌜ now (out .exit) ≡ sets (now (out .entry)) at (now (words .entry)) ⌝ }
+{
+    let mut i = 0;
+    while i < words.len() {
+        put_word(out, at + i, words[i]);
+        i += 1;
     }
 }
 

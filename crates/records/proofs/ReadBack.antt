@@ -21,7 +21,8 @@ use Rattle.wire.specs.Numbers.{low32Of}
 use Rattle.wire.proofs.TagLaws.{number-of-tag-of, wire-type-of-tag-of, wire-read-lt, tag-of-good}
 use Rattle.wire.proofs.FixedLaws.{little-of-length}
 use Rattle.records.specs.Records.{Recs, number, message, payload, headOf, headed, sized, encode}
-use Rattle.records.specs.Raw.{Raw, Extent, within, payloadAt, onRead, behindTag, frontOf, rawFrom, rawOf, rawsOf, Proper}
+use Rattle.payloads.specs.Extent.{Extent, within, onRead, payloadAt}
+use Rattle.records.specs.Raw.{Raw, behindTag, frontOf, rawFrom, rawOf, rawsOf, Proper}
 use Rattle.records.specs.Raw.{proper-nil, proper-number, proper-bytes, proper-message}
 use Rattle.records.proofs.PayloadLaws.{onType, on-type-lt, payload-four, payload-eight, payload-varint}
 

@@ -8,7 +8,8 @@ use Rattle.wire.specs.Numbers.{zigzagOf, low32Of}
 use Rattle.wire.specs.Tag.{tagGood}
 use Rattle.octets.specs.Ascii.{ascii}
 use Rattle.records.specs.Records.{Recs, nil, number, bytes, message, payload, headOf, encode}
-use Rattle.records.specs.Raw.{Raw, payloadAt, frontOf, rawFrom, rawOf, rawsOf}
+use Rattle.payloads.specs.Extent.{payloadAt}
+use Rattle.records.specs.Raw.{Raw, frontOf, rawFrom, rawOf, rawsOf}
 
 abbrev minusTwo : ℕ
 minusTwo = 0xFFFFFFFFFFFFFFFE

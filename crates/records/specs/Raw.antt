@@ -1,10 +1,6 @@
 -- Raw records: what bytes are by Encoding alone, and what typed records are so.
 --
 --                Raw ==  a record: its number, its wire type, and the bytes of its payload, a length-delimited one's without its length
---             Extent ==  a payload: how many bytes of a length stand before it, and how many it has
---      within bs k n ==  n bytes of payload behind k bytes of length, where bs has as many
---         onRead r f ==  f of the value that was read and of how many bytes it has, none where nothing was read
---     payloadAt w bs ==  the payload of the wire type w at the front of bs
 --              Front ==  a record, and how many bytes follow its first
 --   frontOn bs t n p ==  the record of the tag t, which has n bytes, with the payload p of bs, the bytes behind the tag
 --   behindTag bs t n ==  the record of the tag t, which has n bytes, with the payload at the front of bs
@@ -16,42 +12,19 @@
 --                        length-delimited, and no group
 --
 -- Assumes nothing.
-use Rattle.basis.specs.Kit.{_≡_, true, false, List, [], _∷_, Option, none, some, ℕ, zero, suc, _+_, _-_, _^_, _≤_, _<_, eqb, leb, length}
-use Rattle.basis.specs.Kit.{take, drop}
+use Rattle.basis.specs.Kit.{_≡_, true, false, List, [], _∷_, Option, none, some, ℕ, zero, suc, _+_, _-_, _^_, _≤_, _<_, take, drop}
 use Rattle.basis.specs.First.{given}
 use Rattle.limits.specs.Figures.{mostNumber}
 use Rattle.types.specs.Types.{isAny, wireOf, VARINT, I64, I32, LEN, TYPE_MESSAGE}
-use Rattle.varint.specs.declared.Read.{Read}
-use Rattle.varint.specs.declared.Read.the-variants.{Varint, Bad}
 use Rattle.varint.specs.Varint.{readVarint}
 use Rattle.wire.specs.Tag.{numberOf, wireTypeOf, tagGood}
+use Rattle.payloads.specs.Extent.{Extent, onRead, payloadAt}
 use Rattle.records.specs.Records.{Recs, nil, number, bytes, message, payload, encode}
 
 pub record Raw : Type 0 where
   pub number : ℕ
   pub wire : ℕ
   pub payload : List ℕ
-
-pub record Extent : Type 0 where
-  pub before : ℕ
-  pub size : ℕ
-
-abbrev pub within : (bs : List ℕ) (before size : ℕ) → Option Extent
-within bs k n = elim (leb (k + n) (length bs)) [ true ↦ some (record { before = k; size = n }) | false ↦ none ]
-
-abbrev pub onRead : {A : Type 0} → Read → ((value size : ℕ) → Option A) → Option A
-onRead (Varint v n) f = f v n
-onRead Bad f = none
-
--- Encoding, "Message Structure": VARINT is one varint, I64 eight bytes, I32 four, LEN a length and as many bytes
-unfoldable pub payloadAt : (wire : ℕ) (bs : List ℕ) → Option Extent
-payloadAt w bs = elim (eqb w VARINT) [
-  | true ↦ onRead (readVarint bs) (λ v n. within bs 0 n)
-  | false ↦ elim (eqb w I64) [
-    | true ↦ within bs 0 8
-    | false ↦ elim (eqb w I32) [ true ↦ within bs 0 4 | false ↦ onRead (readVarint bs) (λ k n. within bs n k) ]
-  ]
-]
 
 pub record Front : Type 0 where
   pub first : Raw

@@ -118,7 +118,7 @@ fn left_on(sheet: &[u8], shape: Shape, from: usize) -> Reach
 }
 
 // What a declaration of that shape leads to, whose part ends at `from`: to more parts or to the constant.
-fn behind(sheet: &[u8], request: &[u8], shape: Shape, from: usize, to: usize) -> Reach
+pub fn behind(sheet: &[u8], request: &[u8], shape: Shape, from: usize, to: usize) -> Reach
     requires { ⌜ (from ≤ to) × (to ≤ length (now request)) ⌝ }
     requires { ⌜ Lies (shape .path) (now sheet) ⌝ }
     ensures { λ r. ⌜ r ≡ behindOf (walking (now (sheet .entry))) (now (sheet .entry)) (now (request .entry)) shape from to ⌝ }
@@ -133,7 +133,7 @@ fn behind(sheet: &[u8], request: &[u8], shape: Shape, from: usize, to: usize) ->
 }
 
 // The refusal of a part that comes to nothing.
-fn why_of(lack: Lack) -> Refusal
+pub fn why_of(lack: Lack) -> Refusal
     ensures { λ r. ⌜ r ≡ whyOf lack ⌝ }
 {
     match lack {

@@ -1,0 +1,6 @@
+pub mod Either
+pub mod ReadingLaws
+pub mod FrontLaws
+pub mod LiesLaws
+pub mod RecordLaws
+pub mod Controls

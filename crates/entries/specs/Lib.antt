@@ -1,0 +1,4 @@
+pub mod Tree
+pub mod Item
+pub mod Reading
+pub mod inner

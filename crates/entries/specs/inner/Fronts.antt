@@ -1,0 +1,101 @@
+-- The record at a place, as the code answers it.
+--
+--                   message name p ==  the message of that full name at that place
+--                      PayloadIn n p <-> a payload lies before the place n
+--                      unknownOf k w p ==  a record of the number k that nothing declares, of the wire type w and the payload p
+--                   enteredOf L s e p ==  a known message of the path p, whose record is e
+--                 knownOf L s d k w p ==  a record of the number k that d declares
+--          behindTag L s m bs t at end ==  the record behind the good tag t, which ends at `at`
+--                       Shows s at i r <-> the code's answer r is the item i at the place `at`
+--                    FrontLies s at end r <-> the record lies behind `at` and before `end`, a message's path and place in the sheet
+--
+-- Assumes nothing.
+use Rattle.basis.specs.Kit.{_≡_, true, false, List, [], _∷_, Option, none, some as is, ℕ, _+_, _≤_, _<_, eqb}
+use Rattle.reply.specs.declared.Refusal.{Refusal}
+use Rattle.reply.specs.declared.Refusal.the-variants.{BadBytes, WireMismatch}
+use Rattle.field.specs.declared.Span.{Span}
+use Rattle.field.specs.Leaf.{text, Lies}
+use Rattle.types.specs.Types.{wireOf, TYPE_MESSAGE}
+use Rattle.wire.specs.Tag.{numberOf, wireTypeOf}
+use Rattle.payloads.specs.declared.Payload.{Payload}
+use Rattle.payloads.specs.declared.Payload.the-variants.{Whole, Cut}
+use Rattle.payloads.specs.Value.{valueOf}
+use Rattle.payloads.specs.inner.Placed.{payloadIn}
+use Rattle.sheet.specs.declared.declaration.Declaration.{Declaration}
+use Rattle.sheet.specs.declared.declaration.Declared.the-variants.{Declares, NoDeclaration}
+use Rattle.scope.specs.declared.lookup.LookupScope.{LookupScope}
+use Rattle.scope.specs.inner.Answers.{InSheet}
+use Rattle.fullname.specs.declared.LookedUp.{LookedUp}
+use Rattle.fullname.specs.declared.LookedUp.the-variants.{Message as Found, NoMessage}
+use Rattle.lookups.specs.Lookups.{Lookups, Message}
+use Rattle.entries.specs.declared.Entry.{Entry}
+use Rattle.entries.specs.declared.Front.{Front}
+use Rattle.entries.specs.declared.Front.the-variants.{Leaf, Inside, Wrong}
+use Rattle.entries.specs.Item.{Item, some, into, wrong, declared}
+
+abbrev pub message : (name : List ℕ) → LookupScope → Message
+message n p = record { name = n; place = p }
+
+unfoldable pub PayloadIn : (most : ℕ) → Payload → Type 0
+PayloadIn most Cut = Unit {0}
+PayloadIn most (Whole at size v) = at + size ≤ most
+
+unfoldable pub unknownOf : (number wire : ℕ) → Payload → Front
+unknownOf k w Cut = Wrong BadBytes
+unknownOf k w (Whole at size v) = Leaf (record {
+  number = k;
+  typ = 0;
+  wire = w;
+  place = at;
+  size = size;
+  value = 0;
+  by = NoDeclaration;
+}) (at + size)
+
+abbrev pub onMessage : Entry → Span → LookedUp → Front
+onMessage e p (NoMessage w) = Wrong w
+onMessage e p (Found q) = Inside e p q
+
+unfoldable pub enteredOf : Lookups → (s : List ℕ) → Entry → Span → Front
+enteredOf L s e p = onMessage e p (L .message (text s p))
+
+abbrev pub entryOf : Declaration → (number wire at size said : ℕ) → Entry
+entryOf d k w at size v = record {
+  number = k;
+  typ = d .shape .typ;
+  wire = w;
+  place = at;
+  size = size;
+  value = valueOf (d .shape .typ) v;
+  by = Declares d;
+}
+
+abbrev pub plainOf : Lookups → (s : List ℕ) → Declaration → (number wire : ℕ) → Payload → Front
+plainOf L s d k w Cut = Wrong BadBytes
+plainOf L s d k w (Whole at size v) = elim (eqb (d .shape .typ) TYPE_MESSAGE) [
+  | true ↦ enteredOf L s (entryOf d k w at size v) (d .shape .path)
+  | false ↦ Leaf (entryOf d k w at size v) (at + size)
+]
+
+unfoldable pub knownOf : Lookups → (s : List ℕ) → Declaration → (number wire : ℕ) → Payload → Front
+knownOf L s d k w p = elim (eqb (wireOf (d .shape .typ)) w) [ true ↦ plainOf L s d k w p | false ↦ Wrong WireMismatch ]
+
+abbrev pub byDeclared : Lookups → (s : List ℕ) → Option Declaration → (number wire : ℕ) → Payload → Front
+byDeclared L s none k w p = unknownOf k w p
+byDeclared L s (is d) k w p = knownOf L s d k w p
+
+unfoldable pub behindTag : Lookups → (s : List ℕ) → Message → (bs : List ℕ) (tag at end : ℕ) → Front
+behindTag L s m bs t at end =
+    byDeclared L s (declared s m (numberOf t)) (numberOf t) (wireTypeOf t) (payloadIn (wireTypeOf t) bs at end)
+
+-- a message's inside is its payload, from the place of that on
+pub data Shows (s : List ℕ) (at : ℕ) : Item → Front → Type 0 where
+  leaf : {e : Entry} {skip : ℕ} → Shows s at (some (e ∷ []) skip) (Leaf e (at + skip))
+  inside : {e : Entry} {p : Span} {q : LookupScope} {skip : ℕ} → e .place ≡ at + skip
+      → Shows s at (into e (message (text s p) q) skip (e .size)) (Inside e p q)
+  wrongly : {w : Refusal} → Shows s at (wrong w) (Wrong w)
+
+unfoldable pub FrontLies : (s : List ℕ) (at end : ℕ) → Front → Type 0
+FrontLies s at end (Leaf e next) = (at < next) × (next ≤ end)
+FrontLies s at end (Inside e p q) = (at < e .place) × (e .place + e .size ≤ end) × Lies p s × InSheet s q
+FrontLies s at end (Wrong w) = Unit {0}

@@ -1,0 +1,6 @@
+pub mod VarintOwn
+pub mod PayloadLaws
+pub mod PayloadFacts
+pub mod ValueLaws
+pub mod ValueFacts
+pub mod Controls

@@ -1,0 +1,15 @@
+-- `payloads::delimited_in` meets its contract.
+-- Assumes nothing.
+use Rattle.payloads.proofs.PayloadLaws.{payload-laws}
+use Rattle.payloads.proofs.delimited_in.Statement.{statement}
+use Rattle.payloads.proofs.delimited_in.Tie as tie
+
+pub delimited-in-spec : {M : Type 1} → statement M
+delimited-in-spec = tie.close (tie.spec
+    (λ c κs. search)
+    (λ c. search)
+    (λ c. search)
+    (λ c. search payload-laws)
+    (λ c. search payload-laws)
+    (λ c. search payload-laws)
+    (λ c. search payload-laws))

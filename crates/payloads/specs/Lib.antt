@@ -1,0 +1,3 @@
+pub mod Extent
+pub mod Value
+pub mod inner
