@@ -1,12 +1,12 @@
 -- The record at a place, as the code answers it, is the item of the definition.
 -- Assumes nothing.
-use Rattle.basis.specs.Kit.{_≡_, refl, sym, ap, _∙_, Bool, true, false, List, [], _∷_, Option, none, some as is, ℕ, zero, suc, _+_, _-_}
+use Rattle.basis.specs.Kit.{_≡_, refl, sym, ap, _∙_, Bool, true, false, List, [], _∷_, Option, none, some as is, ℕ, _+_}
 use Rattle.basis.specs.Kit.{eqb, take, drop}
 use Rattle.basis.proofs.Kit.{arith}
 use Rattle.basis.proofs.Never.{never}
 use mathlib.Core.Path.{subst}
 use native.Mathlib.Nat.{add-assoc}
-use lib.Seq.{take-nil, drop-drop}
+use lib.Seq.{drop-drop}
 use Rattle.octets.specs.Octets.{part}
 use Rattle.reply.specs.declared.Refusal.the-variants.{BadBytes}
 use Rattle.field.specs.declared.Span.{Span}
@@ -29,16 +29,7 @@ use Rattle.entries.specs.declared.Front.the-variants.{Leaf, Wrong}
 use Rattle.entries.specs.Item.{Item, some, wrong, declared, entered, entry, plain, byDeclaration, byTag, item}
 use Rattle.entries.specs.inner.Fronts.{unknownOf, onMessage, enteredOf, entryOf, plainOf, knownOf, byDeclared, behindTag}
 use Rattle.entries.specs.inner.Fronts.{Shows, leaf, inside, wrongly}
-
--- ---- what stands behind the first n bytes of a part
-drop-take : (n k : ℕ) (xs : List ℕ) → drop n (take k xs) ≡ take (k - n) (drop n xs)
-drop-take zero k xs = let z : k - 0 ≡ k = omega arith in rw z
-drop-take (suc n) zero xs = let z : 0 - suc n ≡ 0 = omega arith in rw z
-drop-take (suc n) (suc k) [] = rw take-nil
-drop-take (suc n) (suc k) (x ∷ xs) = let q : suc k - suc n ≡ k - n = omega arith in rw q (drop-take n k xs)
-
-part-behind : (s : List ℕ) (at n end : ℕ) → drop n (part s at end) ≡ part s (at + n) end
-part-behind s at n end = let q : end - at - n ≡ end - (at + n) = omega arith in rw (drop-take, drop-drop, q)
+use Rattle.entries.proofs.PartLaws.{part-behind}
 
 -- ---- behind a good tag of n bytes
 shows-either : (s : List ℕ) (at : ℕ) (b : Bool) (i j : Item) (f g : Front) → Shows s at i f → Shows s at j g

@@ -1,3 +1,4 @@
+pub mod PartLaws
 pub mod Either
 pub mod ReadingLaws
 pub mod FrontLaws

@@ -24,7 +24,7 @@ use Rattle.entries.proofs.ReadingLaws.{records-nil, records-step}
 use Rattle.levels.specs.declared.Level.{Level}
 use Rattle.levels.specs.inner.Stack.{levelWords, stackWords, wordsOf, levelAt, messageIn}
 use Rattle.levels.specs.inner.Left.{flat, both, levelRows, left, OpenAt, Settles, none-open, stays-open, closes}
-use Rattle.levels.proofs.PartLaws.{part-behind, part-inside, part-all}
+use Rattle.entries.proofs.PartLaws.{part-behind, part-inside, part-all}
 use Rattle.levels.proofs.FlatLaws.{both-push, both-both, both-last, flat-leaf, flat-held}
 use Rattle.levels.proofs.StackLaws.{level-read, level-below}
 use Rattle.levels.proofs.OpenLaws.{open-ahead, open-closed}

@@ -1,4 +1,3 @@
-pub mod PartLaws
 pub mod StackLaws
 pub mod OpenLaws
 pub mod FlatLaws

@@ -5,7 +5,7 @@ use Rattle.basis.proofs.Kit.{arith, ne-eqb}
 use mathlib.Core.Path.{subst}
 use mathlib.Core.Bool.{false≢true}
 use mathlib.Core.List.{append-nil}
-use mathlib.Core.Logic.{_⊎_, inl, inr}
+use mathlib.Core.Logic.{inl, inr}
 use borrow.Author.Tests.{eqb-true, eqb-false}
 use lib.Dec.{T}
 use mir.Facts.{and-yes}
@@ -20,21 +20,8 @@ use Rattle.wire.specs.Fixed.{littleOf}
 use Rattle.wire.proofs.FixedLaws.{little-little-of}
 use Rattle.wire.specs.Numbers.{zigzagOf, unzigzagOf, low32Of, widen32Of}
 use Rattle.wire.proofs.NumberLaws.{zigzag-plus, zigzag-minus, low32-mod, widen32-plus, widen32-minus, unzigzag-zigzag}
-use Rattle.payloads.specs.Value.{said, valueOf}
-use Rattle.payloads.proofs.ValueLaws.{lows, wides, value-plain}
-
--- ---- what a value of the type t is, as 64 bits: 0 or 1; 32 bits; 32 bits widened by sign; or all 64
-abbrev pub Widened : ℕ → Type 0
-Widened v = (v < 2 ^ 31) ⊎ ((2 ^ 64 - 2 ^ 31 ≤ v) × (v < 2 ^ 64))
-
-abbrev pub FitsBy : (bool low wide : Bool) → ℕ → Type 0
-FitsBy true l w v = v ≤ 1
-FitsBy false true w v = v < 2 ^ 32
-FitsBy false false true v = Widened v
-FitsBy false false false v = v < 2 ^ 64
-
-unfoldable pub Fits : (typ bits : ℕ) → Type 0
-Fits t v = FitsBy (eqb t TYPE_BOOL) (isAny t lows) (isAny t (TYPE_SINT32 ∷ wides)) v
+use Rattle.payloads.specs.Value.{said, lows, wides, valueOf, Widened, FitsBy, Fits}
+use Rattle.payloads.proofs.ValueLaws.{value-plain}
 
 -- ---- what its payload says
 unfoldable pub rawOf : (typ bits : ℕ) → ℕ

@@ -1,18 +1,11 @@
--- The value of a record by its type: the groups of types, and the laws of `value_of`, one for each way through the code.
+-- The value of a record by its type: the laws of `value_of`, one for each way through the code.
 -- Assumes nothing.
 use Rattle.basis.specs.Kit.{_≡_, sym, _∙_, Bool, true, false, _||_, List, [], _∷_, ℕ, eqb}
 use Rattle.basis.proofs.Kit.{ne-eqb, eq-eqb}
 use Rattle.types.specs.Types.{isAny, TYPE_FLOAT, TYPE_INT32, TYPE_FIXED32, TYPE_BOOL, TYPE_UINT32, TYPE_ENUM, TYPE_SFIXED32}
 use Rattle.types.specs.Types.{TYPE_SINT32, TYPE_SINT64}
 use Rattle.wire.specs.Numbers.{unzigzagOf, low32Of, widen32Of}
-use Rattle.payloads.specs.Value.{valueOf}
-
--- ---- the groups of types that keep 32 bits: those without a sign, and those that widen by it
-abbrev pub lows : List ℕ
-lows = TYPE_UINT32 ∷ TYPE_FIXED32 ∷ TYPE_FLOAT ∷ []
-
-abbrev pub wides : List ℕ
-wides = TYPE_INT32 ∷ TYPE_ENUM ∷ TYPE_SFIXED32 ∷ []
+use Rattle.payloads.specs.Value.{lows, wides, valueOf}
 
 module _ (t v : ℕ) where
   pub value-bool : t ≡ TYPE_BOOL → valueOf t v ≡ elim (eqb v 0) [ true ↦ 0 | false ↦ 1 ]

@@ -48,47 +48,54 @@ use Rattle.promises.proofs.Bounds as bounds
 use Rattle.promises.proofs.Levels as levels
 use Rattle.promises.proofs.Theorems as theorems
 
--- ==== Demand 1: every sheet and request gets an answer from 01's table; a refusal writes nothing; NoRoom comes last
-module _ (s r before : List ℕ) where
+-- ==== Demand 1: every input gets an answer from 01's table; a refusal writes nothing; NoRoom comes last
+-- Of each call: `o` is what it comes to, `resolveBytes s r`, `listing s type bs`, `query s type q bs` or any other outcome, and its contract,
+-- with no premise on its inputs, is `Answered o before after a`.
+module _ (o : Outcome ℕ) (before : List ℕ) where
   -- Any two outcomes that the contract allows coincide, in the answer
-  pub one-answer : (after after′ : List ℕ) (a a′ : Answer) → Answered (resolveBytes s r) before after a
-      → Answered (resolveBytes s r) before after′ a′ → a ≡ a′
-  one-answer after after′ a a′ = answered-unique-answer (resolveBytes s r) before after after′ a a′
+  pub one-answer : (after after′ : List ℕ) (a a′ : Answer) → Answered o before after a → Answered o before after′ a′ → a ≡ a′
+  one-answer after after′ a a′ = answered-unique-answer o before after after′ a a′
 
   -- and in the lent memory.
-  pub one-memory : (after after′ : List ℕ) (a a′ : Answer) → Answered (resolveBytes s r) before after a
-      → Answered (resolveBytes s r) before after′ a′ → after ≡ after′
-  one-memory after after′ a a′ = answered-unique-left (resolveBytes s r) before after after′ a a′
+  pub one-memory : (after after′ : List ℕ) (a a′ : Answer) → Answered o before after a → Answered o before after′ a′ → after ≡ after′
+  one-memory after after′ a a′ = answered-unique-left o before after after′ a a′
 
-  module _ (after : List ℕ) (a : Answer) (k : Answered (resolveBytes s r) before after a) where
+  module _ (after : List ℕ) (a : Answer) (k : Answered o before after a) where
     -- What 01 refuses is answered by its number, whatever the room, and nothing is written:
-    pub refused-answer : (w : Refusal) → resolveBytes s r ≡ refuse w → a ≡ refusedBy w
-    refused-answer w e = k .answer ∙ ap (λ o. answerOf (within (length before) o)) e
+    pub refused-answer : (w : Refusal) → o ≡ refuse w → a ≡ refusedBy w
+    refused-answer w e = k .answer ∙ ap (λ x. answerOf (within (length before) x)) e
 
-    pub refused-memory : (w : Refusal) → resolveBytes s r ≡ refuse w → after ≡ before
-    refused-memory w e = k .left ∙ ap (λ o. leftOf (within (length before) o) before) e
+    pub refused-memory : (w : Refusal) → o ≡ refuse w → after ≡ before
+    refused-memory w e = k .left ∙ ap (λ x. leftOf (within (length before) x) before) e
 
-    -- NoRoom is left for bytes that the lent memory does not hold, and nothing is written.
-    pub no-room-answer : (bs : List ℕ) → resolveBytes s r ≡ give bs → length before < length bs → a ≡ refusedBy NoRoom
+    -- NoRoom is left for elements that the lent memory does not hold, and nothing is written.
+    pub no-room-answer : (bs : List ℕ) → o ≡ give bs → length before < length bs → a ≡ refusedBy NoRoom
     no-room-answer bs e h = k .answer ∙ rw e (simp (within, lt-ltb _ _ h))
 
-    pub no-room-memory : (bs : List ℕ) → resolveBytes s r ≡ give bs → length before < length bs → after ≡ before
+    pub no-room-memory : (bs : List ℕ) → o ≡ give bs → length before < length bs → after ≡ before
     no-room-memory bs e h = k .left ∙ rw e (simp (within, lt-ltb _ _ h))
 
     -- Else the answer is 0 with their number, they stand at the front, and what is behind them stays.
-    pub done-answer : (bs : List ℕ) → resolveBytes s r ≡ give bs → length bs ≤ length before → a ≡ doneWith (length bs)
+    pub done-answer : (bs : List ℕ) → o ≡ give bs → length bs ≤ length before → a ≡ doneWith (length bs)
     done-answer bs e h = k .answer ∙ rw e (simp (within, le-ltb _ _ h))
 
-    pub done-memory : (bs : List ℕ) → resolveBytes s r ≡ give bs → length bs ≤ length before → after ≡ bs ++ drop (length bs) before
+    pub done-memory : (bs : List ℕ) → o ≡ give bs → length bs ≤ length before → after ≡ bs ++ drop (length bs) before
     done-memory bs e h = k .left ∙ rw e (simp (within, le-ltb _ _ h))
 
-    -- Absent is an answer of its own, never empty bytes.
-    pub absent-answer : resolveBytes s r ≡ nothing → a ≡ absentAnswer
-    absent-answer e = k .answer ∙ ap (λ o. answerOf (within (length before) o)) e
+    -- Absent is an answer of its own, never an empty one.
+    pub absent-answer : o ≡ nothing → a ≡ absentAnswer
+    absent-answer e = k .answer ∙ ap (λ x. answerOf (within (length before) x)) e
 
--- A sheet that was tested once may be asked a thousand times: on it the call without that test comes to the same.
-pub tested-once : (s r : List ℕ) → judgeSheet s ≡ Fine → resolveBytes s r ≡ resolveTested s r
-tested-once = calls.resolve-tested
+-- A sheet that was tested once may be asked a thousand times: on it a call without that test comes to the same.
+module _ (s : List ℕ) (fine : judgeSheet s ≡ Fine) where
+  pub resolve-once : (r : List ℕ) → resolveBytes s r ≡ resolveTested s r
+  resolve-once r = calls.resolve-tested s r fine
+
+  pub list-once : (type bs : List ℕ) → listing s type bs ≡ listingTested s type bs
+  list-once type bs = lists.list-tested s type bs fine
+
+  pub query-once : (type q bs : List ℕ) → query.query s type q bs ≡ query.queryTested s type q bs
+  query-once type q bs = queries.query-tested s type q bs fine
 
 -- ==== Demand 2: look-ups and bytes are 01's and Encoding's
 -- 01's examples P1 to P9, of the whole call: bytes, refusals with their places, Absent.
@@ -129,6 +136,87 @@ pub behind-unread : (L : Lookups) (s r scope : List ℕ) (m : Message) (front : 
     (os os′ : List Option) (f : Fault) → settle L s r scope m o ≡ fails f
     → gather L s r scope m i ks x (front ++ o ∷ os) ≡ gather L s r scope m i ks x (front ++ o ∷ os′)
 behind-unread = theorems.options-behind
+
+-- ==== Demand 2, reading back: what option bytes hold is Encoding's and 01's
+-- `L` are look-ups, any, as `walking s` is; `recordsOf L s type bs` is what 01 says that the option bytes bs hold under an options type:
+-- `list` writes the rows of it, and `query` follows a name through it. First the bytes of records, rs:
+module _ {rs : Recs} (p : Proper rs) (small : length (encode rs) < 2 ^ 64) where
+  module _ (L : Lookups) (s : List ℕ) where
+    -- Under any sheet that does not contradict them they are read, never refused, as that sheet sees these records: what it does not
+    -- declare is unknown and not entered.
+    pub any-sheet : (m : Message) (place d : ℕ) → Readable L s m rs → nested rs < d
+        → reading L s d m place (encode rs) ≡ listed (seen L s m rs place)
+    any-sheet m place d y k = records.reading-of-records L s p m place d y small k
+
+    -- So it is under an options type, of every call.
+    pub any-type : (type : List ℕ) (x : LookupScope) → L .message type ≡ Found x → Readable L s (record { name = type; place = x }) rs
+        → nested rs < mostLevels
+        → recordsOf L s type (encode rs) ≡ under (record { name = type; place = x }) (seen L s (record { name = type; place = x }) rs 0)
+    any-type type x g y k = reading-under L s type (encode rs) x g _ (any-sheet (record { name = type; place = x }) 0 mostLevels y k)
+
+    -- Under the sheet that types them nothing is unknown: the rows are these records in order, each with its level, number, type, value
+    -- and payload.
+    module _ (m : Message) (y : Typed L s m rs) where
+      pub own-bytes : (d : ℕ) → nested rs < d → reading L s d m 0 (encode rs) ≡ listed (seen L s m rs 0)
+      own-bytes d k = own.own-bytes L s p m y d small k
+
+      pub own-rows : map (contentOf (encode rs)) (rows 0 (seen L s m rs 0)) ≡ contents 0 rs
+      own-rows = own.own-rows L s p m y
+
+  -- Under an older sheet that keeps to the one that types them they are read too.
+  pub older-bytes : (L : Lookups) (s : List ℕ) (L′ : Lookups) (s′ : List ℕ) (Same : Message → Message → Type 0) → Keeps L s L′ s′ Same
+      → (m m′ : Message) → Same m m′ → Typed L′ s′ m′ rs → (d : ℕ) → nested rs < d
+      → reading L s d m 0 (encode rs) ≡ listed (seen L s m rs 0)
+  older-bytes L s L′ s′ Same keeps m m′ one y d k = older.older-bytes L s L′ s′ Same keeps p m m′ one y 0 d small k
+
+-- Then any option bytes that are read.
+module _ (L : Lookups) (s type bs : List ℕ) (m : Message) (t : Tree) (read : recordsOf L s type bs ≡ under m t) where
+  -- The records lie inside the bytes, one behind the other, what a message holds inside its payload, and each value is what its payload
+  -- says;
+  pub records-lie : Lying bs 0 (length bs) t
+  records-lie = lying.reading-lies bs L s mostLevels m t (under-reading L s type bs m t read)
+
+  -- so each row lies inside the bytes, and its value is what its payload says,
+  pub row-lies : {r : Row} → Among r (rows 0 t) → RecordLies bs 0 (length bs) (r .entry)
+  row-lies = lying.rows-lie bs 0 0 (length bs) t records-lie
+
+  -- and the rows are in the order of the bytes.
+  pub rows-ordered : Ordered (λ x y. x .entry .place ≤ y .entry .place) (rows 0 t)
+  rows-ordered = lying.rows-ordered bs 0 0 (length bs) t records-lie
+
+  -- A record is known exactly if its number is declared at its message, by that declaration and its type; known messages, and they alone,
+  -- are entered, each at the message that its type path names.
+  pub records-known : Knows L s m t
+  records-known = knows.reading-knows L s mostLevels m 0 bs t (under-reading L s type bs m t read)
+
+-- The query reaches exactly the row that 01 follows: at each part the last record that the part's declaration lists.
+pub reached-follows : (ds : List Declaration) (l : ℕ) (t : Tree) (x : Row) → query.reached query.never l ds t ≡ some x → Follows l ds t x
+reached-follows = follows.reached-follows
+
+pub follows-reached : {l : ℕ} {ds : List Declaration} {t : Tree} {x : Row} → Follows l ds t x
+    → query.reached query.never l ds t ≡ some x
+follows-reached = follows.follows-reached
+
+-- Whatever is joined:
+module _ (joins : Declaration → Bool) (L : Lookups) (s type q bs : List ℕ) where
+  -- it answers the words of the row that the name leads to,
+  pub query-answers : (ws : List ℕ) → query.queryOf joins L s type q bs ≡ give ws
+      → (x : Row) × Leads joins L s type q bs x × (ws ≡ words x)
+  query-answers = queries.query-answers joins L s type q bs
+
+  pub query-given : (x : Row) → Leads joins L s type q bs x → query.queryOf joins L s type q bs ≡ give (words x)
+  query-given = queries.leads-query joins L s type q bs
+
+  -- which is a row of the listing of the same bytes,
+  pub query-listed : (x : Row) (y : Leads joins L s type q bs x) → Among x (rows 0 (y .tree))
+  query-listed = queries.leads-listed joins L s type q bs
+
+  -- and Absent exactly where there is none or parts are left on a group.
+  pub query-absent : query.queryOf joins L s type q bs ≡ nothing → Lacks joins L s type q bs
+  query-absent = queries.query-absent joins L s type q bs
+
+  pub query-lacks : Lacks joins L s type q bs → query.queryOf joins L s type q bs ≡ nothing
+  query-lacks = queries.lacks-query joins L s type q bs
 
 -- ==== For demand 3
 -- A request writes at most 65,536 bytes,

@@ -42,7 +42,7 @@ raw-next (x ∷ xs) ys r rs h f e =
 
 -- ---- a payload at the front
 module _ (w : ℕ) (P : ℕ → Type 0) (a : P VARINT) (b : P I64) (c : P I32) where
-  number-wire : isAny w (VARINT ∷ I64 ∷ I32 ∷ []) ≡ true → P w
+  pub number-wire : isAny w (VARINT ∷ I64 ∷ I32 ∷ []) ≡ true → P w
   number-wire = go (eqb w VARINT) (eqb w I64) (eqb w I32) refl refl refl
     where
       go : (x y z : Bool) → eqb w VARINT ≡ x → eqb w I64 ≡ y → eqb w I32 ≡ z → (x || (y || (z || false))) ≡ true → P w
@@ -63,7 +63,7 @@ varint-at : (v : ℕ) (ys : List ℕ) → v < 2 ^ 64 → payloadAt VARINT (varin
 unfolding payloadAt
 varint-at v ys h = rw (read-varint v ys h) (within-is (varint v) ys 0 (length (varint v)) (omega arith))
 
-bytes-at : (bs ys : List ℕ) → length bs < 2 ^ 64
+pub bytes-at : (bs ys : List ℕ) → length bs < 2 ^ 64
     → payloadAt LEN (varint (length bs) ++ (bs ++ ys)) ≡ extent (length (varint (length bs))) (length bs)
 unfolding payloadAt
 bytes-at bs ys h =
@@ -80,7 +80,7 @@ module _ (t v : ℕ) (ys : List ℕ) where
       let size : length (payload t v) ≡ k = ap length p ∙ little-of-length k x in
       q (payload t v ++ ys) ∙ within-is (payload t v) ys 0 k (omega arith) ∙ ap (extent 0) (sym size)
 
-  number-at : v < 2 ^ 64 → isAny (wireOf t) (VARINT ∷ I64 ∷ I32 ∷ []) ≡ true → At (wireOf t)
+  pub number-at : v < 2 ^ 64 → isAny (wireOf t) (VARINT ∷ I64 ∷ I32 ∷ []) ≡ true → At (wireOf t)
   unfolding payloadAt
   number-at h =
       number-wire (wireOf t) At

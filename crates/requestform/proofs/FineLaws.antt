@@ -6,7 +6,7 @@ use Rattle.basis.proofs.Kit.{arith}
 use mathlib.Core.Path.{subst}
 use mathlib.Core.Bool.{false≢true, not, and-eq-true-iff}
 use borrow.Author.Tests.{eqb-true}
-use Rattle.limits.specs.Figures.{mostRequest, mostOptions}
+use Rattle.limits.specs.Figures.{mostRequest, mostOptions, mostParts}
 use Rattle.path.specs.Path.{isRelPath, isRelOrEmpty}
 use Rattle.reply.specs.declared.Refusal.the-variants.{BadRequest, BeyondLimit}
 use Rattle.reply.specs.declared.Verdict.{Verdict}
@@ -216,3 +216,7 @@ module _ (s : List ℕ) where
   fine-name-some p =
       let f = name-fine p in
       parts-some (walk s 0 (length s)) 0 (λ z. f .some (f .parts .ends ∙ z))
+
+  -- A fine name has at most 16 parts.
+  pub fine-name-few : judgeName s ≡ Fine → length (partsIn (walk s 0 (length s))) ≤ mostParts
+  fine-name-few p = omega (arith, name-fine p .parts .few)

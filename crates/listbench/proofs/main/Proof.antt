@@ -1,0 +1,13 @@
+-- `listbench::main` meets its contract. The buffers' lengths are laws and not computed: their elements take antt seconds.
+-- Assumes nothing.
+use Rattle.basis.specs.Kit.{sym, ℕ}
+use lib.ListN.{length-replicate}
+use Rattle.listbench.proofs.main.Statement.{statement}
+use Rattle.listbench.proofs.main.Tie as tie
+
+pub main-spec : {M : Type 1} → statement M
+main-spec = tie.close (tie.spec
+    (λ c. sym (length-replicate {A = ℕ} 131076 0))
+    (λ c. sym (length-replicate {A = ℕ} 262144 0))
+    (λ c κs. search)
+    (λ c. search))

@@ -1,0 +1,5 @@
+pub mod PayloadLaws
+pub mod RowLaws
+pub mod ListingLaws
+pub mod Controls
+pub mod CallControls

@@ -1,0 +1,2 @@
+pub mod Listing
+pub mod inner

@@ -1,0 +1,182 @@
+-- All rows followed, and what the name makes of the best one: the loop of `follow_rows`, and the ways through `count_of`, `settle`, `see_rows`
+-- and `query_over`.
+-- Assumes nothing.
+use Rattle.basis.specs.Kit.{_≡_, refl, sym, ap, _∙_, List, [], _∷_, map, ℕ, _+_, _*_, _^_, _≤_, length}
+use Rattle.basis.proofs.Kit.{arith}
+use Rattle.basis.proofs.Never.{never as nothing-left}
+use Rattle.limits.specs.Figures.{mostLevels, mostParts}
+use Rattle.reply.specs.declared.Refusal.{Refusal}
+use Rattle.reply.specs.declared.Verdict.the-variants.{Fine}
+use Rattle.reply.specs.Outcome.{Outcome, refused as refusedFor, nothing, give, push}
+use Rattle.field.specs.Walk.{walk}
+use Rattle.sheet.specs.declared.declaration.Declaration.{Declaration}
+use Rattle.request.specs.declared.name.Part.{Part}
+use Rattle.request.specs.Name.{partsIn}
+use Rattle.requestform.specs.Form.{judgeName}
+use Rattle.requestform.proofs.FineLaws.{fine-name, fine-name-few}
+use Rattle.scope.specs.declared.lookup.LookupScope.{LookupScope}
+use Rattle.lookups.specs.Lookups.{Lookups, Message, walking}
+use Rattle.steps.specs.declared.Step.{Step}
+use Rattle.steps.specs.declared.Step.the-variants.{Found as FoundStep, NotFound}
+use Rattle.steps.specs.Steps.{stepOf}
+use Rattle.entries.specs.declared.Row.{Row}
+use Rattle.entries.specs.Tree.{Tree, rows}
+use Rattle.entries.specs.Reading.{Listed, listed, refused, reading}
+use Rattle.entries.specs.inner.Fronts.{message}
+use Rattle.levels.specs.declared.Cursor.{Cursor}
+use Rattle.levels.specs.declared.Event.{Event}
+use Rattle.levels.specs.declared.Event.the-variants.{Record, End, Wrong}
+use Rattle.levels.specs.inner.Left.{flat, left, Open, Starts, Moves}
+use Rattle.levels.proofs.StartLaws.{start-open, start-left}
+use Rattle.levels.proofs.MovesLaws.{moved-open, moved-rest, moved-less, moved-end, moved-wrong}
+use Rattle.query.specs.declared.best.Best.{Best}
+use Rattle.query.specs.declared.best.Best.the-variants.{NoneYet}
+use Rattle.query.specs.declared.best.Followed.{Followed}
+use Rattle.query.specs.declared.name.Naming.{Naming}
+use Rattle.query.specs.declared.name.Naming.the-variants.{Parts, Group, Refused as RefusedName}
+use Rattle.query.specs.declared.Seen.{Seen}
+use Rattle.query.specs.declared.Seen.the-variants.{All, Refused}
+use Rattle.query.specs.Name.{Named, names, group, refusedAt, declarations}
+use Rattle.query.specs.Query.{never}
+use Rattle.query.specs.inner.Keys.{keyOf, keyWords, keysFrom, Namable, Declares, declares, leaves-group, refuses}
+use Rattle.query.specs.inner.Following.{nothingYet, follow, followed}
+use Rattle.query.specs.inner.Answering.{seenIn, countOf, settled, ofNamed, ofListed, queried}
+use Rattle.query.proofs.NameLaws.{declarations-length}
+use Rattle.query.proofs.ReachedLaws.{followed-reached}
+
+-- ---- follow_rows: the rows before the cursor are followed
+seen-push : (ks : List ℕ) (n : ℕ) (f : Followed) (x : Row) (o : Outcome Row)
+    → seenIn ks n f (push (x ∷ []) o) ≡ seenIn ks n (follow ks n f x) o
+seen-push ks n f x (give xs) = refl
+seen-push ks n f x nothing = refl
+seen-push ks n f x (refusedFor c) = refl
+
+pub record Seeing (s type bs ks : List ℕ) (n : ℕ) (whole : Outcome Row) (st : List ℕ) (c : Cursor) (f : Followed) : Type 0 where
+  pub opens : Open s bs st c
+  pub rest : seenIn ks n nothingYet whole ≡ seenIn ks n f (left (walking s) s type bs st (c .depth) (c .at))
+
+pub seeing-start : (s type bs ks : List ℕ) (n : ℕ) (st : List ℕ) (c : Cursor) → Open s bs st c
+    → Seeing s type bs ks n (left (walking s) s type bs st (c .depth) (c .at)) st c nothingYet
+seeing-start s type bs ks n st c o = record { opens = o; rest = refl }
+
+module _ (s type bs ks : List ℕ) (n : ℕ) (whole : Outcome Row) (st : List ℕ) (c : Cursor) (f : Followed)
+    (u : Seeing s type bs ks n whole st c f) where
+  pub seeing-open : Open s bs st c
+  seeing-open = u .opens
+
+  module _ (st′ : List ℕ) (r : Event)
+      (k : Moves s type bs (left (walking s) s type bs st (c .depth) (c .at)) (c .at) st′ r) where
+    pub seeing-end : r ≡ End → All (f .best) ≡ seenIn ks n nothingYet whole
+    seeing-end g = sym (u .rest ∙ ap (seenIn ks n f) (moved-end s type bs _ (c .at) st′ r k g))
+
+    pub seeing-wrong : (w : Refusal) → r ≡ Wrong w → Refused w ≡ seenIn ks n nothingYet whole
+    seeing-wrong w g = sym (u .rest ∙ ap (seenIn ks n f) (moved-wrong s type bs _ (c .at) st′ r k w g))
+
+    pub seeing-next : (x : Row) (d : Cursor) → r ≡ Record x d → (f′ : Followed) → f′ ≡ follow ks n f x
+        → Seeing s type bs ks n whole st′ d f′
+    seeing-next x d g f′ e =
+        let after = left (walking s) s type bs st′ (d .depth) (d .at) in
+        record {
+          opens = moved-open s type bs _ (c .at) st′ r k x d g;
+          rest =
+              u .rest ∙ ap (seenIn ks n f) (moved-rest s type bs _ (c .at) st′ r k x d g) ∙ seen-push ks n f x after
+              ∙ ap (λ (h : Followed). seenIn ks n h after) (sym e);
+        }
+
+pub ruleset seeing-laws = (seeing-start, seeing-open, seeing-end, seeing-wrong, seeing-next, moved-less)
+
+-- ---- count_of and settle
+module _ (r : Naming) where
+  pub count-parts : (n : ℕ) → r ≡ Parts n → n ≡ countOf r
+  count-parts n e = rw e
+
+  pub count-group : r ≡ Group → 0 ≡ countOf r
+  count-group e = rw e
+
+  pub count-refused : (i : ℕ) (w : Refusal) → r ≡ RefusedName i w → 0 ≡ countOf r
+  count-refused i w e = rw e
+
+  module _ (b : Best) where
+    pub settle-parts : (n : ℕ) → r ≡ Parts n → All b ≡ settled r b
+    settle-parts n e = rw e
+
+    pub settle-group : r ≡ Group → All NoneYet ≡ settled r b
+    settle-group e = rw e
+
+    pub settle-refused : (i : ℕ) (w : Refusal) → r ≡ RefusedName i w → Refused w ≡ settled r b
+    settle-refused i w e = rw e
+
+pub ruleset settle-laws = (count-parts, count-group, count-refused, settle-parts, settle-group, settle-refused)
+
+-- ---- see_rows
+module _ (p : LookupScope) (bs st : List ℕ) (c : Cursor) (k : Starts p bs st c) where
+  pub all-seen : (s type ks : List ℕ) (n : ℕ) (r : Seen) → r ≡ seenIn ks n nothingYet (left (walking s) s type bs st (c .depth) (c .at))
+      → r ≡ seenIn ks n nothingYet (flat 0 (reading (walking s) s mostLevels (message type p) 0 bs))
+  all-seen s type ks n r e = e ∙ ap (seenIn ks n nothingYet) (start-left p bs st c k (walking s) s type)
+
+pub ruleset see-laws = (start-open, all-seen)
+
+-- ---- query_over
+module _ (q : List ℕ) (fine : judgeName q ≡ Fine) (ws : List ℕ) (size : length ws ≡ mostParts * keyWords) where
+  pub over-namable : (scope : List ℕ) → length scope ≡ 0 → Namable q scope 0 0 ws
+  over-namable scope e = record {
+    within = omega arith;
+    parts = fine-name q fine;
+    empty = none scope e;
+    room = omega (arith, fine-name-few q fine);
+    few = omega arith;
+  }
+    where
+      none : (xs : List ℕ) → length xs ≡ 0 → xs ≡ []
+      none [] h = refl
+      none (x ∷ xs) h = absurd (omega arith)
+
+  module _ (L : Lookups) (s : List ℕ) (m : Message) (r : Naming) (n : ℕ) (c : n ≡ countOf r) (us : List ℕ) where
+    -- as many declarations as parts
+    parts-few : {x : Named} {i : ℕ} {ws ws′ : List ℕ} {v : Naming} {j : ℕ} → Declares never x i ws ws′ v
+        → x ≡ declarations L s q 0 m (partsIn (walk q 0 (length q))) → v ≡ Parts j → i ≡ 0 → j ≤ length (partsIn (walk q 0 (length q)))
+    parts-few (declares {ds} {k = i} {n = h} e f o) a g z =
+        let same : _≡_ {A = ℕ} h _ = cc in
+        omega (arith, declarations-length L s q (partsIn (walk q 0 (length q))) 0 m ds (sym a))
+    parts-few leaves-group a g z = nothing-left cc
+    parts-few refuses a g z = nothing-left cc
+
+    pub over-room : Declares never (declarations L s q 0 m (partsIn (walk q 0 (length q)))) 0 us ws r → n * keyWords ≤ length ws
+    over-room k = go r c k
+      where
+        go : (v : Naming) → n ≡ countOf v → Declares never (declarations L s q 0 m (partsIn (walk q 0 (length q)))) 0 us ws v
+            → n * keyWords ≤ length ws
+        go (Parts i) e k = omega (arith, fine-name-few q fine, parts-few {j = i} k refl refl refl, e)
+        go Group e k = omega arith
+        go (RefusedName i w) e k = omega arith
+
+module _ (L : Lookups) (s q : List ℕ) (m : Message) (bs ks : List ℕ) (n : ℕ) (v : Seen)
+    (e : v ≡ seenIn ks n nothingYet (flat 0 (reading L s mostLevels m 0 bs))) where
+  pub over-wrong : (w : Refusal) → v ≡ Refused w → Refused w ≡ queried L s q m bs
+  unfolding queried
+  over-wrong w g = go (reading L s mostLevels m 0 bs) (sym e ∙ g)
+    where
+      go : (x : Listed) → seenIn ks n nothingYet (flat 0 x) ≡ Refused w
+          → Refused w ≡ ofListed (declarations L s q 0 m (partsIn (walk q 0 (length q)))) x
+      go (listed t) h = nothing-left cc
+      go (refused w′) h = let same : w ≡ w′ = cc in ap Refused same
+
+  pub over-settled : (b : Best) → v ≡ All b → (us : List ℕ) (r : Naming) → n ≡ countOf r
+      → Declares never (declarations L s q 0 m (partsIn (walk q 0 (length q)))) 0 us ks r
+      → (y : Seen) → y ≡ settled r b → y ≡ queried L s q m bs
+  unfolding queried
+  over-settled b g us r c k y z = z ∙ go (reading L s mostLevels m 0 bs) (sym e ∙ g)
+    where
+      by : {x : Named} {i : ℕ} {ws ws′ : List ℕ} {r : Naming} (t : Tree) → Declares never x i ws ws′ r → i ≡ 0 → ws′ ≡ ks → n ≡ countOf r
+          → b ≡ followed ks n nothingYet (rows 0 t) .best → settled r b ≡ ofNamed x t
+      by t (declares {ds} {k = i} {n = j} {ws} {ws′} h f o) z a d p =
+          let count : n ≡ 0 + length ds = omega arith in
+          let keys : keysFrom ks 0 (length ds) ≡ map (keyOf never) ds = rw (z, a) at f in
+          ap All (p ∙ followed-reached never ks ds n t count keys)
+      by t leaves-group z a d p = refl
+      by t refuses z a d p = refl
+
+      go : (x : Listed) → seenIn ks n nothingYet (flat 0 x) ≡ All b
+          → settled r b ≡ ofListed (declarations L s q 0 m (partsIn (walk q 0 (length q)))) x
+      go (listed t) h = by t k refl refl c cc
+      go (refused w) h = nothing-left cc

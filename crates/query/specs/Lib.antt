@@ -1,0 +1,3 @@
+pub mod Name
+pub mod Query
+pub mod inner

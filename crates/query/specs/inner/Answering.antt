@@ -1,0 +1,73 @@
+-- What following the rows of option bytes comes to, as the code answers it.
+--
+--          seenIn ks n f o ==  what following the rows o comes to, n keys in the words ks and f being followed before
+--                countOf n ==  how many parts the name n has to be followed by
+--              settled n b ==  what is answered of the name n and the best row b
+--                 bestOf o ==  the row o, if any
+--        queried L s q m bs ==  what the name q comes to in the option bytes bs, in the message m
+--               outcomeOf x ==  what x comes to for the lent memory
+--   admitted v s type q bs ==  the message that the options type is, or the first fault of the inputs, of which the sheet is judged v
+--
+-- Assumes nothing.
+use Rattle.basis.specs.Kit.{List, Option, none, some, ℕ, length}
+use Rattle.limits.specs.Figures.{mostLevels}
+use Rattle.reply.specs.declared.Refusal.{Refusal}
+use Rattle.reply.specs.declared.Verdict.{Verdict}
+use Rattle.reply.specs.Outcome.{Outcome, refused as refusedFor, nothing, give, refuse}
+use Rattle.field.specs.Walk.{walk}
+use Rattle.request.specs.Name.{partsIn}
+use Rattle.fullname.specs.declared.LookedUp.{LookedUp}
+use Rattle.lookups.specs.Lookups.{Lookups, Message, walking}
+use Rattle.entries.specs.declared.Row.{Row}
+use Rattle.entries.specs.Tree.{Tree, words}
+use Rattle.entries.specs.Reading.{Listed, listed, refused, reading}
+use Rattle.listing.specs.inner.Worded.{unlessFaulty}
+use Rattle.query.specs.declared.best.Best.{Best}
+use Rattle.query.specs.declared.best.Best.the-variants.{Found, NoneYet}
+use Rattle.query.specs.declared.best.Followed.{Followed}
+use Rattle.query.specs.declared.name.Naming.{Naming}
+use Rattle.query.specs.declared.name.Naming.the-variants.{Parts, Group, Refused as RefusedName}
+use Rattle.query.specs.declared.Seen.{Seen}
+use Rattle.query.specs.declared.Seen.the-variants.{All, Refused}
+use Rattle.query.specs.Name.{Named, names, group, refusedAt, declarations}
+use Rattle.query.specs.Query.{never, reached, judgeInputs}
+use Rattle.query.specs.inner.Following.{followed}
+
+abbrev pub seenIn : (words : List ℕ) (count : ℕ) → Followed → Outcome Row → Seen
+seenIn ks n f (give xs) = All (followed ks n f xs .best)
+seenIn ks n f nothing = All NoneYet
+seenIn ks n f (refusedFor c) = Refused (c .why)
+
+abbrev pub countOf : Naming → ℕ
+countOf (Parts n) = n
+countOf Group = 0
+countOf (RefusedName i w) = 0
+
+abbrev pub settled : Naming → Best → Seen
+settled (Parts n) b = All b
+settled Group b = All NoneYet
+settled (RefusedName i w) b = Refused w
+
+abbrev pub bestOf : Option Row → Best
+bestOf none = NoneYet
+bestOf (some x) = Found x
+
+abbrev pub ofNamed : Named → Tree → Seen
+ofNamed (names ds) t = All (bestOf (reached never 0 ds t))
+ofNamed group t = All NoneYet
+ofNamed (refusedAt i w) t = Refused w
+
+abbrev pub ofListed : Named → Listed → Seen
+ofListed n (listed t) = ofNamed n t
+ofListed n (refused w) = Refused w
+
+unfoldable pub queried : Lookups → (s name : List ℕ) → Message → (bs : List ℕ) → Seen
+queried L s q m bs = ofListed (declarations L s q 0 m (partsIn (walk q 0 (length q)))) (reading L s mostLevels m 0 bs)
+
+abbrev pub outcomeOf : Seen → Outcome ℕ
+outcomeOf (Refused w) = refuse w
+outcomeOf (All NoneYet) = nothing
+outcomeOf (All (Found x)) = give (words x)
+
+unfoldable pub admitted : Verdict → (s type name bs : List ℕ) → LookedUp
+admitted v s type q bs = unlessFaulty (judgeInputs v type q bs) (walking s .message type)

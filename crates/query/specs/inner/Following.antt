@@ -1,0 +1,51 @@
+-- Rows that are followed one after the other by the keys of a name's parts.
+--
+--                   nothing ==  nothing is followed yet
+--            follow ks f x ==  what is followed after the row x
+--          followed ks f xs ==  what is followed after the rows xs
+--                  bestOf b ==  the row that was found last, if any
+--          soughtIn ks f o ==  what comes of the rows o: the row that was found last, or the first fault
+--
+-- Assumes nothing.
+use Rattle.basis.specs.Kit.{Bool, true, false, _&&_, List, [], _∷_, Option, none, some, ℕ, _+_, eqb, ltb, leb, getD, length}
+use Rattle.basis.specs.First.{onlyIf}
+use Rattle.reply.specs.declared.Refusal.{Refusal}
+use Rattle.sheet.specs.declared.declaration.Declared.{Declared}
+use Rattle.sheet.specs.declared.declaration.Declared.the-variants.{Declares, NoDeclaration}
+use Rattle.entries.specs.declared.Row.{Row}
+use Rattle.query.specs.declared.best.Best.{Best}
+use Rattle.query.specs.declared.best.Best.the-variants.{Found, NoneYet}
+use Rattle.query.specs.declared.best.Followed.{Followed}
+use Rattle.query.specs.inner.Keys.{Key, keyAt}
+
+abbrev pub nothingYet : Followed
+nothingYet = record { matched = 0; best = NoneYet }
+
+unfoldable pub isAt : (place : ℕ) → Declared → Bool
+isAt p NoDeclaration = false
+isAt p (Declares d) = eqb (d .name .from) p
+
+unfoldable pub lesser : (a b : ℕ) → ℕ
+lesser a b = elim (ltb a b) [ true ↦ a | false ↦ b ]
+
+-- the levels deeper than the row's are closed by it; a row by the last part's key is the best so far; one by another part's key opens the
+-- level of the next part, and what was found before is let go unless its records are joined
+module _ (words : List ℕ) (count : ℕ) where
+  abbrev pub byKey : (matched level : ℕ) → Best → Row → Followed
+  byKey k l b x = elim (isAt (keyAt words l .place) (x .entry .by)) [
+    | true ↦ elim (eqb (l + 1) count) [
+      | true ↦ record { matched = k; best = Found x }
+      | false ↦ record { matched = l + 1; best = onlyIf (keyAt words l .joins) b NoneYet }
+    ]
+    | false ↦ record { matched = k; best = b }
+  ]
+
+  abbrev pub atLevel : (matched : ℕ) → Best → Row → Followed
+  atLevel k b x = elim (eqb k (x .level) && ltb (x .level) count) [ true ↦ byKey k (x .level) b x | false ↦ record { matched = k; best = b } ]
+
+  unfoldable pub follow : Followed → Row → Followed
+  follow f x = atLevel (lesser (x .level) (f .matched)) (f .best) x
+
+  abbrev pub followed : Followed → List Row → Followed
+  followed f [] = f
+  followed f (x ∷ xs) = followed (follow f x) xs

@@ -1,0 +1,15 @@
+pub mod PlaceLaws
+pub mod FrontLaws
+pub mod RecordsRead
+pub mod OlderBytes
+pub mod ValuesBack
+pub mod OwnBytes
+pub mod UnderLaws
+pub mod ReadingSteps
+pub mod ItemLaws
+pub mod LyingLaws
+pub mod KnowsLaws
+pub mod FollowsLaws
+pub mod QueryLaws
+pub mod Controls
+pub mod Main

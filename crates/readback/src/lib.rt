@@ -1,0 +1,1 @@
+// What the reading of option bytes promises, as statements: proofs alone.
