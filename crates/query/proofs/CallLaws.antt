@@ -33,13 +33,15 @@ use Rattle.entries.specs.Reading.{Listed, listed, refused, judgeBytes, reading,
 use Rattle.entries.specs.inner.Fronts.{message}
 use Rattle.listing.specs.Listing.{unless}
 use Rattle.listing.proofs.ListingLaws.{Admits, admits, admits-none}
-use Rattle.query.specs.declared.best.Best.{Best}
-use Rattle.query.specs.declared.best.Best.the-variants.{Found, NoneYet}
+use Rattle.following.specs.declared.Best.{Best}
+use Rattle.following.specs.declared.Best.the-variants.{Found, NoneYet}
 use Rattle.query.specs.declared.Seen.{Seen}
 use Rattle.query.specs.declared.Seen.the-variants.{All, Refused}
 use Rattle.query.specs.Name.{Named, names, group, refusedAt, declarations}
-use Rattle.query.specs.Query.{never, reached, answered, onNamed, onRecords, queryOf, judgeInputs, queryBy, query, queryTested}
-use Rattle.query.specs.inner.Answering.{bestOf, ofNamed, ofListed, queried, outcomeOf, admitted}
+use Rattle.following.specs.Reached.{never, reached}
+use Rattle.query.specs.Query.{answered, onNamed, onRecords, queryOf, judgeInputs, queryBy, query, queryTested}
+use Rattle.following.specs.inner.Following.{bestOf}
+use Rattle.query.specs.inner.Answering.{ofNamed, ofListed, queried, outcomeOf, admitted}
 
 -- ---- give_row
 module _ (x : Row) (l : List ℕ) (a : Answer) where
@@ -49,7 +51,7 @@ module _ (x : Row) (l : List ℕ) (a : Answer) where
   pub row-given : 8 ≤ length l → (l′ : List ℕ) → l′ ≡ sets l 0 (words x) → a ≡ doneWith 8 → Answered (give (words x)) l l′ a
   row-given h l′ e d = rw (d, e ∙ sets-front (words x) l h) (answered-done (give (words x)) l (words x) refl h)
 
-pub ruleset row-laws = (row-no-room, row-given)
+pub ruleset give-row-laws = (row-no-room, row-given)
 
 -- ---- answer_of
 module _ (x : Seen) (l : List ℕ) (a : Answer) where
@@ -63,7 +65,7 @@ module _ (x : Seen) (l : List ℕ) (a : Answer) where
     pub seen-row : (y : Row) → b ≡ Found y → (l′ : List ℕ) → Answered (give (words y)) l l′ a → Answered (outcomeOf x) l l′ a
     seen-row y h l′ k = rw (ap outcomeOf g ∙ ap (λ (z : Best). outcomeOf (All z)) h) k
 
-pub ruleset answer-laws = (seen-refused, seen-none, seen-row)
+pub ruleset seen-answer-laws = (seen-refused, seen-none, seen-row)
 
 -- ---- options_message
 module _ (s type q bs : List ℕ) (u : Verdict) (x : u ≡ judgeLength s) where
@@ -90,10 +92,10 @@ module _ (s type q bs : List ℕ) (u : Verdict) (x : u ≡ judgeLength s) where
         unfolding admitted judgeInputs
         message-is j r e = rw (← x, h, ← y, g, ← z, k, ← c, j) e
 
-pub ruleset message-laws = (message-long, message-bad-type, message-bad-name, message-long-bytes, message-is)
+pub ruleset query-message-laws = (message-long, message-bad-type, message-bad-name, message-long-bytes, message-is)
 
 -- ---- what was seen is the query
-answered-best : (o : Option Row) → answered never o ≡ outcomeOf (All (bestOf o))
+answered-best : (o : Option Row) → answered o ≡ outcomeOf (All (bestOf o))
 answered-best none = refl
 answered-best (some x) = refl
 

@@ -7,7 +7,7 @@ use mathlib.Core.Bool.{not}
 use lib.ListN.{set, length-set}
 use lib.Seq.{getD-set-same, getD-set-other}
 use mir.Val.{boolByte}
-use Rattle.query.specs.inner.Keys.{Key, keyWords, keyAt, keysFrom, keysAt}
+use Rattle.following.specs.inner.Keys.{Key, keyWords, keyAt, keysFrom, keysAt}
 
 -- ---- note_key
 pub note-room : (ks : List ℕ) (i p : ℕ) → i * keyWords + keyWords ≤ length ks → i * keyWords + 1 < length (set ks (i * keyWords) p)

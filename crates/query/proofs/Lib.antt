@@ -1,5 +1,3 @@
-pub mod ReachedLaws
-pub mod FollowLaws
 pub mod KeyLaws
 pub mod NameLaws
 pub mod SeenLaws

@@ -43,7 +43,8 @@ use Rattle.steps.proofs.StepLaws.{step-path-ordered, step-path-within}
 use Rattle.query.specs.declared.name.Naming.{Naming}
 use Rattle.query.specs.declared.name.Naming.the-variants.{Parts, Group, Refused}
 use Rattle.query.specs.Name.{Named, names, group, refusedAt, also, onStep, onMessage, left, declarations}
-use Rattle.query.specs.inner.Keys.{keyOf, keyWords, keyAt, keysFrom, keysAt, behindPart, stepPart, Namable, Declares, declares, leaves-group, refuses}
+use Rattle.following.specs.inner.Keys.{keyOf, keyWords, keyAt, keysFrom, keysAt}
+use Rattle.query.specs.inner.Naming.{behindPart, stepPart, Namable, Declares, declares, leaves-group, refuses}
 use Rattle.query.proofs.KeyLaws.{key-noted, keys-before, keys-fewer, keys-last}
 
 -- ---- what parts left on a declaration lead to
@@ -187,6 +188,15 @@ module _ (L : Lookups) (s q : List ℕ) where
       go false true u e = nothing-left cc
       go false false u e = nothing-left cc
 
+  more-length : (i : ℕ) (ds : List Declaration) (ps : List Part) (f : Message → Named)
+      → ((n : Message) (es : List Declaration) → f n ≡ names es → length es ≡ length ps) → (v : Step)
+      → onStep i v (λ d. left L s q i d (λ n. also d (f n))) ≡ names ds → length ds ≡ suc (length ps)
+  more-length i ds ps f more (NotFound l) e = nothing-left cc
+  more-length i ds ps f more (Found d) e =
+      let x = left-onward i d f ds e in
+      let y = also-behind d (f (x .message)) ds (x .is) in
+      rw (y .one) (ap suc (more (x .message) (y .rest) (y .is)))
+
   pub declarations-length : (ps : List Part) (i : ℕ) (m : Message) (ds : List Declaration) → declarations L s q i m ps ≡ names ds
       → length ds ≡ length ps
   declarations-length [] i m ds e = let z : ds ≡ [] = cc in rw z
@@ -195,15 +205,9 @@ module _ (L : Lookups) (s q : List ℕ) where
       go : (v : Step) → onStep i v (λ d. names (d ∷ [])) ≡ names ds → length ds ≡ 1
       go (NotFound l) e = nothing-left cc
       go (Found d) e = let z : ds ≡ d ∷ [] = cc in rw z
-  declarations-length (p ∷ o ∷ ps) i m ds e = go (stepOf L s q [] m p) e
-    where
-      go : (v : Step) → onStep i v (λ d. left L s q i d (λ n. also d (declarations L s q (i + 1) n (o ∷ ps)))) ≡ names ds
-          → length ds ≡ length (p ∷ o ∷ ps)
-      go (NotFound l) e = nothing-left cc
-      go (Found d) e =
-          let x = left-onward i d (λ n. declarations L s q (i + 1) n (o ∷ ps)) ds e in
-          let y = also-behind d (declarations L s q (i + 1) (x .message) (o ∷ ps)) ds (x .is) in
-          rw (y .one) (ap suc (declarations-length (o ∷ ps) (i + 1) (x .message) (y .rest) (y .is)))
+  declarations-length (p ∷ o ∷ ps) i m ds e =
+      more-length i ds (o ∷ ps) (λ n. declarations L s q (i + 1) n (o ∷ ps)) (λ n es. declarations-length (o ∷ ps) (i + 1) n es)
+      (stepOf L s q [] m p) e
 
 -- ---- the keys of declarations, one in front of others
 module _ (joins : Declaration → Bool) (d : Declaration) (k : ℕ) (ws ws′ : List ℕ)

@@ -29,20 +29,21 @@ use Rattle.levels.specs.declared.Event.the-variants.{Record, End, Wrong}
 use Rattle.levels.specs.inner.Left.{flat, left, Open, Starts, Moves}
 use Rattle.levels.proofs.StartLaws.{start-open, start-left}
 use Rattle.levels.proofs.MovesLaws.{moved-open, moved-rest, moved-less, moved-end, moved-wrong}
-use Rattle.query.specs.declared.best.Best.{Best}
-use Rattle.query.specs.declared.best.Best.the-variants.{NoneYet}
-use Rattle.query.specs.declared.best.Followed.{Followed}
+use Rattle.following.specs.declared.Best.{Best}
+use Rattle.following.specs.declared.Best.the-variants.{NoneYet}
+use Rattle.following.specs.declared.Followed.{Followed}
 use Rattle.query.specs.declared.name.Naming.{Naming}
 use Rattle.query.specs.declared.name.Naming.the-variants.{Parts, Group, Refused as RefusedName}
 use Rattle.query.specs.declared.Seen.{Seen}
 use Rattle.query.specs.declared.Seen.the-variants.{All, Refused}
 use Rattle.query.specs.Name.{Named, names, group, refusedAt, declarations}
-use Rattle.query.specs.Query.{never}
-use Rattle.query.specs.inner.Keys.{keyOf, keyWords, keysFrom, Namable, Declares, declares, leaves-group, refuses}
-use Rattle.query.specs.inner.Following.{nothingYet, follow, followed}
+use Rattle.following.specs.Reached.{never}
+use Rattle.following.specs.inner.Keys.{keyOf, keyWords, keysFrom}
+use Rattle.query.specs.inner.Naming.{Namable, Declares, declares, leaves-group, refuses}
+use Rattle.following.specs.inner.Following.{nothingYet, follow, followed}
 use Rattle.query.specs.inner.Answering.{seenIn, countOf, settled, ofNamed, ofListed, queried}
 use Rattle.query.proofs.NameLaws.{declarations-length}
-use Rattle.query.proofs.ReachedLaws.{followed-reached}
+use Rattle.following.proofs.ReachedLaws.{followed-reached}
 
 -- ---- follow_rows: the rows before the cursor are followed
 seen-push : (ks : List ℕ) (n : ℕ) (f : Followed) (x : Row) (o : Outcome Row)
@@ -106,7 +107,7 @@ module _ (r : Naming) where
     pub settle-refused : (i : ℕ) (w : Refusal) → r ≡ RefusedName i w → Refused w ≡ settled r b
     settle-refused i w e = rw e
 
-pub ruleset settle-laws = (count-parts, count-group, count-refused, settle-parts, settle-group, settle-refused)
+pub ruleset name-settle-laws = (count-parts, count-group, count-refused, settle-parts, settle-group, settle-refused)
 
 -- ---- see_rows
 module _ (p : LookupScope) (bs st : List ℕ) (c : Cursor) (k : Starts p bs st c) where
@@ -114,11 +115,11 @@ module _ (p : LookupScope) (bs st : List ℕ) (c : Cursor) (k : Starts p bs st c
       → r ≡ seenIn ks n nothingYet (flat 0 (reading (walking s) s mostLevels (message type p) 0 bs))
   all-seen s type ks n r e = e ∙ ap (seenIn ks n nothingYet) (start-left p bs st c k (walking s) s type)
 
-pub ruleset see-laws = (start-open, all-seen)
+pub ruleset see-rows-laws = (start-open, all-seen)
 
 -- ---- query_over
-module _ (q : List ℕ) (fine : judgeName q ≡ Fine) (ws : List ℕ) (size : length ws ≡ mostParts * keyWords) where
-  pub over-namable : (scope : List ℕ) → length scope ≡ 0 → Namable q scope 0 0 ws
+module _ (q : List ℕ) (fine : judgeName q ≡ Fine) (us : List ℕ) (size : length us ≡ mostParts * keyWords) where
+  pub over-namable : (scope : List ℕ) → length scope ≡ 0 → Namable q scope 0 0 us
   over-namable scope e = record {
     within = omega arith;
     parts = fine-name q fine;
@@ -131,24 +132,21 @@ module _ (q : List ℕ) (fine : judgeName q ≡ Fine) (ws : List ℕ) (size : le
       none [] h = refl
       none (x ∷ xs) h = absurd (omega arith)
 
-  module _ (L : Lookups) (s : List ℕ) (m : Message) (r : Naming) (n : ℕ) (c : n ≡ countOf r) (us : List ℕ) where
+  module _ (L : Lookups) (s : List ℕ) (m : Message) where
     -- as many declarations as parts
     parts-few : {x : Named} {i : ℕ} {ws ws′ : List ℕ} {v : Naming} {j : ℕ} → Declares never x i ws ws′ v
         → x ≡ declarations L s q 0 m (partsIn (walk q 0 (length q))) → v ≡ Parts j → i ≡ 0 → j ≤ length (partsIn (walk q 0 (length q)))
-    parts-few (declares {ds} {k = i} {n = h} e f o) a g z =
-        let same : _≡_ {A = ℕ} h _ = cc in
+    parts-few {j = j} (declares {ds} {k = i} {n = h} e f o) a g z =
+        let same : h ≡ j = cc in
         omega (arith, declarations-length L s q (partsIn (walk q 0 (length q))) 0 m ds (sym a))
     parts-few leaves-group a g z = nothing-left cc
     parts-few refuses a g z = nothing-left cc
 
-    pub over-room : Declares never (declarations L s q 0 m (partsIn (walk q 0 (length q)))) 0 us ws r → n * keyWords ≤ length ws
-    over-room k = go r c k
-      where
-        go : (v : Naming) → n ≡ countOf v → Declares never (declarations L s q 0 m (partsIn (walk q 0 (length q)))) 0 us ws v
-            → n * keyWords ≤ length ws
-        go (Parts i) e k = omega (arith, fine-name-few q fine, parts-few {j = i} k refl refl refl, e)
-        go Group e k = omega arith
-        go (RefusedName i w) e k = omega arith
+    pub over-room : (r : Naming) (n : ℕ) → n ≡ countOf r → (ws : List ℕ) → length ws ≡ length us
+        → Declares never (declarations L s q 0 m (partsIn (walk q 0 (length q)))) 0 us ws r → n * keyWords ≤ length ws
+    over-room (Parts i) n e ws h k = omega (arith, fine-name-few q fine, parts-few {j = i} k refl refl refl)
+    over-room Group n e ws h k = omega arith
+    over-room (RefusedName i w) n e ws h k = omega arith
 
 module _ (L : Lookups) (s q : List ℕ) (m : Message) (bs ks : List ℕ) (n : ℕ) (v : Seen)
     (e : v ≡ seenIn ks n nothingYet (flat 0 (reading L s mostLevels m 0 bs))) where
@@ -180,3 +178,5 @@ module _ (L : Lookups) (s q : List ℕ) (m : Message) (bs ks : List ℕ) (n : �
           → settled r b ≡ ofListed (declarations L s q 0 m (partsIn (walk q 0 (length q)))) x
       go (listed t) h = by t k refl refl c cc
       go (refused w) h = nothing-left cc
+
+pub ruleset query-over-laws = (over-namable, over-room, over-wrong, over-settled)

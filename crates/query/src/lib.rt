@@ -1,6 +1,5 @@
 // The value query: of a sheet, an options type, a name and option bytes, the record that the name leads to. The name becomes a list of
 // declarations first, no option byte being read; then the rows are followed by them in one pass.
-mod best;
 mod name;
 
 ghost use Rattle.basis.specs.Kit.{_≡_, _*_, _≤_, length};
@@ -17,13 +16,13 @@ ghost use Rattle.entries.specs.inner.Fronts.{message as messageOf};
 ghost use Rattle.levels.specs.inner.Stack.{stackWords};
 ghost use Rattle.levels.specs.inner.Left.{Open, left, flat};
 ghost use Rattle.query.specs.Query.{queryTested, query as queryOf};
-ghost use Rattle.query.specs.inner.Keys.{keyWords};
-ghost use Rattle.query.specs.inner.Following.{nothingYet};
+ghost use Rattle.following.specs.inner.Keys.{keyWords};
+ghost use Rattle.following.specs.inner.Following.{nothingYet};
 ghost use Rattle.query.specs.inner.Answering.{seenIn, countOf, settled, queried, outcomeOf, admitted};
-use best::Best;
-use best::Followed;
-use best::follow;
 use entries::Row;
+use following::Best;
+use following::Followed;
+use following::follow;
 use fullname::LookedUp;
 use levels::Cursor;
 use levels::Event;
@@ -73,7 +72,10 @@ fn follow_rows(
     };
     loop {
         match next(sheet, options_type, bytes, stack, cursor) {
-            Event::End => return Seen::All(so_far.best),
+            Event::End => {
+                let best = so_far.best;
+                return Seen::All(best);
+            }
             Event::Wrong(why) => return Seen::Refused(why),
             Event::Record { row, rest } => {
                 so_far = follow(keys, count, so_far, row);

@@ -3,7 +3,6 @@
 --          seenIn ks n f o ==  what following the rows o comes to, n keys in the words ks and f being followed before
 --                countOf n ==  how many parts the name n has to be followed by
 --              settled n b ==  what is answered of the name n and the best row b
---                 bestOf o ==  the row o, if any
 --        queried L s q m bs ==  what the name q comes to in the option bytes bs, in the message m
 --               outcomeOf x ==  what x comes to for the lent memory
 --   admitted v s type q bs ==  the message that the options type is, or the first fault of the inputs, of which the sheet is judged v
@@ -22,16 +21,17 @@ use Rattle.entries.specs.declared.Row.{Row}
 use Rattle.entries.specs.Tree.{Tree, words}
 use Rattle.entries.specs.Reading.{Listed, listed, refused, reading}
 use Rattle.listing.specs.inner.Worded.{unlessFaulty}
-use Rattle.query.specs.declared.best.Best.{Best}
-use Rattle.query.specs.declared.best.Best.the-variants.{Found, NoneYet}
-use Rattle.query.specs.declared.best.Followed.{Followed}
+use Rattle.following.specs.declared.Best.{Best}
+use Rattle.following.specs.declared.Best.the-variants.{Found, NoneYet}
+use Rattle.following.specs.declared.Followed.{Followed}
 use Rattle.query.specs.declared.name.Naming.{Naming}
 use Rattle.query.specs.declared.name.Naming.the-variants.{Parts, Group, Refused as RefusedName}
 use Rattle.query.specs.declared.Seen.{Seen}
 use Rattle.query.specs.declared.Seen.the-variants.{All, Refused}
 use Rattle.query.specs.Name.{Named, names, group, refusedAt, declarations}
-use Rattle.query.specs.Query.{never, reached, judgeInputs}
-use Rattle.query.specs.inner.Following.{followed}
+use Rattle.following.specs.Reached.{never, reached}
+use Rattle.query.specs.Query.{judgeInputs}
+use Rattle.following.specs.inner.Following.{bestOf, followed}
 
 abbrev pub seenIn : (words : List ℕ) (count : ℕ) → Followed → Outcome Row → Seen
 seenIn ks n f (give xs) = All (followed ks n f xs .best)
@@ -47,10 +47,6 @@ abbrev pub settled : Naming → Best → Seen
 settled (Parts n) b = All b
 settled Group b = All NoneYet
 settled (RefusedName i w) b = Refused w
-
-abbrev pub bestOf : Option Row → Best
-bestOf none = NoneYet
-bestOf (some x) = Found x
 
 abbrev pub ofNamed : Named → Tree → Seen
 ofNamed (names ds) t = All (bestOf (reached never 0 ds t))

@@ -67,8 +67,14 @@ declare-step-below t =
 
 pub +declare+declare-behind+declare-step-spec : {M : Type 1} → statement M
 +declare+declare-behind+declare-step-spec = close μ-declare μ-declare-behind μ-declare-step
-    (λ t. declare-lts.spec (part-at-reads.Asked, part-at-reads.Learnt, step-of-reads.Asked, step-of-reads.Learnt,
-      declare-step-below t, declare-step.Post) (declare-at t) declare.Post
+    (λ t. declare-lts.spec (
+      part-at-reads.Asked,
+      part-at-reads.Learnt,
+      step-of-reads.Asked,
+      step-of-reads.Learnt,
+      declare-step-below t,
+      declare-step.Post,
+    ) (declare-at t) declare.Post
     (λ c κs. search (needs, declare-laws))
     (λ c. search (needs, declare-laws))
     (λ c. search (needs, declare-laws))
@@ -78,7 +84,7 @@ pub +declare+declare-behind+declare-step-spec : {M : Type 1} → statement M
     (λ c. search (needs, declare-laws))
     (λ c. search (needs, declare-laws)))
     (λ t. declare-behind-lts.spec (behind-reads.Asked, behind-reads.Learnt, declare-below t, declare.Post)
-      (declare-behind-at t) declare-behind.Post
+    (declare-behind-at t) declare-behind.Post
     (λ c κs. (search (needs, declare-behind-laws), search (needs, declare-behind-laws)))
     (λ c. search (needs, declare-behind-laws))
     (λ c. search (needs, declare-behind-laws))
@@ -95,8 +101,14 @@ pub +declare+declare-behind+declare-step-spec : {M : Type 1} → statement M
     (λ c. search (needs, declare-behind-laws))
     (λ c. search (needs, declare-behind-laws))
     (λ c. search (needs, declare-behind-laws)))
-    λ t. declare-step-lts.spec (why-of-reads.Asked, why-of-reads.Learnt, note-key-reads.Asked, note-key-reads.Learnt,
-      declare-behind-below t, declare-behind.Post) (declare-step-at t) declare-step.Post
+    λ t. declare-step-lts.spec (
+      why-of-reads.Asked,
+      why-of-reads.Learnt,
+      note-key-reads.Asked,
+      note-key-reads.Learnt,
+      declare-behind-below t,
+      declare-behind.Post,
+    ) (declare-step-at t) declare-step.Post
     (λ c. search (needs, declare-step-laws))
     (λ c κs. search (needs, declare-step-laws))
     (λ c. search (needs, declare-step-laws))

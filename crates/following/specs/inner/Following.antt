@@ -1,22 +1,26 @@
 -- Rows that are followed one after the other by the keys of a name's parts.
 --
---                   nothing ==  nothing is followed yet
---            follow ks f x ==  what is followed after the row x
---          followed ks f xs ==  what is followed after the rows xs
---                  bestOf b ==  the row that was found last, if any
---          soughtIn ks f o ==  what comes of the rows o: the row that was found last, or the first fault
+--              bestOf o ==  the row o, if any
+--            nothingYet ==  nothing is followed yet
+--              isAt p y <=> a record that y declares is listed by the declaration at the place p
+--            lesser a b ==  the lesser of two
+--        follow ks n f x ==  what is followed after the row x, of n keys in the words ks
+--     followed ks n f xs ==  what is followed after the rows xs
 --
 -- Assumes nothing.
 use Rattle.basis.specs.Kit.{Bool, true, false, _&&_, List, [], _∷_, Option, none, some, ℕ, _+_, eqb, ltb, leb, getD, length}
 use Rattle.basis.specs.First.{onlyIf}
-use Rattle.reply.specs.declared.Refusal.{Refusal}
 use Rattle.sheet.specs.declared.declaration.Declared.{Declared}
 use Rattle.sheet.specs.declared.declaration.Declared.the-variants.{Declares, NoDeclaration}
 use Rattle.entries.specs.declared.Row.{Row}
-use Rattle.query.specs.declared.best.Best.{Best}
-use Rattle.query.specs.declared.best.Best.the-variants.{Found, NoneYet}
-use Rattle.query.specs.declared.best.Followed.{Followed}
-use Rattle.query.specs.inner.Keys.{Key, keyAt}
+use Rattle.following.specs.declared.Best.{Best}
+use Rattle.following.specs.declared.Best.the-variants.{Found, NoneYet}
+use Rattle.following.specs.declared.Followed.{Followed}
+use Rattle.following.specs.inner.Keys.{Key, keyAt}
+
+abbrev pub bestOf : Option Row → Best
+bestOf none = NoneYet
+bestOf (some x) = Found x
 
 abbrev pub nothingYet : Followed
 nothingYet = record { matched = 0; best = NoneYet }

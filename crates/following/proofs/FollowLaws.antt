@@ -7,11 +7,11 @@ use Rattle.sheet.specs.declared.declaration.Declaration.{Declaration}
 use Rattle.sheet.specs.declared.declaration.Declared.{Declared}
 use Rattle.sheet.specs.declared.declaration.Declared.the-variants.{Declares, NoDeclaration}
 use Rattle.entries.specs.declared.Row.{Row}
-use Rattle.query.specs.declared.best.Best.{Best}
-use Rattle.query.specs.declared.best.Best.the-variants.{Found, NoneYet}
-use Rattle.query.specs.declared.best.Followed.{Followed}
-use Rattle.query.specs.inner.Keys.{keyAt, keyWords}
-use Rattle.query.specs.inner.Following.{isAt, lesser, byKey, atLevel, follow}
+use Rattle.following.specs.declared.Best.{Best}
+use Rattle.following.specs.declared.Best.the-variants.{Found, NoneYet}
+use Rattle.following.specs.declared.Followed.{Followed}
+use Rattle.following.specs.inner.Keys.{keyAt, keyWords}
+use Rattle.following.specs.inner.Following.{isAt, lesser, byKey, atLevel, follow}
 
 -- ---- is_at
 module _ (p : ℕ) (y : Declared) where

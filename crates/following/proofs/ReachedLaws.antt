@@ -18,13 +18,13 @@ use Rattle.sheet.specs.declared.declaration.Declared.the-variants.{Declares, No
 use Rattle.entries.specs.declared.Entry.{Entry}
 use Rattle.entries.specs.declared.Row.{Row}
 use Rattle.entries.specs.Tree.{Tree, end, one, held, append, row, rows}
-use Rattle.query.specs.declared.best.Best.{Best}
-use Rattle.query.specs.declared.best.Best.the-variants.{Found, NoneYet}
-use Rattle.query.specs.declared.best.Followed.{Followed}
-use Rattle.query.specs.Query.{isBy, listedBy, insideAfter, lastInside, joined, lastAfter, inside, reached}
-use Rattle.query.specs.inner.Keys.{Key, keyOf, keyAt, keysFrom}
-use Rattle.query.specs.inner.Following.{nothingYet, isAt, lesser, byKey, atLevel, follow, followed}
-use Rattle.query.specs.inner.Answering.{bestOf}
+use Rattle.following.specs.declared.Best.{Best}
+use Rattle.following.specs.declared.Best.the-variants.{Found, NoneYet}
+use Rattle.following.specs.declared.Followed.{Followed}
+use Rattle.following.specs.Reached.{isBy, listedBy, insideAfter, lastInside, joined, lastAfter, inside, reached}
+use Rattle.following.specs.inner.Keys.{Key, keyOf, keyAt, keysFrom}
+use Rattle.following.specs.inner.Following.{nothingYet, isAt, lesser, byKey, atLevel, follow, followed}
+use Rattle.following.specs.inner.Following.{bestOf}
 
 pub record Gone (level : ℕ) (b : Best) (f : Followed) : Type 0 where
   pub best : f .best ≡ b

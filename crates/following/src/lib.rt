@@ -1,7 +1,7 @@
 // Rows followed by the parts of a name: the row that was found last.
 ghost use Rattle.basis.specs.Kit.{_≡_, _*_, _≤_, length};
-ghost use Rattle.query.specs.inner.Keys.{keyWords};
-ghost use Rattle.query.specs.inner.Following.{isAt, lesser, follow as followOf};
+ghost use Rattle.following.specs.inner.Keys.{keyWords};
+ghost use Rattle.following.specs.inner.Following.{isAt, lesser, follow as followOf};
 use entries::Row;
 use sheet::declaration::Declared;
 

@@ -1,9 +1,9 @@
--- `query::best::is_at` meets its contract.
+-- `following::is_at` meets its contract.
 -- Assumes nothing.
-use Rattle.query.proofs.FollowLaws.{follow-laws}
+use Rattle.following.proofs.FollowLaws.{follow-laws}
 use Rattle.basis.proofs.Kit.{needs}
-use Rattle.query.proofs.best.is_at.Statement.{statement}
-use Rattle.query.proofs.best.is_at.Tie as tie
+use Rattle.following.proofs.is_at.Statement.{statement}
+use Rattle.following.proofs.is_at.Tie as tie
 
 pub is-at-spec : {M : Type 1} → statement M
 is-at-spec = tie.close (tie.spec
