@@ -7,8 +7,7 @@ use Prim.Native.String.{String}
 use Rattle.limits.specs.Figures.{mostMessages}
 use Rattle.octets.specs.Octets.{bigAt, sameBytes}
 use Rattle.octets.specs.Ascii.{ascii}
-use Rattle.reply.specs.declared.Refusal.the-variants.{MessageNotFound, MessageFoundMoreThanOnce, BeyondLimit}
-use Rattle.reply.specs.declared.Verdict.the-variants.{Fine, Refused}
+use Rattle.reply.specs.declared.Refusal.the-variants.{MessageNotFound, MessageFoundMoreThanOnce}
 use Rattle.reply.specs.Reply.{number}
 use Rattle.field.specs.Field.{fieldAt}
 use Rattle.field.specs.Leaf.{span, leafAt}
@@ -32,7 +31,7 @@ use Rattle.fullname.specs.declared.LookedUp.the-variants.{Message, NoMessage}
 use Rattle.lookups.specs.Lookups.{Lookups, walking}
 use Rattle.entries.specs.Tree.{rows, wordsOf}
 use Rattle.entries.specs.Item.{item}
-use Rattle.entries.specs.Reading.{recordsFrom, reading, judgeBytes, Under, under, refusedBy, recordsOf}
+use Rattle.entries.specs.Reading.{recordsFrom, reading, Under, under, refusedBy, recordsOf}
 
 -- ---- one sheet for all, of names of one letter: a message F of options, a message M of values, and the extensions of F
 abbrev typed : (number typ : ℕ) → List ℕ
@@ -205,16 +204,3 @@ level-30 = refl
 level-31 : asked "o.F" (0x52 ∷ 62 ∷ nest 31) ≡ refused 3
 unfolding asked
 level-31 = refl
-
--- ---- 65,536 bytes are read, and one more is 3
-abbrev doubled : ℕ → List ℕ → List ℕ
-doubled zero bs = bs
-doubled (suc k) bs = doubled k (bs ++ bs)
-
-bytes-most : judgeBytes (doubled 16 (0 ∷ [])) ≡ Fine
-unfolding judgeBytes
-bytes-most = refl
-
-bytes-over : judgeBytes (0 ∷ doubled 16 (0 ∷ [])) ≡ Refused BeyondLimit
-unfolding judgeBytes
-bytes-over = refl

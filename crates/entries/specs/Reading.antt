@@ -6,16 +6,13 @@
 --   follow .. place bs f x == the records of the item x at the front of bs, and then f of how many bytes it takes
 --   recordsFrom .. at k bs == the records of bs, which stand at the place `at`, after the first k; `inner` reads the inside of a message
 --    reading L s d m at bs == the records of bs inside the message m, with d levels left
---            judgeBytes bs == whether option bytes are over-long
 --       recordsOf L s t bs == the message that the options type t is, with the records of bs under it; or the first fault
 --
 -- Assumes nothing.
-use Rattle.basis.specs.Kit.{List, [], _∷_, ℕ, zero, suc, _+_, _-_, leb, length, take, drop}
-use Rattle.limits.specs.Figures.{mostOptionBytes, mostLevels}
+use Rattle.basis.specs.Kit.{List, [], _∷_, ℕ, zero, suc, _+_, _-_, take, drop}
+use Rattle.limits.specs.Figures.{mostLevels}
 use Rattle.reply.specs.declared.Refusal.{Refusal}
 use Rattle.reply.specs.declared.Refusal.the-variants.{BeyondLimit}
-use Rattle.reply.specs.declared.Verdict.{Verdict}
-use Rattle.reply.specs.Verdicts.{judged}
 use Rattle.fullname.specs.declared.LookedUp.{LookedUp}
 use Rattle.fullname.specs.declared.LookedUp.the-variants.{Message as Found, NoMessage}
 use Rattle.lookups.specs.Lookups.{Lookups, Message}
@@ -53,10 +50,6 @@ module _ (L : Lookups) (s : List ℕ) where
   unfoldable pub reading : (levels : ℕ) → Message → (place : ℕ) → List ℕ → Listed
   reading zero m place bs = refused BeyondLimit
   reading (suc d) m place bs = recordsFrom (reading d) m place 0 bs
-
--- "option bytes to read 65,536" [LIMIT-1]
-unfoldable pub judgeBytes : List ℕ → Verdict
-judgeBytes bs = judged BeyondLimit (leb (length bs) mostOptionBytes)
 
 pub data Under : Type 0 where
   under : Message → Tree → Under

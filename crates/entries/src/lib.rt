@@ -1,6 +1,6 @@
 // One record of option bytes, read under a message of the sheet: what declares its number, its payload and its value; a known message's own
 // place in the sheet.
-ghost use Rattle.basis.specs.Kit.{_≡_, true, _+_, _≤_, _<_, length};
+ghost use Rattle.basis.specs.Kit.{_≡_, true, _+_, _≤_, length};
 ghost use Rattle.limits.specs.Figures.{mostOptionBytes};
 ghost use Rattle.octets.specs.Octets.{part};
 ghost use Rattle.field.specs.Leaf.{Lies};

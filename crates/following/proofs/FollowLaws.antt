@@ -1,8 +1,7 @@
 -- One row, followed: the ways through `is_at`, `lesser_of` and `follow`.
 -- Assumes nothing.
-use Rattle.basis.specs.Kit.{_≡_, refl, sym, ap, _∙_, Bool, true, false, List, ℕ, _+_, _*_, _≤_, _<_, eqb, getD, length}
-use Rattle.basis.proofs.Kit.{arith, eq-eqb, ne-eqb, lt-ltb, le-ltb, not-true, not-false}
-use mathlib.Core.Bool.{not}
+use Rattle.basis.specs.Kit.{_≡_, sym, ap, _∙_, Bool, true, false, List, ℕ, _+_, _*_, _≤_, _<_, eqb, getD}
+use Rattle.basis.proofs.Kit.{eq-eqb, ne-eqb, lt-ltb, le-ltb, not-true, not-false}
 use Rattle.sheet.specs.declared.declaration.Declaration.{Declaration}
 use Rattle.sheet.specs.declared.declaration.Declared.{Declared}
 use Rattle.sheet.specs.declared.declaration.Declared.the-variants.{Declares, NoDeclaration}

@@ -6,12 +6,12 @@
 --                    Gone l b f <-> after records at the level l the best row is b, and l levels are still open
 --
 -- Assumes nothing.
-use Rattle.basis.specs.Kit.{_≡_, refl, sym, ap, _∙_, Bool, true, false, _&&_, List, [], _∷_, _++_, map, Option, none, some, ℕ, suc, _+_, _≤_}
-use Rattle.basis.specs.Kit.{_<_, eqb, ltb, length}
+use Rattle.basis.specs.Kit.{_≡_, refl, sym, ap, _∙_, Bool, true, false, List, [], _∷_, _++_, map, Option, none, some, ℕ, suc, _+_, _≤_}
+use Rattle.basis.specs.Kit.{_<_, eqb, length}
 use Rattle.basis.specs.First.{onlyIf}
 use mathlib.Core.Path.{subst}
 use native.Mathlib.Decide.{decLt}
-use Rattle.basis.proofs.Kit.{arith, add-one, eq-eqb, ne-eqb, lt-ltb, le-ltb}
+use Rattle.basis.proofs.Kit.{arith, eq-eqb, ne-eqb, lt-ltb, le-ltb}
 use Rattle.sheet.specs.declared.declaration.Declaration.{Declaration}
 use Rattle.sheet.specs.declared.declaration.Declared.{Declared}
 use Rattle.sheet.specs.declared.declaration.Declared.the-variants.{Declares, NoDeclaration}
@@ -21,8 +21,8 @@ use Rattle.entries.specs.Tree.{Tree, end, one, held, append, row, rows}
 use Rattle.following.specs.declared.Best.{Best}
 use Rattle.following.specs.declared.Best.the-variants.{Found, NoneYet}
 use Rattle.following.specs.declared.Followed.{Followed}
-use Rattle.following.specs.Reached.{isBy, listedBy, insideAfter, lastInside, joined, lastAfter, inside, reached}
-use Rattle.following.specs.inner.Keys.{Key, keyOf, keyAt, keysFrom}
+use Rattle.following.specs.Reached.{isBy, listedBy, insideAfter, joined, lastAfter, inside, reached}
+use Rattle.following.specs.inner.Keys.{keyOf, keyAt, keysFrom}
 use Rattle.following.specs.inner.Following.{nothingYet, isAt, lesser, byKey, atLevel, follow, followed}
 use Rattle.following.specs.inner.Following.{bestOf}
 

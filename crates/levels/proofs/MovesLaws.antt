@@ -11,7 +11,7 @@ use Rattle.levels.specs.declared.Cursor.{Cursor}
 use Rattle.levels.specs.declared.Event.{Event}
 use Rattle.levels.specs.declared.Event.the-variants.{Record, End, Wrong}
 use Rattle.levels.specs.inner.Left.{left, Open, Moves, moves, ends, wrongs}
-use Rattle.levels.proofs.StartLaws.{bytes-short, start-open, start-left}
+use Rattle.levels.proofs.StartLaws.{start-open, start-left}
 
 -- the record that was read
 record Read (s type bs : List ℕ) (before : Outcome Row) (at : ℕ) (st : List ℕ) (y : Row) (d : Cursor) : Type 0 where
@@ -60,4 +60,4 @@ module _ (s type bs : List ℕ) (before : Outcome Row) (at : ℕ) (st : List ℕ
   moved-wrong w q = wronged k w q
 
 pub ruleset next-facts =
-    (bytes-short, start-open, start-left, moved-open, moved-rest, moved-further, moved-less, moved-end, moved-wrong)
+    (start-open, start-left, moved-open, moved-rest, moved-further, moved-less, moved-end, moved-wrong)

@@ -1,20 +1,14 @@
--- Option bytes at their start: whether they are short enough, and what is open and left once the outermost level is.
+-- Option bytes at their start: what is open and left once the outermost level is.
 -- Assumes nothing.
-use Rattle.basis.specs.Kit.{_≡_, refl, sym, ap, _∙_, Bool, List, ℕ, _*_, _≤_, leb, length, sets}
+use Rattle.basis.specs.Kit.{_≡_, refl, ap, _∙_, List, ℕ, _*_, _≤_, length, sets}
 use Rattle.basis.proofs.Kit.{arith}
-use borrow.Author.Tests.{leb-true}
 use lib.Seq.{length-sets}
 use Rattle.limits.specs.Figures.{mostOptionBytes, mostLevels}
-use Rattle.reply.specs.declared.Refusal.the-variants.{BeyondLimit}
-use Rattle.reply.specs.declared.Verdict.{Verdict}
-use Rattle.reply.specs.declared.Verdict.the-variants.{Fine}
-use Rattle.reply.specs.Verdicts.{judged, Says}
-use Rattle.reply.proofs.VerdictLaws.{says, judged-fine}
 use Rattle.field.specs.Leaf.{span}
 use Rattle.scope.specs.declared.lookup.LookupScope.{LookupScope}
 use Rattle.scope.specs.inner.Answers.{InSheet}
 use Rattle.lookups.specs.Lookups.{Lookups}
-use Rattle.entries.specs.Reading.{judgeBytes, reading}
+use Rattle.entries.specs.Reading.{reading}
 use Rattle.entries.specs.inner.Fronts.{message}
 use Rattle.levels.specs.declared.Level.{Level}
 use Rattle.levels.specs.declared.Cursor.{Cursor}
@@ -22,16 +16,6 @@ use Rattle.levels.specs.inner.Stack.{levelWords, stackWords, wordsOf, le
 use Rattle.levels.specs.inner.Left.{flat, left, OpenAt, Open, Starts}
 use Rattle.levels.proofs.StackLaws.{level-read}
 use Rattle.levels.proofs.LeftLaws.{left-first}
-
--- ---- `check_bytes`
-pub bytes-said : (bs : List ℕ) (b : Bool) (r : Verdict) → b ≡ leb (length bs) mostOptionBytes → r ≡ judged BeyondLimit b
-    → Says (judgeBytes bs) r
-unfolding judgeBytes
-bytes-said bs b r p q = says _ r (q ∙ ap (judged BeyondLimit) p)
-
-pub bytes-short : (bs : List ℕ) (r : Verdict) → Says (judgeBytes bs) r → r ≡ Fine → length bs ≤ mostOptionBytes
-unfolding judgeBytes
-bytes-short bs r k q = leb-true (length bs) mostOptionBytes (judged-fine BeyondLimit (leb (length bs) mostOptionBytes) (sym (k .is) ∙ q))
 
 -- ---- `start`
 abbrev outermost : (bs : List ℕ) → LookupScope → Level
@@ -64,4 +48,4 @@ module _ (p : LookupScope) (bs st : List ℕ) (c : Cursor) (k : Starts p bs st c
       → left L s type bs st (c .depth) (c .at) ≡ flat 0 (reading L s mostLevels (message type p) 0 bs)
   start-left L s type = rw (k .cursor) (left-first L s type bs p st (k .level))
 
-pub ruleset start-laws = (bytes-said, started)
+pub ruleset start-laws = started

@@ -2,13 +2,11 @@
 // answers it as a row, with where to go on. Whoever reads option bytes goes through it; nothing recurses over bytes.
 ghost use Rattle.basis.specs.Kit.{_≡_, suc, _+_, _*_, _≤_, _<_, length, sets};
 ghost use Rattle.limits.specs.Figures.{mostOptionBytes, mostLevels};
-ghost use Rattle.reply.specs.Verdicts.{Says};
 ghost use Rattle.field.specs.Leaf.{Lies};
 ghost use Rattle.octets.specs.Octets.{part};
 ghost use Rattle.scope.specs.inner.Answers.{InSheet};
 ghost use Rattle.lookups.specs.Lookups.{walking};
 ghost use Rattle.entries.specs.Item.{item};
-ghost use Rattle.entries.specs.Reading.{judgeBytes};
 ghost use Rattle.entries.specs.inner.Fronts.{Shows, FrontLies};
 ghost use Rattle.levels.specs.inner.Stack.{levelWords, stackWords, wordsOf, levelAt, messageIn};
 ghost use Rattle.levels.specs.inner.Left.{Open, OpenAt, left, Moves, Starts, Settles, StepsIn};
@@ -48,13 +46,6 @@ pub enum Event {
     Record { row: Row, rest: Cursor },
     End,
     Wrong(Refusal),
-}
-
-// Whether option bytes are not too long to read.
-pub fn check_bytes(bytes: &[u8]) -> Verdict
-    ensures { λ r. ⌜ Says (judgeBytes (now (bytes .entry))) r ⌝ }
-{
-    reply::judge(bytes.len() <= MOST_OPTION_BYTES, Refusal::BeyondLimit)
 }
 
 // Words of the stack, from a place on.

@@ -1,5 +1,3 @@
-pub mod PayloadLaws
-pub mod RowLaws
+pub mod CountLaws
 pub mod ListingLaws
 pub mod Controls
-pub mod CallControls

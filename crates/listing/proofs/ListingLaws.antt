@@ -23,11 +23,13 @@ use Rattle.fullname.specs.declared.LookedUp.{LookedUp}
 use Rattle.fullname.specs.declared.LookedUp.the-variants.{Message as Found, NoMessage}
 use Rattle.lookups.specs.Lookups.{Message, walking}
 use Rattle.lookups.proofs.LookupLaws.{message-lies}
-use Rattle.entries.specs.Reading.{Listed, listed as read, refused as unread, judgeBytes, reading, recordsOf, within, onType}
+use Rattle.payload.specs.Payload.{judgeBytes}
+use Rattle.entries.specs.Reading.{Listed, listed as read, refused as unread, reading, recordsOf, within, onType}
 use Rattle.entries.specs.inner.Fronts.{message}
 use Rattle.levels.specs.inner.Left.{flat}
 use Rattle.listing.specs.Listing.{judgeInputs, unless, listed, listingBy, listing, listingTested}
-use Rattle.listing.specs.inner.Worded.{worded, unlessFaulty, admitted}
+use Rattle.rows.specs.inner.Worded.{worded}
+use Rattle.listing.specs.inner.Admitted.{unlessFaulty, admitted}
 
 -- ---- options_message
 module _ (s type bs : List ℕ) (u : Verdict) (x : u ≡ judgeLength s) where

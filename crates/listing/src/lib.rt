@@ -1,83 +1,30 @@
-// The calls that read option bytes back: `list`, the records of option bytes under a sheet, eight words a record; and `payload`, a part of the
-// option bytes. The records are counted first, which finds the first fault, and then written over the lent memory, so that a refusal writes
-// nothing and NoRoom comes last.
-pub mod payload;
-
-ghost use Rattle.basis.specs.Kit.{_≡_, _*_, _^_, _≤_, _<_, length, sets};
+// The call `list`: the records of option bytes under a sheet, eight words a record. They are counted first, which finds the first fault, and then
+// written over the lent memory, so that a refusal writes nothing and NoRoom comes last.
+ghost use Rattle.basis.specs.Kit.{_≡_, _*_, _≤_, length};
 ghost use Rattle.limits.specs.Figures.{mostOptionBytes, mostLevels};
 ghost use Rattle.reply.specs.Outcome.{Answered};
 ghost use Rattle.sheetform.specs.Form.{judgeLength};
 ghost use Rattle.scope.specs.inner.Answers.{InSheet};
 ghost use Rattle.lookups.specs.Lookups.{walking};
-ghost use Rattle.entries.specs.Tree.{words};
 ghost use Rattle.entries.specs.Reading.{reading};
 ghost use Rattle.entries.specs.inner.Fronts.{message as messageOf};
 ghost use Rattle.emit.specs.inner.Puts.{Puts};
 ghost use Rattle.levels.specs.inner.Stack.{stackWords};
-ghost use Rattle.levels.specs.inner.Left.{Open, left, flat};
+ghost use Rattle.levels.specs.inner.Left.{flat};
 ghost use Rattle.listing.specs.Listing.{listingTested, listing};
-ghost use Rattle.listing.specs.inner.Worded.{worded, counted, WroteAtMost, admitted};
+ghost use Rattle.rows.specs.inner.Worded.{worded, WroteAtMost};
+ghost use Rattle.listing.specs.inner.Admitted.{counted, admitted};
 use emit::Put;
-use entries::Row;
 use fullname::LookedUp;
-use levels::Cursor;
-use levels::Event;
 use levels::STACK_WORDS;
-use levels::check_bytes;
-use levels::next;
 use levels::start;
+use payload::check_bytes;
 use reply::Answer;
 use reply::Refusal;
 use reply::Verdict;
 use requestform::check_options_type;
+use rows::put_rows;
 use scope::lookup::LookupScope;
-
-// The eight words of a row, from a place on, as far as there is room.
-pub fn put_row(out: &mut [u32], at: usize, row: Row)
-    requires { ⌜ at < 2 ^ 63 ⌝ }
-    ensures { λ _. ⌜ now (out .exit) ≡ sets (now (out .entry)) at (words row) ⌝ }
-{
-    let words = [
-        row.level,
-        row.entry.number,
-        row.entry.typ as u32,
-        row.entry.wire as u32,
-        row.entry.place,
-        row.entry.size,
-        (row.entry.value % 0x1_0000_0000) as u32,
-        (row.entry.value / 0x1_0000_0000) as u32,
-    ];
-    emit::put_words(&words, out, at);
-}
-
-// The rows that are left, from the front of the lent memory on, as far as there is room.
-fn put_rows(
-    sheet: &[u8],
-    options_type: &[u8],
-    bytes: &[u8],
-    stack: &mut [usize],
-    from: Cursor,
-    out: &mut [u32],
-) -> Put
-    requires { ⌜ Open (now sheet) (now bytes) (now stack) from ⌝ }
-    ensures puts { λ r. ⌜ Puts (worded (left (walking (now (sheet .entry))) (now (sheet .entry)) (now («options_type» .entry)) (now (bytes .entry))
-        (now (stack .entry)) (from .depth) (from .at))) 0 (now (out .entry)) (now (out .exit)) r ⌝ }
-    ensures few { λ r. ⌜ WroteAtMost (8 * length (now (bytes .entry))) r ⌝ }
-{
-    let mut cursor = from;
-    let mut n = 0;
-    loop {
-        match next(sheet, options_type, bytes, stack, cursor) {
-            Event::End => return Put::Wrote(n),
-            Event::Wrong(why) => return Put::Refused(reply::nowhere(why)),
-            Event::Record { row, rest } => {
-                put_row(out, n, row);
-                n += 8;
-                cursor = rest;
-            }
-        }
-    }
-}
 
 // The rows of option bytes in the message at that place, likewise.
 fn put_all_rows(

@@ -1,13 +1,13 @@
 -- Keys in lent memory: one noted, and those before it.
 -- Assumes nothing.
-use Rattle.basis.specs.Kit.{_≡_, refl, sym, ap, _∙_, Bool, true, false, List, [], _∷_, ℕ, zero, suc, _+_, _*_, _≤_, _<_, eqb, getD, length, sets}
+use Rattle.basis.specs.Kit.{_≡_, refl, ap, _∙_, Bool, true, false, List, [], _∷_, ℕ, zero, suc, _+_, _*_, _≤_, _<_, eqb, getD, length, sets}
 use Rattle.basis.specs.First.{onlyIf}
 use Rattle.basis.proofs.Kit.{arith, add-one}
 use mathlib.Core.Bool.{not}
 use lib.ListN.{set, length-set}
 use lib.Seq.{getD-set-same, getD-set-other}
 use mir.Val.{boolByte}
-use Rattle.following.specs.inner.Keys.{Key, keyWords, keyAt, keysFrom, keysAt}
+use Rattle.following.specs.inner.Keys.{Key, keyWords, keyAt, keysFrom}
 
 -- ---- note_key
 pub note-room : (ks : List ℕ) (i p : ℕ) → i * keyWords + keyWords ≤ length ks → i * keyWords + 1 < length (set ks (i * keyWords) p)

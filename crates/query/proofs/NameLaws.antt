@@ -4,7 +4,7 @@
 --   EnteredOn s h at p x <-> the inside that was reached from a field of the shape h, whose part ends at a place
 --
 -- Assumes nothing.
-use Rattle.basis.specs.Kit.{_≡_, refl, sym, ap, _∙_, Bool, true, false, List, [], _∷_, map, ℕ, zero, suc, _+_, _-_, _*_, _≤_, _<_}
+use Rattle.basis.specs.Kit.{_≡_, refl, sym, ap, _∙_, Bool, true, false, List, [], _∷_, map, ℕ, suc, _+_, _-_, _*_, _≤_, _<_}
 use Rattle.basis.specs.Kit.{eqb, length, sets}
 use Rattle.basis.specs.First.{onlyIf}
 use Rattle.basis.proofs.Kit.{arith, add-one, w64, Fits}
@@ -38,7 +38,7 @@ use Rattle.steps.specs.declared.Step.the-variants.{Found, NotFound}
 use Rattle.steps.specs.declared.Reach.{Reach}
 use Rattle.steps.specs.declared.Reach.the-variants.{Constant, Inside, Nothing, Fails}
 use Rattle.steps.specs.Steps.{whyOf, stepOf}
-use Rattle.steps.specs.inner.Reached.{message, entered, leftOn, followed, behind, StepLies}
+use Rattle.steps.specs.inner.Reached.{message, entered, leftOn, followed, behind}
 use Rattle.steps.proofs.StepLaws.{step-path-ordered, step-path-within}
 use Rattle.query.specs.declared.name.Naming.{Naming}
 use Rattle.query.specs.declared.name.Naming.the-variants.{Parts, Group, Refused}

@@ -1,7 +1,7 @@
 -- All rows followed, and what the name makes of the best one: the loop of `follow_rows`, and the ways through `count_of`, `settle`, `see_rows`
 -- and `query_over`.
 -- Assumes nothing.
-use Rattle.basis.specs.Kit.{_≡_, refl, sym, ap, _∙_, List, [], _∷_, map, ℕ, _+_, _*_, _^_, _≤_, length}
+use Rattle.basis.specs.Kit.{_≡_, refl, sym, ap, _∙_, List, [], _∷_, map, ℕ, _+_, _*_, _≤_, length}
 use Rattle.basis.proofs.Kit.{arith}
 use Rattle.basis.proofs.Never.{never as nothing-left}
 use Rattle.limits.specs.Figures.{mostLevels, mostParts}
@@ -9,16 +9,11 @@ use Rattle.reply.specs.declared.Refusal.{Refusal}
 use Rattle.reply.specs.declared.Verdict.the-variants.{Fine}
 use Rattle.reply.specs.Outcome.{Outcome, refused as refusedFor, nothing, give, push}
 use Rattle.field.specs.Walk.{walk}
-use Rattle.sheet.specs.declared.declaration.Declaration.{Declaration}
-use Rattle.request.specs.declared.name.Part.{Part}
 use Rattle.request.specs.Name.{partsIn}
 use Rattle.requestform.specs.Form.{judgeName}
 use Rattle.requestform.proofs.FineLaws.{fine-name, fine-name-few}
 use Rattle.scope.specs.declared.lookup.LookupScope.{LookupScope}
 use Rattle.lookups.specs.Lookups.{Lookups, Message, walking}
-use Rattle.steps.specs.declared.Step.{Step}
-use Rattle.steps.specs.declared.Step.the-variants.{Found as FoundStep, NotFound}
-use Rattle.steps.specs.Steps.{stepOf}
 use Rattle.entries.specs.declared.Row.{Row}
 use Rattle.entries.specs.Tree.{Tree, rows}
 use Rattle.entries.specs.Reading.{Listed, listed, refused, reading}
@@ -36,7 +31,7 @@ use Rattle.query.specs.declared.name.Naming.{Naming}
 use Rattle.query.specs.declared.name.Naming.the-variants.{Parts, Group, Refused as RefusedName}
 use Rattle.query.specs.declared.Seen.{Seen}
 use Rattle.query.specs.declared.Seen.the-variants.{All, Refused}
-use Rattle.query.specs.Name.{Named, names, group, refusedAt, declarations}
+use Rattle.query.specs.Name.{Named, declarations}
 use Rattle.following.specs.Reached.{never}
 use Rattle.following.specs.inner.Keys.{keyOf, keyWords, keysFrom}
 use Rattle.query.specs.inner.Naming.{Namable, Declares, declares, leaves-group, refuses}

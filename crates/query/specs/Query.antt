@@ -22,7 +22,8 @@ use Rattle.requestform.specs.Form.{judgeOptionsType, judgeName}
 use Rattle.lookups.specs.Lookups.{Lookups, walking}
 use Rattle.entries.specs.declared.Row.{Row}
 use Rattle.entries.specs.Tree.{Tree, words}
-use Rattle.entries.specs.Reading.{judgeBytes, Under, under, refusedBy, recordsOf}
+use Rattle.payload.specs.Payload.{judgeBytes}
+use Rattle.entries.specs.Reading.{Under, under, refusedBy, recordsOf}
 use Rattle.listing.specs.Listing.{unless}
 use Rattle.following.specs.Reached.{never, reached}
 use Rattle.query.specs.Name.{Named, names, group, refusedAt, declarations}

@@ -27,18 +27,18 @@ use fullname::LookedUp;
 use levels::Cursor;
 use levels::Event;
 use levels::STACK_WORDS;
-use levels::check_bytes;
 use levels::next;
 use levels::start;
 use limits::MOST_PARTS;
-use listing::put_row;
 use name::Naming;
 use name::declare;
+use payload::check_bytes;
 use reply::Answer;
 use reply::Refusal;
 use reply::Verdict;
 use requestform::check_name;
 use requestform::check_options_type;
+use rows::put_row;
 use scope::lookup::LookupScope;
 
 // So many words are the keys of all parts.

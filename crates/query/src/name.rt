@@ -1,10 +1,9 @@
 // The parts of a name as declarations, no option byte being read: of each its place in the sheet, and whether its records are joined.
-ghost use Rattle.basis.specs.Kit.{_≡_, true, _+_, _*_, _≤_, _<_, [], _∷_, length, sets};
+ghost use Rattle.basis.specs.Kit.{_≡_, _+_, _*_, _≤_, [], _∷_, length, sets};
 ghost use Rattle.basis.specs.First.{onlyIf};
 ghost use Rattle.field.specs.Leaf.{Lies};
 ghost use Rattle.field.specs.Walk.{walk};
 ghost use Rattle.request.specs.Name.{partsIn};
-ghost use Rattle.optionform.specs.inner.Parts.{NameParts};
 ghost use Rattle.scope.specs.inner.Answers.{InSheet};
 ghost use Rattle.lookups.specs.Lookups.{walking};
 ghost use Rattle.steps.specs.inner.Reached.{message as messageOf, StepLies};

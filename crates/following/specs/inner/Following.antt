@@ -8,7 +8,7 @@
 --     followed ks n f xs ==  what is followed after the rows xs
 --
 -- Assumes nothing.
-use Rattle.basis.specs.Kit.{Bool, true, false, _&&_, List, [], _∷_, Option, none, some, ℕ, _+_, eqb, ltb, leb, getD, length}
+use Rattle.basis.specs.Kit.{Bool, true, false, _&&_, List, [], _∷_, Option, none, some, ℕ, _+_, eqb, ltb}
 use Rattle.basis.specs.First.{onlyIf}
 use Rattle.sheet.specs.declared.declaration.Declared.{Declared}
 use Rattle.sheet.specs.declared.declaration.Declared.the-variants.{Declares, NoDeclaration}
@@ -16,7 +16,7 @@ use Rattle.entries.specs.declared.Row.{Row}
 use Rattle.following.specs.declared.Best.{Best}
 use Rattle.following.specs.declared.Best.the-variants.{Found, NoneYet}
 use Rattle.following.specs.declared.Followed.{Followed}
-use Rattle.following.specs.inner.Keys.{Key, keyAt}
+use Rattle.following.specs.inner.Keys.{keyAt}
 
 abbrev pub bestOf : Option Row → Best
 bestOf none = NoneYet

@@ -1,6 +1,6 @@
 -- `listing::count_words` meets its contract.
 -- Assumes nothing.
-use Rattle.listing.proofs.RowLaws.{words-counted}
+use Rattle.listing.proofs.CountLaws.{words-counted}
 use Rattle.listing.proofs.count_words.Statement.{statement}
 use Rattle.listing.proofs.count_words.Tie as tie
 

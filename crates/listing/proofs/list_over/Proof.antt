@@ -1,7 +1,7 @@
 -- `listing::list_over` meets its contract.
 -- Assumes nothing.
 use Rattle.basis.proofs.Kit.{needs}
-use Rattle.listing.proofs.RowLaws.{over-laws}
+use Rattle.listing.proofs.CountLaws.{over-laws}
 use Rattle.listing.proofs.list_over.Statement.{statement}
 use Rattle.listing.proofs.list_over.Tie as tie
 

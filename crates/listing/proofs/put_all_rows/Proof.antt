@@ -1,6 +1,6 @@
 -- `listing::put_all_rows` meets its contract.
 -- Assumes nothing.
-use Rattle.listing.proofs.RowLaws.{all-laws}
+use Rattle.listing.proofs.CountLaws.{all-laws}
 use Rattle.listing.proofs.put_all_rows.Statement.{statement}
 use Rattle.listing.proofs.put_all_rows.Tie as tie
 

@@ -8,9 +8,8 @@
 --   admitted v s type q bs ==  the message that the options type is, or the first fault of the inputs, of which the sheet is judged v
 --
 -- Assumes nothing.
-use Rattle.basis.specs.Kit.{List, Option, none, some, ℕ, length}
+use Rattle.basis.specs.Kit.{List, ℕ, length}
 use Rattle.limits.specs.Figures.{mostLevels}
-use Rattle.reply.specs.declared.Refusal.{Refusal}
 use Rattle.reply.specs.declared.Verdict.{Verdict}
 use Rattle.reply.specs.Outcome.{Outcome, refused as refusedFor, nothing, give, refuse}
 use Rattle.field.specs.Walk.{walk}
@@ -20,7 +19,7 @@ use Rattle.lookups.specs.Lookups.{Lookups, Message, walking}
 use Rattle.entries.specs.declared.Row.{Row}
 use Rattle.entries.specs.Tree.{Tree, words}
 use Rattle.entries.specs.Reading.{Listed, listed, refused, reading}
-use Rattle.listing.specs.inner.Worded.{unlessFaulty}
+use Rattle.listing.specs.inner.Admitted.{unlessFaulty}
 use Rattle.following.specs.declared.Best.{Best}
 use Rattle.following.specs.declared.Best.the-variants.{Found, NoneYet}
 use Rattle.following.specs.declared.Followed.{Followed}

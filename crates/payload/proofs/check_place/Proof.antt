@@ -1,9 +1,9 @@
--- `listing::payload::check_place` meets its contract.
+-- `payload::check_place` meets its contract.
 -- Assumes nothing.
 use Rattle.basis.proofs.Kit.{needs}
-use Rattle.listing.proofs.PayloadLaws.{place-laws}
-use Rattle.listing.proofs.payload.check_place.Statement.{statement}
-use Rattle.listing.proofs.payload.check_place.Tie as tie
+use Rattle.payload.proofs.PayloadLaws.{place-laws}
+use Rattle.payload.proofs.check_place.Statement.{statement}
+use Rattle.payload.proofs.check_place.Tie as tie
 
 pub check-place-spec : {M : Type 1} → statement M
 check-place-spec = tie.close (tie.spec

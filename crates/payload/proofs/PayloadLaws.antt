@@ -1,7 +1,7 @@
 -- The laws of `payload`: the ways through the test of a place and a length, what it says where it is fine, and the part and the answer of its
 -- verdict.
 -- Assumes nothing.
-use Rattle.basis.specs.Kit.{_≡_, refl, sym, _∙_, Bool, true, false, List, ℕ, _+_, _-_, _≤_, _<_, leb, length}
+use Rattle.basis.specs.Kit.{_≡_, refl, sym, ap, _∙_, Bool, true, false, List, ℕ, _+_, _-_, _≤_, _<_, leb, length}
 use Rattle.basis.proofs.Kit.{arith, Fits, w64}
 use mir.Syntax.{w32}
 use borrow.Author.Tests.{leb-true, leb-false, le-leb, lt-leb}
@@ -14,10 +14,21 @@ use Rattle.reply.specs.declared.Verdict.the-variants.{Fine, Refused}
 use Rattle.reply.specs.declared.Answer.{Answer}
 use Rattle.reply.specs.Verdicts.{judged, Says}
 use Rattle.reply.specs.Reply.{refusedBy, doneWith}
-use Rattle.reply.proofs.VerdictLaws.{first-fine-front, first-fine-rest, judged-fine}
+use Rattle.reply.proofs.VerdictLaws.{says, first-fine-front, first-fine-rest, judged-fine}
 use Rattle.field.specs.Part.{PartOf, noBytes}
-use Rattle.entries.specs.Reading.{judgeBytes}
-use Rattle.listing.specs.Listing.{judgePayload, payloadSpan, payloadAnswer}
+use Rattle.payload.specs.Payload.{judgeBytes, judgePayload, payloadSpan, payloadAnswer}
+
+-- ---- check_bytes
+pub bytes-said : (bs : List ℕ) (b : Bool) (r : Verdict) → b ≡ leb (length bs) mostOptionBytes → r ≡ judged BeyondLimit b
+    → Says (judgeBytes bs) r
+unfolding judgeBytes
+bytes-said bs b r p q = says _ r (q ∙ ap (judged BeyondLimit) p)
+
+pub bytes-short : (bs : List ℕ) (r : Verdict) → Says (judgeBytes bs) r → r ≡ Fine → length bs ≤ mostOptionBytes
+unfolding judgeBytes
+bytes-short bs r k q = leb-true (length bs) mostOptionBytes (judged-fine BeyondLimit (leb (length bs) mostOptionBytes) (sym (k .is) ∙ q))
+
+pub ruleset check-bytes-laws = bytes-said
 
 -- ---- check_place
 same-test : (at n k : ℕ) → at ≤ k → leb (at + n) k ≡ leb n (k - at)

@@ -1,12 +1,11 @@
--- Rows as words.
+-- Inputs that are let through, and words that are counted.
 --
---               worded o ==  the words of the rows of o, or its refusal
---              counted o ==  what a writer of o answers from the front on: how many elements it has, or its refusal
---        WroteAtMost n r <-> where the writer that answered r wrote words, the place after them is at most n
---   admitted v s type bs ==  the message that the options type is, or the first fault of the inputs, of which the sheet is judged v
+--              counted o == what a writer of o answers from the front on: how many elements it has, or its refusal
+--       unlessFaulty v u == the message that a look-up u comes to, of inputs that are judged v; or the first fault
+--   admitted v s type bs == the message that the options type is, or the first fault of the inputs, of which the sheet is judged v
 --
 -- Assumes nothing.
-use Rattle.basis.specs.Kit.{List, ℕ, _≤_, length}
+use Rattle.basis.specs.Kit.{List, ℕ, length}
 use Rattle.reply.specs.declared.Verdict.{Verdict}
 use Rattle.reply.specs.declared.Verdict.the-variants.{Fine, Refused}
 use Rattle.reply.specs.Outcome.{Outcome, refused, nothing, give}
@@ -15,25 +14,13 @@ use Rattle.emit.specs.declared.Put.the-variants.{Wrote, Refused as Stopped}
 use Rattle.fullname.specs.declared.LookedUp.{LookedUp}
 use Rattle.fullname.specs.declared.LookedUp.the-variants.{NoMessage}
 use Rattle.lookups.specs.Lookups.{walking}
-use Rattle.entries.specs.declared.Row.{Row}
-use Rattle.entries.specs.Tree.{wordsOf}
 use Rattle.listing.specs.Listing.{judgeInputs}
-
-abbrev pub worded : Outcome Row → Outcome ℕ
-worded (give rs) = give (wordsOf rs)
-worded nothing = nothing
-worded (refused c) = refused c
 
 -- no writer has the outcome Absent
 abbrev pub counted : {A : Type 0} → Outcome A → Put
 counted (give es) = Wrote (length es)
 counted nothing = Wrote 0
 counted (refused c) = Stopped c
-
--- a count of words has to fit the answer
-unfoldable pub WroteAtMost : (most : ℕ) → Put → Type 0
-WroteAtMost most (Wrote n) = n ≤ most
-WroteAtMost most (Stopped c) = Unit {0}
 
 abbrev pub unlessFaulty : Verdict → LookedUp → LookedUp
 unlessFaulty Fine u = u

@@ -1,4 +1,4 @@
--- `listing::payload::payload` meets its contract: a walk of its MIR, by hand, since the borrow checker covers no function that makes a struct
+-- `payload::payload` meets its contract: a walk of its MIR, by hand, since the borrow checker covers no function that makes a struct
 -- with a reference in it. `payload_answer` and `payload_part` are called on the same arguments, and the struct is made of what they return.
 -- A `&[u8]` is Copy: what it owns is had anew for each call, and one copy is kept for the exit.
 -- Assumes nothing.
@@ -42,22 +42,22 @@ use Rattle.field.specs.Part.{PartOf}
 use Rattle.reply.specs.declared.Answer.{Answer}
 use Rattle.reply.proofs.Answer as R
 use Rattle.reply.proofs.Answer.Laws as R′
-use Rattle.listing.specs.Listing.{payloadSpan, payloadAnswer}
-use Rattle.listing.specs.declared.payload.AnsweredPart.{AnsweredPart}
-use Rattle.listing.proofs.payload.AnsweredPart as T
-use Rattle.listing.proofs.payload.AnsweredPart.Laws as T′
-use Rattle.listing.proofs.payload.payload_answer as answer
-use Rattle.listing.proofs.payload.payload_answer.Symbol as answer-def
-use Rattle.listing.proofs.payload.payload_answer.Symbol.{name as #payload-answer}
-use Rattle.listing.proofs.payload.payload_answer.Met as answer-thm
-use Rattle.listing.proofs.payload.payload_part as part
-use Rattle.listing.proofs.payload.payload_part.Symbol as part-def
-use Rattle.listing.proofs.payload.payload_part.Symbol.{name as #payload-part}
-use Rattle.listing.proofs.payload.payload_part.Met as part-thm
-use Rattle.listing.proofs.payload.payload.Key.{name as #payload}
-use Rattle.listing.proofs.payload.payload as payload
-use Rattle.listing.proofs.payload.payload.Statement as stated
-use Rattle.listing.proofs.payload.payload.Code as code
+use Rattle.payload.specs.Payload.{payloadSpan, payloadAnswer}
+use Rattle.payload.specs.declared.AnsweredPart.{AnsweredPart}
+use Rattle.payload.proofs.AnsweredPart as T
+use Rattle.payload.proofs.AnsweredPart.Laws as T′
+use Rattle.payload.proofs.payload_answer as answer
+use Rattle.payload.proofs.payload_answer.Symbol as answer-def
+use Rattle.payload.proofs.payload_answer.Symbol.{name as #payload-answer}
+use Rattle.payload.proofs.payload_answer.Met as answer-thm
+use Rattle.payload.proofs.payload_part as part
+use Rattle.payload.proofs.payload_part.Symbol as part-def
+use Rattle.payload.proofs.payload_part.Symbol.{name as #payload-part}
+use Rattle.payload.proofs.payload_part.Met as part-thm
+use Rattle.payload.proofs.payload.Key.{name as #payload}
+use Rattle.payload.proofs.payload as payload
+use Rattle.payload.proofs.payload.Statement as stated
+use Rattle.payload.proofs.payload.Code as code
 
 abbrev stayed : Stays (payload.ended .signature .params) (payload.ended .kept)
 stayed = (stay-none-slice (0 ∷ []) tt (plain (λ _. u8)) yes, (stay-none (λ _. usize) yes, (stay-none (λ _. usize) yes, tt)))
@@ -217,5 +217,5 @@ payload-spec 𝓤 H 𝓜 𝓖 𝓡 =
     entered 𝓤 H (tripleOf 𝓤 H (𝓖 .A) payload.signature (payload.spec 𝓤 H (𝓖 .A) (𝓜 .mem) (𝓡 .run)))
     (tables 𝓤 H 𝓜 𝓡 code.env .C) (tables 𝓤 H 𝓜 𝓡 code.env .Λ) #payload code.function (code.unfolded 𝓤 H 𝓜 𝓡)
     (payload-meets 𝓤 H (𝓖 .A) (givenOf 𝓤 H 𝓜 𝓖) (𝓜 .mem) (𝓡 .run) (tablesOf 𝓤 H 𝓜 (tables 𝓤 H 𝓜 𝓡 code.env))
-    (cited 𝓤 H (AnswerOf 𝓤 H (𝓖 .A) (𝓜 .mem) (𝓡 .run)) 𝓜 𝓡 code.env #payload-answer answer-def.routine code.calls-listing·payload·payload-answer (answer-thm.met 𝓤 H 𝓜 𝓖 𝓡))
-    (cited 𝓤 H (PartAt 𝓤 H (𝓖 .A) (𝓜 .mem) (𝓡 .run)) 𝓜 𝓡 code.env #payload-part part-def.routine code.calls-listing·payload·payload-part (part-thm.met 𝓤 H 𝓜 𝓖 𝓡)))
+    (cited 𝓤 H (AnswerOf 𝓤 H (𝓖 .A) (𝓜 .mem) (𝓡 .run)) 𝓜 𝓡 code.env #payload-answer answer-def.routine code.calls-payload·payload-answer (answer-thm.met 𝓤 H 𝓜 𝓖 𝓡))
+    (cited 𝓤 H (PartAt 𝓤 H (𝓖 .A) (𝓜 .mem) (𝓡 .run)) 𝓜 𝓡 code.env #payload-part part-def.routine code.calls-payload·payload-part (part-thm.met 𝓤 H 𝓜 𝓖 𝓡)))

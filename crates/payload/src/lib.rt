@@ -1,13 +1,22 @@
-// The call `payload`: a part of the option bytes, by its place and length, with the answer beside it. The two stand in a struct that holds a
-// reference, so whoever keeps one is proved by hand; `payload_part` and `payload_answer` say the same and ask for no such proof.
+// Option bytes as an input: whether they are too long, and the call `payload`, a part of them by its place and length with the answer beside
+// it. The two stand in a struct that holds a reference, so whoever keeps one is proved by hand; `payload_part` and `payload_answer` say the
+// same and ask for no such proof.
 ghost use Rattle.basis.specs.Kit.{_≡_};
 ghost use Rattle.field.specs.Part.{PartOf};
-ghost use Rattle.listing.specs.Listing.{judgePayload, payloadSpan, payloadAnswer};
+ghost use Rattle.reply.specs.Verdicts.{Says};
+ghost use Rattle.payload.specs.Payload.{judgeBytes, judgePayload, payloadSpan, payloadAnswer};
 use field::part::none_of;
-use levels::check_bytes;
+use limits::MOST_OPTION_BYTES;
 use reply::Answer;
 use reply::Refusal;
 use reply::Verdict;
+
+// Whether option bytes are not too long to read.
+pub fn check_bytes(bytes: &[u8]) -> Verdict
+    ensures { λ r. ⌜ Says (judgeBytes (now (bytes .entry))) r ⌝ }
+{
+    reply::judge(bytes.len() <= MOST_OPTION_BYTES, Refusal::BeyondLimit)
+}
 
 // A part of lent bytes with the answer beside it.
 pub struct AnsweredPart<'b> {
