@@ -55,11 +55,26 @@ def seven(name):
 
 REQUEST = seven(b"order")
 
+
+# option bytes: Dispatch's own is 7, the fleet's is 3, and a number that this schema does not declare is 1
+TYPE = f(0x44, FIELD)
+BYTES = f(0x45, bytes.fromhex("90B51807 88B51803 98B51801"))
+SETPOINT = f(0x45, bytes.fromhex("90B51807"))  # what lower.hex answers first
+
+
+def asked(name):
+    """(NAME), as a name of its own"""
+    return f(0x46, f(0x1B, name))
+
+
 FILES = {
     # (order), (.plant.order), and (order) where Dispatch's own is none of fields
     "lower.hex": laid(SHEET + REQUEST) + laid(SHEET + seven(b".plant.order")) + laid(MISTAKEN_SHEET + REQUEST),
     "find.hex": lines(SHEET, SCOPE + f(0x43, b"order"), SHEET, SCOPE + f(0x43, b".plant.order")),
     "check.hex": lines(SHEET, REQUEST),
+    "list.hex": lines(SHEET, TYPE, BYTES),
+    # (plant.order) in all of them, and where only Dispatch's own is set
+    "query.hex": lines(SHEET, TYPE, asked(b"plant.order"), BYTES, SHEET, TYPE, asked(b"plant.order"), SETPOINT),
     # reserved 100 to 199, 300, 1000 to max; of a message
     "ranges.hex": lines(f(0x47, words(1)), f(0x48, words(100, 199, 300, 300, 1000, 536870911))),
     # setpoint, optional ramp, oneof source { packet, queue }, backup
