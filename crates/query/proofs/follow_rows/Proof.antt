@@ -1,7 +1,6 @@
 -- `query::follow_rows` meets its contract, by its loop's invariant and laws.
 -- Assumes nothing.
 use Rattle.basis.specs.Kit.{_-_, length}
-use Rattle.basis.proofs.Kit.{needs}
 use Rattle.lookups.specs.Lookups.{walking}
 use Rattle.levels.specs.inner.Left.{left}
 use Rattle.query.proofs.SeenLaws.{Seeing, seeing-laws}
@@ -17,15 +16,15 @@ abbrev μ-loop : tie.MeasureT-loop
 
 pub follow-rows-spec : {M : Type 1} → statement M
 follow-rows-spec = tie.close (tie.spec Inv-loop μ-loop
-    (λ c. search (needs, seeing-laws))
-    (λ c κs. search (needs, seeing-laws))
-    (λ c. search (needs, seeing-laws))
-    (λ c. search (needs, seeing-laws))
-    (λ c. search (needs, seeing-laws))
-    (λ c. search (needs, seeing-laws))
-    (λ c. search (needs, seeing-laws))
-    (λ c. search (needs, seeing-laws))
-    (λ c. search (needs, seeing-laws))
-    (λ c κs. search (needs, seeing-laws))
-    (λ c. search (needs, seeing-laws))
-    (λ c. search (needs, seeing-laws)))
+    (λ c. search)
+    (λ c κs. search)
+    (λ c. search)
+    (λ c. search)
+    (λ c. search seeing-laws)
+    (λ c. search)
+    (λ c. search)
+    (λ c. search seeing-laws)
+    (λ c. search)
+    (λ c κs. search)
+    (λ c. search seeing-laws)
+    (λ c. search seeing-laws))

@@ -6,7 +6,7 @@ use Rattle.query.proofs.query_in.Tie as tie
 
 pub query-in-spec : {M : Type 1} → statement M
 query-in-spec = tie.close (tie.spec
-    (λ c. search needs)
-    (λ c. search needs)
+    (λ c. search)
+    (λ c. search)
     (λ c κs. (search needs, (search needs, (search needs, (search needs, search needs)))))
-    (λ c. search needs))
+    (λ c. search))

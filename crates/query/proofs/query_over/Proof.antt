@@ -7,19 +7,19 @@ use Rattle.query.proofs.query_over.Tie as tie
 
 pub query-over-spec : {M : Type 1} → statement M
 query-over-spec = tie.close (tie.spec
-    (λ c. search (needs, query-over-laws))
-    (λ c κs. search (needs, query-over-laws))
-    (λ c κs. search (needs, query-over-laws))
+    (λ c. search)
+    (λ c κs. search query-over-laws)
+    (λ c κs. search)
     (λ c κs. (
       search (needs, query-over-laws),
       (search (needs, query-over-laws), (search (needs, query-over-laws), search (needs, query-over-laws))),
     ))
-    (λ c. search (needs, query-over-laws))
-    (λ c. search (needs, query-over-laws))
-    (λ c κs. search (needs, query-over-laws))
-    (λ c. search (needs, query-over-laws))
-    (λ c. search (needs, query-over-laws))
-    (λ c. search (needs, query-over-laws))
-    (λ c. search (needs, query-over-laws))
-    (λ c. search (needs, query-over-laws))
-    (λ c. search (needs, query-over-laws)))
+    (λ c. search)
+    (λ c. search)
+    (λ c κs. search)
+    (λ c. search)
+    (λ c. search)
+    (λ c. search query-over-laws)
+    (λ c. search)
+    (λ c. search)
+    (λ c. search query-over-laws))

@@ -7,7 +7,7 @@ use Rattle.query.proofs.see_rows.Tie as tie
 
 pub see-rows-spec : {M : Type 1} → statement M
 see-rows-spec = tie.close (tie.spec
-    (λ c κs. search (needs, see-rows-laws))
-    (λ c κs. search (needs, see-rows-laws))
-    (λ c. search (needs, see-rows-laws))
-    (λ c. search (needs, see-rows-laws)))
+    (λ c κs. search)
+    (λ c κs. search see-rows-laws)
+    (λ c. search needs)
+    (λ c. search see-rows-laws))
