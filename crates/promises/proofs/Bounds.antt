@@ -15,7 +15,7 @@ use Rattle.reply.specs.declared.Refusal.the-variants.{BeyondLimit}
 use Rattle.reply.specs.declared.Verdict.{Verdict}
 use Rattle.reply.specs.declared.Verdict.the-variants.{Fine, Refused}
 use Rattle.reply.specs.Verdicts.{firstFault}
-use Rattle.reply.proofs.VerdictLaws.{refused-fine, first-fine-rest}
+use Rattle.reply.proofs.VerdictLaws.{refused-fine, first-fine-front, first-fine-rest}
 use Rattle.field.specs.Leaf.{text}
 use Rattle.field.specs.Walk.{Walk, done, cut, step, walk}
 use Rattle.fullname.specs.declared.LookedUp.{LookedUp}
@@ -149,6 +149,9 @@ module _ (v : Verdict) (s r : List ℕ) (x : Recs) (e : resolvingBy v s r ≡ re
       go : (u : Verdict) → unless u (stepsOf (walking s) s r) ≡ records x → u ≡ Fine
       go Fine e = refl
       go (Refused w) e = never cc
+
+  pub resolved-sheet : v ≡ Fine
+  resolved-sheet = first-fine-front v (judgeRequest r) fine-both
 
   pub resolved-fine : judgeRequest r ≡ Fine
   resolved-fine = first-fine-rest v (judgeRequest r) fine-both

@@ -10,5 +10,11 @@ pub mod OptionBounds
 pub mod Bounds
 pub mod LevelControls
 pub mod Levels
+pub mod ScalarFits
+pub mod SizedLaws
+pub mod Declarations
+pub mod WrittenLaws
+pub mod BackLaws
+pub mod BackControls
 pub mod Theorems
 pub mod Main

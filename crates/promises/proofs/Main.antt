@@ -1,15 +1,19 @@
 -- The claims of the project that hold so far, one statement each below its sentence; each proof is a citation. Start here: a reader who
 -- believes the definitions that these statements name (specs/ of the crates that they come from) may stop here.
 --
--- `s` is a sheet, `r` a request, any bytes; `resolveBytes s r` is what 01 says that the call `resolve` comes to, and its contract is
--- `Answered (resolveBytes s r) before after a`: `a` is the answer, and the lent memory, `before` the call, is `after` it.
+-- `s` is a sheet, `r` a request, `type` an options type, `bs` option bytes, `q` a name, any bytes. What 01 says that a call comes to is
+-- `resolveBytes s r` of `resolve`, `listing s type bs` of `list`, `query s type q bs` of `query`. Of each the contract, with no premise on
+-- its inputs, is `Answered o before after a`, o being what it comes to: `a` is the answer, and the lent memory, `before` the call, is
+-- `after` it. `Bytes s` says that every element of s is below 256, as those of a slice of bytes are.
 --
 -- Assumes nothing.
-use Rattle.basis.specs.Kit.{_≡_, ap, _∙_, true, false, List, _∷_, _++_, map, some, ℕ, _≤_, _<_, _^_, length, drop}
-use Rattle.basis.specs.Among.{Among}
+use Rattle.basis.specs.Kit.{_≡_, ap, _∙_, Bool, true, false, List, _∷_, _++_, map, none, some, ℕ, _+_, _≤_, _<_, _^_, length, drop}
+use Rattle.basis.specs.Among.{Among, Ordered}
 use Rattle.basis.proofs.Kit.{lt-ltb, le-ltb}
+use Rattle.limits.specs.Figures.{mostLevels, mostOptionBytes}
+use Rattle.octets.proofs.Bytes.{Bytes}
 use Rattle.reply.specs.declared.Refusal.{Refusal}
-use Rattle.reply.specs.declared.Refusal.the-variants.{ExtensionNotFound, WrongExtensionType, NoRoom}
+use Rattle.reply.specs.declared.Refusal.the-variants.{ExtensionNotFound, WrongExtensionType, BadRequest, BeyondLimit, NoRoom}
 use Rattle.reply.specs.declared.Verdict.the-variants.{Fine}
 use Rattle.reply.specs.declared.Answer.{Answer}
 use Rattle.reply.specs.Reply.{refusedBy, doneWith, absentAnswer}
@@ -17,18 +21,23 @@ use Rattle.reply.specs.Outcome.{Outcome, refuse, nothing, give, within, answerO
 use Rattle.reply.proofs.Outcomes.{answered-unique-answer, answered-unique-left}
 use Rattle.path.specs.Path.{Path, isPath}
 use Rattle.candidates.specs.Candidates.{candidates}
-use Rattle.field.specs.Leaf.{text}
+use Rattle.field.specs.declared.Span.{Span}
+use Rattle.field.specs.Leaf.{span, text}
+use Rattle.field.specs.Part.{PartOf, noBytes}
+use Rattle.sheet.specs.declared.declaration.Declaration.{Declaration}
 use Rattle.sheetform.specs.Form.{judgeSheet}
+use Rattle.scope.specs.declared.lookup.LookupScope.{LookupScope}
 use Rattle.scope.specs.Scope.{extends}
+use Rattle.fullname.specs.declared.LookedUp.the-variants.{Message as Found}
 use Rattle.search.specs.declared.extension.Candidate.{Candidate}
 use Rattle.search.specs.declared.extension.Tried.the-variants.{Answers}
 use Rattle.search.specs.Lookup.{tried}
 use Rattle.search.specs.Answers.{Undeclared}
 use Rattle.request.specs.declared.name.Part.{Part}
-use Rattle.request.specs.Request.{Option}
+use Rattle.request.specs.Request.{Option, requestOf}
 use Rattle.records.specs.Records.{Recs, encode}
 use Rattle.records.specs.Raw.{rawOf, rawsOf, Proper}
-use Rattle.records.proofs.ReadBack as reading
+use Rattle.records.proofs.ReadBack as encoding
 use Rattle.lookups.specs.Lookups.{Lookups, Message, walking}
 use Rattle.known.specs.Known.{Known}
 use Rattle.options.specs.declared.named.Fault.{Fault}
@@ -40,17 +49,50 @@ use Rattle.options.specs.Settle.{fails, stopAt, settle}
 use Rattle.options.specs.Options.{stopped, gather}
 use Rattle.options.specs.Steps.{records}
 use Rattle.options.specs.Resolve.{resolving, resolveBytes, resolveTested}
-use Rattle.options.proofs.TestedLaws as calls
+use Rattle.options.proofs.TestedLaws as resolves
+use Rattle.entries.specs.declared.Row.{Row}
+use Rattle.entries.specs.Tree.{Tree, rows, words, wordsOf}
+use Rattle.entries.specs.Item.{declared}
+use Rattle.entries.specs.Reading.{listed, reading, under, recordsOf}
+use Rattle.payload.specs.Payload.{payloadSpan, payloadAnswer}
+use Rattle.listing.specs.Listing.{listing, listingTested}
+use Rattle.listing.proofs.ListingLaws as lists
+use Rattle.following.specs.Reached.{never, reached}
+use Rattle.query.specs.Query.{queryOf, judgeInputs, query, queryTested}
+use Rattle.query.proofs.CallLaws as queries
+use Rattle.readback.specs.Seen.{seen, nested, Readable}
+use Rattle.readback.specs.Typed.{Typed, contents, contentOf}
+use Rattle.readback.specs.Once.{DeclaredAt, Once}
+use Rattle.readback.specs.Older.{Keeps}
+use Rattle.readback.specs.Lying.{RecordLies, Lying}
+use Rattle.readback.specs.Encoded.{Encoded}
+use Rattle.readback.specs.Knows.{Knows}
+use Rattle.readback.specs.Rows.{Stand}
+use Rattle.readback.specs.Follows.{Follows, Leads, Lacks, OwnRow}
+use Rattle.readback.proofs.RecordsRead as rereads
+use Rattle.readback.proofs.OlderBytes as older
+use Rattle.readback.proofs.OwnBytes as own
+use Rattle.readback.proofs.UnderLaws.{reading-under, under-reading}
+use Rattle.readback.proofs.LyingLaws as lying
+use Rattle.readback.proofs.EncodedLaws as encoded
+use Rattle.readback.proofs.KnowsLaws as knows
+use Rattle.readback.proofs.OnceLaws as once
+use Rattle.readback.proofs.RowsLaws as standing
+use Rattle.readback.proofs.PartLaws as parts
+use Rattle.readback.proofs.FollowsLaws as follows
+use Rattle.readback.proofs.QueryLaws as answers
+use Rattle.readback.proofs.CallLaws as calls
 use Rattle.promises.specs.Levels.{deepest}
+use Rattle.promises.specs.Back.{TypedAt, ListedBack}
 use Rattle.promises.proofs.Asking.{answer}
 use Rattle.promises.proofs.Examples as examples
 use Rattle.promises.proofs.Bounds as bounds
 use Rattle.promises.proofs.Levels as levels
+use Rattle.promises.proofs.BackLaws as back
 use Rattle.promises.proofs.Theorems as theorems
 
 -- ==== Demand 1: every input gets an answer from 01's table; a refusal writes nothing; NoRoom comes last
--- Of each call: `o` is what it comes to, `resolveBytes s r`, `listing s type bs`, `query s type q bs` or any other outcome, and its contract,
--- with no premise on its inputs, is `Answered o before after a`.
+-- Of each call, `o` being what it comes to:
 module _ (o : Outcome ℕ) (before : List ℕ) where
   -- Any two outcomes that the contract allows coincide, in the answer
   pub one-answer : (after after′ : List ℕ) (a a′ : Answer) → Answered o before after a → Answered o before after′ a′ → a ≡ a′
@@ -89,22 +131,45 @@ module _ (o : Outcome ℕ) (before : List ℕ) where
 -- A sheet that was tested once may be asked a thousand times: on it a call without that test comes to the same.
 module _ (s : List ℕ) (fine : judgeSheet s ≡ Fine) where
   pub resolve-once : (r : List ℕ) → resolveBytes s r ≡ resolveTested s r
-  resolve-once r = calls.resolve-tested s r fine
+  resolve-once r = resolves.resolve-tested s r fine
 
   pub list-once : (type bs : List ℕ) → listing s type bs ≡ listingTested s type bs
   list-once type bs = lists.list-tested s type bs fine
 
-  pub query-once : (type q bs : List ℕ) → query.query s type q bs ≡ query.queryTested s type q bs
+  pub query-once : (type q bs : List ℕ) → query s type q bs ≡ queryTested s type q bs
   query-once type q bs = queries.query-tested s type q bs fine
+
+-- `payload` writes nothing. A place and a length inside the option bytes give that part, and 0 with its length;
+module _ (bs : List ℕ) (at n : ℕ) where
+  pub payload-inside : length bs ≤ mostOptionBytes → at + n ≤ length bs
+      → (payloadSpan bs at n ≡ span at (at + n)) × (payloadAnswer bs at n ≡ doneWith n)
+  payload-inside = parts.payload-inside bs at n
+
+  -- others an empty part, and 2; of over-long bytes it is 3.
+  pub payload-outside : length bs ≤ mostOptionBytes → length bs < at + n
+      → (payloadSpan bs at n ≡ noBytes) × (payloadAnswer bs at n ≡ refusedBy BadRequest)
+  payload-outside = parts.payload-outside bs at n
+
+  pub payload-long : mostOptionBytes < length bs → (payloadSpan bs at n ≡ noBytes) × (payloadAnswer bs at n ≡ refusedBy BeyondLimit)
+  payload-long = parts.payload-long bs at n
+
+-- Any two parts that its contract allows are the same bytes, in the same block of memory at the same offset.
+pub one-part : (p : Span) (s : List ℕ) (b o : ℕ) (t t′ : List ℕ) (b′ b″ o′ o″ : ℕ) → PartOf p s b o t b′ o′ → PartOf p s b o t′ b″ o″
+    → (t ≡ t′) × (b′ ≡ b″) × (o′ ≡ o″)
+one-part = parts.part-unique
 
 -- ==== Demand 2: look-ups and bytes are 01's and Encoding's
 -- 01's examples P1 to P9, of the whole call: bytes, refusals with their places, Absent.
 pub examples-hold : map answer examples.p1-to-p9 ≡ map (λ x. x .says) examples.p1-to-p9
 examples-hold = examples.table
 
--- What is written reads back by Encoding: numbers, wire types and payloads, record by record, inside each message again.
+-- Records read back by Encoding: numbers, wire types and payloads, record by record, inside each message again.
 pub written-reads-back : (rs : Recs) → Proper rs → length (encode rs) < 2 ^ 64 → rawOf (encode rs) ≡ some (rawsOf rs)
-written-reads-back rs p h = reading.read-back p h
+written-reads-back rs p h = encoding.read-back p h
+
+-- So does what a request writes.
+pub resolved-reads-back : (s r : List ℕ) → Bytes s → Bytes r → (x : Recs) → resolving s r ≡ records x → rawOf (encode x) ≡ some (rawsOf x)
+resolved-reads-back = back.resolved-reads-back
 
 -- An extension part that is reached gets ExtensionNotFound exactly when none of 01's scopes at its candidate paths declares that name.
 module _ (s r scope : List ℕ) (m : Message) (p : Part) (x : p .extension ≡ true) where
@@ -138,15 +203,31 @@ pub behind-unread : (L : Lookups) (s r scope : List ℕ) (m : Message) (front : 
 behind-unread = theorems.options-behind
 
 -- ==== Demand 2, reading back: what option bytes hold is Encoding's and 01's
--- `L` are look-ups, any, as `walking s` is; `recordsOf L s type bs` is what 01 says that the option bytes bs hold under an options type:
--- `list` writes the rows of it, and `query` follows a name through it. First the bytes of records, rs:
+-- `L` are look-ups, any, as `walking s` is. `recordsOf L s type bs` is what 01 says that the option bytes hold under an options type:
+-- `list` writes the rows of it, and `query` follows a name through it.
+pub list-reads : (s type bs ws : List ℕ) → listing s type bs ≡ give ws
+    → (m : Message) × (t : Tree) × (recordsOf (walking s) s type bs ≡ under m t) × (ws ≡ wordsOf (rows 0 t))
+list-reads = calls.list-reads
+
+-- What a request writes is listed under the same sheet and options type, where the sheet declares each number of a message once, as exactly
+-- the records that were written: in order, with their levels, numbers, types, values and payloads.
+module _ (s r : List ℕ) (octets : Bytes s) (octets′ : Bytes r) (x : Recs) (e : resolving s r ≡ records x)
+    (single : Once (walking s) s) where
+  pub resolved-listed : ListedBack s (text r (requestOf r .optionsType)) x
+  resolved-listed = back.resolved-listed s r octets octets′ x e single
+
+  -- For the sheet types them: the declaration that a step found by its name is the one that its number leads to.
+  pub resolved-typed : TypedAt (walking s) s (text r (requestOf r .optionsType)) x
+  resolved-typed = back.resolved-typed s r octets octets′ x e single
+
+-- The bytes of any records, rs:
 module _ {rs : Recs} (p : Proper rs) (small : length (encode rs) < 2 ^ 64) where
   module _ (L : Lookups) (s : List ℕ) where
     -- Under any sheet that does not contradict them they are read, never refused, as that sheet sees these records: what it does not
     -- declare is unknown and not entered.
     pub any-sheet : (m : Message) (place d : ℕ) → Readable L s m rs → nested rs < d
         → reading L s d m place (encode rs) ≡ listed (seen L s m rs place)
-    any-sheet m place d y k = records.reading-of-records L s p m place d y small k
+    any-sheet m place d y k = rereads.reading-of-records L s p m place d y small k
 
     -- So it is under an options type, of every call.
     pub any-type : (type : List ℕ) (x : LookupScope) → L .message type ≡ Found x → Readable L s (record { name = type; place = x }) rs
@@ -169,54 +250,92 @@ module _ {rs : Recs} (p : Proper rs) (small : length (encode rs) < 2 ^ 64) where
       → reading L s d m 0 (encode rs) ≡ listed (seen L s m rs 0)
   older-bytes L s L′ s′ Same keeps m m′ one y d k = older.older-bytes L s L′ s′ Same keeps p m m′ one y 0 d small k
 
--- Then any option bytes that are read.
+-- Any option bytes that are read:
 module _ (L : Lookups) (s type bs : List ℕ) (m : Message) (t : Tree) (read : recordsOf L s type bs ≡ under m t) where
+  -- By Encoding alone they are the records at the outermost level, in order, with their numbers, wire types and payloads; and so is the
+  -- payload of each known message what it holds.
+  pub records-encoded : Encoded bs bs t
+  records-encoded = encoded.reading-encoded bs L s mostLevels m t (under-reading L s type bs m t read)
+
   -- The records lie inside the bytes, one behind the other, what a message holds inside its payload, and each value is what its payload
   -- says;
   pub records-lie : Lying bs 0 (length bs) t
   records-lie = lying.reading-lies bs L s mostLevels m t (under-reading L s type bs m t read)
 
-  -- so each row lies inside the bytes, and its value is what its payload says,
+  -- so each row lies inside the bytes, and its value is what its payload says.
   pub row-lies : {r : Row} → Among r (rows 0 t) → RecordLies bs 0 (length bs) (r .entry)
   row-lies = lying.rows-lie bs 0 0 (length bs) t records-lie
 
-  -- and the rows are in the order of the bytes.
-  pub rows-ordered : Ordered (λ x y. x .entry .place ≤ y .entry .place) (rows 0 t)
-  rows-ordered = lying.rows-ordered bs 0 0 (length bs) t records-lie
+  -- Asked for the place and length of a row, `payload` hands back the bytes there, and 0.
+  pub row-payload : {r : Row} → length bs ≤ mostOptionBytes → Among r (rows 0 t)
+      → (payloadSpan bs (r .entry .place) (r .entry .size) ≡ span (r .entry .place) (r .entry .place + r .entry .size))
+      × (payloadAnswer bs (r .entry .place) (r .entry .size) ≡ doneWith (r .entry .size))
+  row-payload {r} few k = payload-inside bs (r .entry .place) (r .entry .size) few (row-lies k .inside)
 
   -- A record is known exactly if its number is declared at its message, by that declaration and its type; known messages, and they alone,
   -- are entered, each at the message that its type path names.
   pub records-known : Knows L s m t
   records-known = knows.reading-knows L s mostLevels m 0 bs t (under-reading L s type bs m t read)
 
--- The query reaches exactly the row that 01 follows: at each part the last record that the part's declaration lists.
-pub reached-follows : (ds : List Declaration) (l : ℕ) (t : Tree) (x : Row) → query.reached query.never l ds t ≡ some x → Follows l ds t x
+  -- The rows are in the order of the bytes;
+  pub rows-ordered : Ordered (λ x y. x .entry .place ≤ y .entry .place) (rows 0 t)
+  rows-ordered = lying.rows-ordered bs 0 0 (length bs) t records-lie
+
+  -- what is inside a known message stands directly behind its row and begins one level deeper, then comes what lies behind it, no deeper.
+  pub rows-stand : Stand (rows 0 t)
+  rows-stand = standing.rows-stand bs L s 0 0 (length bs) m t records-lie records-known
+
+-- A number is declared at a message exactly if a field of the message, or an extension of it, has it.
+module _ (s : List ℕ) (m : Message) (n : ℕ) where
+  pub declared-only : (d : Declaration) → declared s m n ≡ some d → DeclaredAt s m d × (d .shape .number ≡ n)
+  declared-only = once.declared-only s m n
+
+  pub declared-none : declared s m n ≡ none → (d : Declaration) → DeclaredAt s m d → d .shape .number ≡ n → ⊥
+  declared-none = once.declared-none s m n
+
+-- ==== Demand 2, the value query
+module _ (s type q bs : List ℕ) where
+  -- Its answer is one of the rows that `list` writes of the same bytes.
+  pub query-own : (ws : List ℕ) → query s type q bs ≡ give ws → OwnRow s type bs ws
+  query-own = calls.query-own s type bs q
+
+  -- What follows holds of it, its look-ups being those that walk over the sheet, and no records being joined: where its inputs are fine, so
+  -- where it gives words or Absent.
+  pub query-fine : judgeInputs (judgeSheet s) type q bs ≡ Fine → query s type q bs ≡ queryOf never (walking s) s type q bs
+  query-fine = calls.query-fine s type bs q
+
+  pub query-of : (ws : List ℕ) → query s type q bs ≡ give ws → queryOf never (walking s) s type q bs ≡ give ws
+  query-of = calls.query-of s type bs q
+
+  pub query-of-none : query s type q bs ≡ nothing → queryOf never (walking s) s type q bs ≡ nothing
+  query-of-none = calls.query-of-none s type bs q
+
+-- It reaches exactly the row that 01 follows: at each part the last record that the part's declaration lists.
+pub reached-follows : (ds : List Declaration) (l : ℕ) (t : Tree) (x : Row) → reached never l ds t ≡ some x → Follows l ds t x
 reached-follows = follows.reached-follows
 
-pub follows-reached : {l : ℕ} {ds : List Declaration} {t : Tree} {x : Row} → Follows l ds t x
-    → query.reached query.never l ds t ≡ some x
+pub follows-reached : {l : ℕ} {ds : List Declaration} {t : Tree} {x : Row} → Follows l ds t x → reached never l ds t ≡ some x
 follows-reached = follows.follows-reached
 
 -- Whatever is joined:
 module _ (joins : Declaration → Bool) (L : Lookups) (s type q bs : List ℕ) where
   -- it answers the words of the row that the name leads to,
-  pub query-answers : (ws : List ℕ) → query.queryOf joins L s type q bs ≡ give ws
-      → (x : Row) × Leads joins L s type q bs x × (ws ≡ words x)
-  query-answers = queries.query-answers joins L s type q bs
+  pub query-answers : (ws : List ℕ) → queryOf joins L s type q bs ≡ give ws → (x : Row) × Leads joins L s type q bs x × (ws ≡ words x)
+  query-answers = answers.query-answers joins L s type q bs
 
-  pub query-given : (x : Row) → Leads joins L s type q bs x → query.queryOf joins L s type q bs ≡ give (words x)
-  query-given = queries.leads-query joins L s type q bs
+  pub query-given : (x : Row) → Leads joins L s type q bs x → queryOf joins L s type q bs ≡ give (words x)
+  query-given = answers.leads-query joins L s type q bs
 
   -- which is a row of the listing of the same bytes,
   pub query-listed : (x : Row) (y : Leads joins L s type q bs x) → Among x (rows 0 (y .tree))
-  query-listed = queries.leads-listed joins L s type q bs
+  query-listed = answers.leads-listed joins L s type q bs
 
   -- and Absent exactly where there is none or parts are left on a group.
-  pub query-absent : query.queryOf joins L s type q bs ≡ nothing → Lacks joins L s type q bs
-  query-absent = queries.query-absent joins L s type q bs
+  pub query-absent : queryOf joins L s type q bs ≡ nothing → Lacks joins L s type q bs
+  query-absent = answers.query-absent joins L s type q bs
 
-  pub query-lacks : Lacks joins L s type q bs → query.queryOf joins L s type q bs ≡ nothing
-  query-lacks = queries.lacks-query joins L s type q bs
+  pub query-lacks : Lacks joins L s type q bs → queryOf joins L s type q bs ≡ nothing
+  query-lacks = answers.lacks-query joins L s type q bs
 
 -- ==== For demand 3
 -- A request writes at most 65,536 bytes,

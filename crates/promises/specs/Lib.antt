@@ -1,1 +1,2 @@
 pub mod Levels
+pub mod Back

@@ -1,6 +1,7 @@
--- Closed cases, which the checker computes: records that one sheet types, as that sheet, an older and a still older one see them.
+-- Closed cases, which the checker computes: records that one sheet types, as that sheet, an older and a still older one see them. Bytes and
+-- words are those of compare/options_reader.py, a second implementation of 01.
 -- Assumes nothing.
-use Rattle.basis.specs.Kit.{_≡_, refl, true, List, [], _∷_, _++_, map, Option, none, some, ℕ, _-_, _^_, length}
+use Rattle.basis.specs.Kit.{_≡_, refl, sym, ap, _∙_, true, List, [], _∷_, _++_, map, Option, none, some, ℕ, _-_, _^_, _≤_, length}
 use Rattle.basis.proofs.Kit.{arith}
 use mathlib.Core.Logic.{inl, inr}
 use Rattle.octets.specs.Octets.{bigAt, sameBytes}
@@ -20,18 +21,23 @@ use Rattle.sheet.specs.Table.{fileTag, messageTag, fieldTag, packageTag, number
 use Rattle.sheet.specs.Declaration.{hasTypePath, typePathAt, shapeAt, extensionAt, messageFieldAt, valueAt}
 use Rattle.sheet.specs.Tree.{valueIn, itemIn, itemsIn, fileIn, treeOf}
 use Rattle.sheet.specs.declared.declaration.Declaration.{Declaration}
+use Rattle.sheet.specs.declared.declaration.Declared.the-variants.{NoDeclaration}
 use Rattle.scope.specs.declared.lookup.LookupScope.{LookupScope}
 use Rattle.scope.proofs.Sample.{aField, ofName, nameM}
 use Rattle.numbers.specs.Number.{declarationOf}
 use Rattle.fullname.specs.declared.LookedUp.the-variants.{Message as Found}
 use Rattle.lookups.specs.Lookups.{Lookups, Message, walking}
 use Rattle.records.specs.Records.{Recs, nil, number, bytes, message, payload, headOf, encode}
+use Rattle.records.specs.Raw.{Raw}
+use Rattle.entries.specs.declared.Row.{Row}
 use Rattle.entries.specs.Tree.{rows, words}
 use Rattle.entries.specs.Item.{declared, item}
 use Rattle.entries.specs.Reading.{Listed, listed, refused, recordsFrom, reading}
 use Rattle.readback.specs.Seen.{seen, nested}
 use Rattle.payloads.specs.Value.{Fits}
 use Rattle.readback.specs.Typed.{DeclaredAs, Typed, Content, contents}
+use Rattle.readback.specs.Encoded.{raws}
+use Rattle.readback.specs.Rows.{First, Stand}
 
 -- ---- a message M with fields of four types, with two of them, and with one; the look-ups find M under every path
 abbrev typed : (number typ : ℕ) → List ℕ
@@ -153,6 +159,36 @@ newer-types = (
     ),
   ),
 )
+
+-- ---- what the bytes are by Encoding: seven records by the newer sheet, of which four are at the outermost level, with their payloads
+written : encode rs
+    ≡ 8 ∷ 3 ∷ 26 ∷ 2 ∷ 104 ∷ 105 ∷ 18 ∷ 9 ∷ 8 ∷ 2 ∷ 18 ∷ 0 ∷ 37 ∷ 7 ∷ 0 ∷ 0 ∷ 0 ∷ 37 ∷ 8 ∷ 0 ∷ 0 ∷ 0 ∷ []
+unfolding encode headOf payload varint varintWithin littleOf zigzagOf wireOf low32Of
+written = refl
+
+abbrev is : (number wire : ℕ) → List ℕ → Raw
+is n w bs = record { number = n; wire = w; payload = bs }
+
+outermost : raws (encode rs) (seen (knowing newer) newer (m newer) rs 0)
+    ≡ is 1 0 (3 ∷ []) ∷ is 3 2 (ascii "hi") ∷ is 2 2 (8 ∷ 2 ∷ 18 ∷ 0 ∷ 37 ∷ 7 ∷ 0 ∷ 0 ∷ 0 ∷ []) ∷ is 4 5 (8 ∷ 0 ∷ 0 ∷ 0 ∷ []) ∷ []
+unfolding encode headOf payload varint varintWithin littleOf zigzagOf wireOf low32Of declarationOf sameBytes treeOf fileIn itemsIn itemIn
+    valueIn extensionAt messageFieldAt valueAt shapeAt typePathAt hasTypePath walkBy leafAt fieldAt bigAt
+outermost = refl
+
+-- ---- rows that do not stand as those of a listing: a row a level deeper behind one that is no message
+abbrev at : (level typ place size : ℕ) → Row
+at l t p k =
+    record { level = l; entry = record { number = 1; typ = t; wire = 2; place = p; size = k; value = 0; by = NoDeclaration } }
+
+head-of : (P : Row → Type 0) (x : Row) (xs ys : List Row) → xs ≡ [] → x ∷ [] ≡ xs ++ ys → First P ys → P x
+head-of P x xs ys e q f = let same : ys ≡ x ∷ [] = sym (ap (λ zs. zs ++ ys) e) ∙ sym q in rw same at f
+
+string-entered : Stand (at 0 TYPE_STRING 2 9 ∷ at 1 TYPE_SINT32 3 1 ∷ []) → ⊥
+string-entered s =
+    let e = s .0 in
+    let empty : e .inside ≡ [] = e .entered λ h. omega arith in
+    let shallow : 1 ≤ 0 = head-of (λ y. y .level ≤ 0) (at 1 TYPE_SINT32 3 1) (e .inside) (e .rest) empty (e .is) (e .out)
+    in omega arith
 
 -- ---- levels: an empty message asks for one more
 abbrev reads : ℕ → Recs → Listed

@@ -7,8 +7,8 @@ use Rattle.entries.specs.declared.Entry.{Entry}
 use Rattle.entries.specs.declared.Row.{Row}
 use Rattle.entries.specs.Tree.{Tree, end, one, held, row}
 use Rattle.entries.proofs.Either.{either}
-use Rattle.query.specs.Query.{isBy, listedBy, insideAfter, lastAfter, lastRow, reached}
-use Rattle.query.specs.Query as query
+use Rattle.following.specs.Reached.{isBy, listedBy, insideAfter, lastAfter, lastRow, reached}
+use Rattle.following.specs.Reached as following
 use Rattle.readback.specs.Follows.{None, Last, last-one, last-held, behind-one, behind-held}
 use Rattle.readback.specs.Follows.{Follows, follows-last, follows-inside}
 
@@ -58,20 +58,20 @@ module _ (d : Declaration) where
       go false h (nowhere n) = nowhere (h, n)
 
 -- nothing is reached where nothing stands
-reached-end : (l : ℕ) (ds : List Declaration) → reached query.never l ds end ≡ none
+reached-end : (l : ℕ) (ds : List Declaration) → reached following.never l ds end ≡ none
 reached-end l [] = refl
 reached-end l (d ∷ []) = refl
 reached-end l (d ∷ f ∷ ds) = reached-end (suc l) (f ∷ ds)
 
 -- ==== the statements
 -- A query reaches the row that 01 follows,
-pub follows-reached : {l : ℕ} {ds : List Declaration} {t : Tree} {x : Row} → Follows l ds t x → reached query.never l ds t ≡ some x
+pub follows-reached : {l : ℕ} {ds : List Declaration} {t : Tree} {x : Row} → Follows l ds t x → reached following.never l ds t ≡ some x
 follows-reached (follows-last {l} {d} {t} {i} {e} k) = last-row d none l k
 follows-reached (follows-inside {l} {d} {f} {ds} {t} {i} {e} {x} k more) =
     rw (last-inside d end k) (follows-reached more)
 
 -- and no other; where it reaches none, there is none.
-pub reached-follows : (ds : List Declaration) (l : ℕ) (t : Tree) (x : Row) → reached query.never l ds t ≡ some x → Follows l ds t x
+pub reached-follows : (ds : List Declaration) (l : ℕ) (t : Tree) (x : Row) → reached following.never l ds t ≡ some x → Follows l ds t x
 reached-follows [] l t x q = never cc
 reached-follows (d ∷ []) l t x q = go (sought d t)
   where
@@ -80,9 +80,9 @@ reached-follows (d ∷ []) l t x q = go (sought d t)
     go (nowhere n) = never (cc (ap (lastRow l) (none-listed d t n)))
 reached-follows (d ∷ f ∷ ds) l t x q = go (sought d t) (reached-follows (f ∷ ds) (suc l))
   where
-    go : Sought d t → ((i : Tree) (x : Row) → reached query.never (suc l) (f ∷ ds) i ≡ some x → Follows (suc l) (f ∷ ds) i x)
+    go : Sought d t → ((i : Tree) (x : Row) → reached following.never (suc l) (f ∷ ds) i ≡ some x → Follows (suc l) (f ∷ ds) i x)
         → Follows l (d ∷ f ∷ ds) t x
     go (found {e} {i} k) more = follows-inside k (more i x (rw (last-inside d end k) at q))
     go (nowhere n) more =
-        let here = ap (λ u. reached query.never (suc l) (f ∷ ds) (insideAfter end u)) (none-listed d t n) in
+        let here = ap (λ u. reached following.never (suc l) (f ∷ ds) (insideAfter end u)) (none-listed d t n) in
         never (cc (here, reached-end (suc l) (f ∷ ds)))

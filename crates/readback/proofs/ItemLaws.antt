@@ -22,9 +22,10 @@ use Rattle.lookups.specs.Lookups.{Lookups, Message}
 use Rattle.entries.specs.Item.{Item, some, into, wrong, declared, entered, unknown, entry, plain, otherWire, byDeclaration, byTag, item}
 use Rattle.readback.specs.Seen.{pathOf, reachedBy}
 
--- a tag of n bytes and a payload behind it
+-- a good tag of n bytes and a payload behind it
 pub record Fronted (xs : List ℕ) (t n : ℕ) (x : Extent) : Type 0 where
   pub tag : readVarint xs ≡ Varint t n
+  pub good : tagGood t ≡ true
   pub found : payloadAt (wireTypeOf t) (drop n xs) ≡ is x
 
 pub fronted-inside : (xs : List ℕ) (t n : ℕ) (x : Extent) → Fronted xs t n x → n + x .before + x .size ≤ length xs
@@ -42,14 +43,14 @@ module _ (L : Lookups) (s : List ℕ) (m : Message) (place : ℕ) (xs : List ℕ
         → wireOf (d .shape .typ) ≡ wireTypeOf t → d .shape .typ ≡ TYPE_MESSAGE → L .message (pathOf s d) ≡ Found p
         → Made (into (entry L s m place xs d t n x) (reachedBy s d p) (n + x .before) (x .size))
 
-  module _ (t n : ℕ) (tag : readVarint xs ≡ Varint t n) where
+  module _ (t n : ℕ) (tag : readVarint xs ≡ Varint t n) (good : tagGood t ≡ true) where
     abbrev extent : Option Extent
     extent = payloadAt (wireTypeOf t) (drop n xs)
 
     unknown-made : declared s m (numberOf t) ≡ none → (o : Option Extent) → payloadAt (wireTypeOf t) (drop n xs) ≡ o
         → Made (unknown L s m place xs t n o)
     unknown-made q none e = made-wrong
-    unknown-made q (is x) e = made-unknown (record { tag = tag; found = e }) q
+    unknown-made q (is x) e = made-unknown (record { tag = tag; good = good; found = e }) q
 
     module _ (d : Declaration) (q : declared s m (numberOf t) ≡ is d) (w : wireOf (d .shape .typ) ≡ wireTypeOf t) where
       message-made : d .shape .typ ≡ TYPE_MESSAGE → (x : Extent) → Fronted xs t n x → (u : LookedUp) → L .message (pathOf s d) ≡ u
@@ -66,7 +67,7 @@ module _ (L : Lookups) (s : List ℕ) (m : Message) (place : ℕ) (xs : List ℕ
 
       plain-made : (o : Option Extent) → payloadAt (wireTypeOf t) (drop n xs) ≡ o → Made (plain L s m place xs d t n o)
       plain-made none e = made-wrong
-      plain-made (is x) e = extent-made x (record { tag = tag; found = e }) (eqb (d .shape .typ) TYPE_MESSAGE) refl
+      plain-made (is x) e = extent-made x (record { tag = tag; good = good; found = e }) (eqb (d .shape .typ) TYPE_MESSAGE) refl
 
     known-made : (d : Declaration) → declared s m (numberOf t) ≡ is d → (b : Bool) → eqb (wireOf (d .shape .typ)) (wireTypeOf t) ≡ b
         → Made (elim b [ true ↦ plain L s m place xs d t n extent | false ↦ otherWire L s m place xs d t n extent ])
@@ -77,16 +78,16 @@ module _ (L : Lookups) (s : List ℕ) (m : Message) (place : ℕ) (xs : List ℕ
     declared-made none q = unknown-made q extent refl
     declared-made (is d) q = known-made d q (eqb (wireOf (d .shape .typ)) (wireTypeOf t)) refl
 
-    good-made : (b : Bool) → Made (elim b [
-      | true ↦ byDeclaration L s m place xs (declared s m (numberOf t)) t n extent
-      | false ↦ wrong BadBytes
-    ])
-    good-made true = declared-made (declared s m (numberOf t)) refl
-    good-made false = made-wrong
+  good-made : (t n : ℕ) → readVarint xs ≡ Varint t n → (b : Bool) → tagGood t ≡ b → Made (elim b [
+    | true ↦ byDeclaration L s m place xs (declared s m (numberOf t)) t n (payloadAt (wireTypeOf t) (drop n xs))
+    | false ↦ wrong BadBytes
+  ])
+  good-made t n e true g = declared-made t n e g (declared s m (numberOf t)) refl
+  good-made t n e false g = made-wrong
 
   tag-made : (r : Read) → readVarint xs ≡ r → Made (byTag L s m place xs r)
   tag-made Bad e = made-wrong
-  tag-made (Varint t n) e = good-made t n e (tagGood t)
+  tag-made (Varint t n) e = good-made t n e (tagGood t) refl
 
   pub item-made : Made (item L s m place xs)
   unfolding item

@@ -8,8 +8,12 @@ pub mod UnderLaws
 pub mod ReadingSteps
 pub mod ItemLaws
 pub mod LyingLaws
+pub mod EncodedLaws
+pub mod PartLaws
 pub mod KnowsLaws
+pub mod RowsLaws
+pub mod OnceLaws
 pub mod FollowsLaws
 pub mod QueryLaws
+pub mod CallLaws
 pub mod Controls
-pub mod Main

@@ -25,13 +25,13 @@ use Rattle.readback.proofs.ItemLaws.{fronted-inside, Made, made-wrong, 
 
 -- ---- the bytes xs stand at a place of bs
 module _ (bs : List ℕ) (place : ℕ) (xs rest : List ℕ) (h : drop place bs ≡ xs ++ rest) where
-  behind : (k : ℕ) → k ≤ length xs → drop (place + k) bs ≡ drop k xs ++ rest
+  pub behind : (k : ℕ) → k ≤ length xs → drop (place + k) bs ≡ drop k xs ++ rest
   behind k l = sym (drop-drop k place bs) ∙ ap (drop k) h ∙ drop-append-le k xs rest l
 
-  inside : (k size : ℕ) → k ≤ length xs → drop (place + k) bs ≡ take size (drop k xs) ++ (drop size (drop k xs) ++ rest)
+  pub inside : (k size : ℕ) → k ≤ length xs → drop (place + k) bs ≡ take size (drop k xs) ++ (drop size (drop k xs) ++ rest)
   inside k size l = behind k l ∙ rw (← append-assoc, take-append-drop)
 
-  part-is : (k size : ℕ) → k + size ≤ length xs → part bs (place + k) (place + k + size) ≡ take size (drop k xs)
+  pub part-is : (k size : ℕ) → k + size ≤ length xs → part bs (place + k) (place + k + size) ≡ take size (drop k xs)
   part-is k size l =
       let count : length (take size (drop k xs)) ≡ size = length-take-le size (drop k xs) (rw length-drop (omega arith)) in
       rw count at (part-at bs (place + k) (take size (drop k xs)) (drop size (drop k xs) ++ rest) (inside k size (omega arith)))

@@ -14,9 +14,9 @@ use Rattle.entries.specs.Reading.{Under, under, refusedBy, recordsOf}
 use Rattle.entries.proofs.Either.{either}
 use Rattle.reply.specs.Outcome.{nothing, give}
 use Rattle.lookups.specs.Lookups.{Lookups, Message}
+use Rattle.following.specs.Reached.{isBy, listedBy, insideAfter, lastInside, joined, lastAfter, inside, reached}
 use Rattle.query.specs.Name.{Named, names, group, refusedAt}
-use Rattle.query.specs.Query.{isBy, listedBy, insideAfter, lastInside, joined, lastAfter, inside, reached, answered, onNamed, onRecords}
-use Rattle.query.specs.Query.{queryOf}
+use Rattle.query.specs.Query.{answered, onNamed, onRecords, queryOf}
 use Rattle.readback.specs.Follows.{partsNamed, Leads, Lacks, on-group, no-record}
 
 -- ---- rows of parts of a tree
@@ -92,7 +92,7 @@ module _ (joins : Declaration → Bool) (L : Lookups) (s type q bs : List ℕ) w
 
   module _ {m : Message} {t : Tree} (read : recordsOf L s type bs ≡ under m t) where
     reached-answers : (ws : List ℕ) (ds : List Declaration) → partsNamed L s q m ≡ names ds → (o : Option Row) → reached joins 0 ds t ≡ o
-        → answered joins o ≡ give ws → Answers ws
+        → answered o ≡ give ws → Answers ws
     reached-answers ws ds g none f e = never cc
     reached-answers ws ds g (some x) f e =
         let same : ws ≡ words x = cc in
@@ -104,7 +104,7 @@ module _ (joins : Declaration → Bool) (L : Lookups) (s type q bs : List ℕ) w
     named-answers ws (refusedAt i w) g e = never cc
 
     reached-lacks : (ds : List Declaration) → partsNamed L s q m ≡ names ds → (o : Option Row) → reached joins 0 ds t ≡ o
-        → answered joins o ≡ nothing → Lacks joins L s type q bs
+        → answered o ≡ nothing → Lacks joins L s type q bs
     reached-lacks ds g none f e = no-record read g f
     reached-lacks ds g (some x) f e = never cc
 

@@ -8,19 +8,23 @@
 --   Leads joins L s t q bs x <-> the option bytes are read under the options type t, the parts of the name q have declarations, and these
 --                                lead to the row x
 --     Lacks joins L s t q bs <-> the option bytes are read, and the parts of the name lead to no row, or are left on a group
+--           OwnRow s t bs ws <-> the words ws are those of a row that `list` writes of the same bytes
 --
 -- Assumes nothing.
 use Rattle.basis.specs.Kit.{_≡_, Bool, true, false, List, [], _∷_, none, some, ℕ, suc, length}
+use Rattle.basis.specs.Among.{Among}
+use Rattle.reply.specs.Outcome.{give}
 use Rattle.field.specs.Walk.{walk}
 use Rattle.request.specs.Name.{partsIn}
 use Rattle.sheet.specs.declared.declaration.Declaration.{Declaration}
 use Rattle.lookups.specs.Lookups.{Lookups, Message}
 use Rattle.entries.specs.declared.Entry.{Entry}
 use Rattle.entries.specs.declared.Row.{Row}
-use Rattle.entries.specs.Tree.{Tree, end, one, held, row}
+use Rattle.entries.specs.Tree.{Tree, end, one, held, row, words, wordsOf}
 use Rattle.entries.specs.Reading.{under, recordsOf}
+use Rattle.listing.specs.Listing.{listing}
+use Rattle.following.specs.Reached.{isBy, reached}
 use Rattle.query.specs.Name.{Named, names, group, declarations}
-use Rattle.query.specs.Query.{isBy, reached}
 
 abbrev pub None : Declaration → Tree → Type 0
 None d end = Unit {0}
@@ -55,3 +59,11 @@ module _ (joins : Declaration → Bool) (L : Lookups) (s type q bs : List ℕ) w
     on-group : {m : Message} {t : Tree} → recordsOf L s type bs ≡ under m t → partsNamed L s q m ≡ group → Lacks
     no-record : {m : Message} {t : Tree} {ds : List Declaration} → recordsOf L s type bs ≡ under m t → partsNamed L s q m ≡ names ds
         → reached joins 0 ds t ≡ none → Lacks
+
+-- 01, Listing: "It answers that record's eight words" [QUERY-6]
+pub record OwnRow (s type bs ws : List ℕ) : Type 0 where
+  pub rows : List Row
+  pub listed : listing s type bs ≡ give (wordsOf rows)
+  pub own : Row
+  pub among : Among own rows
+  pub is : ws ≡ words own

@@ -2,5 +2,8 @@ pub mod Seen
 pub mod Typed
 pub mod Older
 pub mod Lying
+pub mod Encoded
 pub mod Knows
+pub mod Rows
+pub mod Once
 pub mod Follows

@@ -17,7 +17,7 @@ use Rattle.entries.specs.Item.{declared}
 use Rattle.readback.specs.Seen.{pathOf, reachedBy, Names}
 
 module _ (L : Lookups) (s : List ℕ) (L′ : Lookups) (s′ : List ℕ) (Same : Message → Message → Type 0) where
-  -- 01, "Contained: .. each number declared for a message there has the same name, type and type path"
+  -- 01, "Contained: .. each number declared for a message there has the same name, type and type path" [CONTAIN-1]
   pub record Kept (d d′ : Declaration) : Type 0 where
     pub typ : d .shape .typ ≡ d′ .shape .typ
     pub path : d′ .shape .typ ≡ TYPE_MESSAGE → (p : LookupScope) → L′ .message (pathOf s′ d′) ≡ Found p
