@@ -3,14 +3,13 @@
 
 usage: listing.py [ROUNDS] [--program PROGRAM]
        listing.py most [--program PROGRAM]
-       listing.py input
 
 The sheet is that of resolve.py, 200 extensions of eight types. Listed are 64 KB of option bytes, of which each record has the number of
 one of these extensions, now and then of a field of the options type or of nothing: flat, with scalars and strings alone; nested, where
 each is a message of one to 31 levels; and shallow, scalars of an options type whose six fields are all that the sheet has, so that a
-look-up of a number is short. PROGRAM is listbench as `rt check` builds it for x86-64, target/bin/listbench if none is given; on another
+look-up of a number is short. PROGRAM is bench as `rt check` builds it for x86-64, target/bin/bench if none is given; on another
 machine it has to be one that was compiled for that (docs/SPEED.md); `none` leaves it out. listing.rs is built here by rustc at level 3, as
-listbench is by its compiler. Both read the same input and have to print the same line.
+bench is by its compiler. Both read the same input and have to print the same line.
 
 Time is processor time, the least of ROUNDS runs of each program, taken in turn, less that of a run that lists nothing; where valgrind is
 there, instructions are counted as well. What the look-ups of numbers take: in Rust what a listing takes less where they are kept in a
@@ -18,8 +17,7 @@ table; in PROGRAM the functions that only they call, by callgrind, which leaves 
 the root of the repository.
 
 `most` measures listings that are made to cost much, once: as many records as 64 KB hold, of a number that a full sheet does not declare,
-and of one that its last extension declares, an empty message whose type stands behind all else. `input` prints a small input of the same
-kind for the stored test of listbench, of 300 option bytes that are nested, twice; its stored output is what listing.rs prints for it.
+and of one that its last extension declares, an empty message whose type stands behind all else.
 """
 import argparse
 import os
@@ -29,7 +27,6 @@ import resource
 import shutil
 import struct
 import subprocess
-import sys
 import tempfile
 
 import resolve
@@ -248,22 +245,10 @@ def built(folder, *flags):
     return rust
 
 
-def stored():
-    """The nested listing, of few bytes."""
-    global SIZE
-    SIZE = 300
-    _, data, kind, payload = next(x for x in workloads() if x[0] == "nested")
-    return text_of(data, 2, kind, payload).decode()
-
-
 def main():
-    if sys.argv[1:] == ["input"]:
-        text = stored()
-        print("\n".join(text[i : i + 120] for i in range(0, len(text), 120)))
-        return
     parser = argparse.ArgumentParser()
     parser.add_argument("what", nargs="?", default="20")
-    parser.add_argument("--program", default="target/bin/listbench")
+    parser.add_argument("--program", default="target/bin/bench")
     args = parser.parse_args()
     with tempfile.TemporaryDirectory() as folder:
         names = {built(folder): "Rust"}

@@ -1,5 +1,5 @@
 // The listing in Rust: the same walk over the same bytes as the Rattle code, in two passes, in its order and by its names, with nothing
-// allocated. Reads the same input as the program listbench and prints the same line. The sheet is walked as in search.rs, the
+// allocated. Reads the same input as the program bench and prints the same line. The sheet is walked as in search.rs, the
 // number of each record is looked up in it anew. With `--cfg memo` the look-ups of numbers are kept in a table, to see what they cost.
 #[allow(dead_code)]
 #[path = "search.rs"]
@@ -307,7 +307,7 @@ fn main() {
         sum = mixed(sum, reply);
         length = listed.unwrap_or(0);
     }
-    // the words are added once, as listbench does
+    // the words are added once, as bench does
     sum = out[..length].iter().fold(sum, |sum, word| mixed(sum, *word));
     println!("done {} answered {} sum {}", times, answered, sum);
 }

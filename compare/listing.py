@@ -7,11 +7,11 @@ Run it from the root of the repository. options_reader.py is the second implemen
 not, with numbers declared twice or malformed; options types that are found, missing or there twice; option bytes that fit, with overlong
 varints, with misfits, damaged; names for the query. OPTLIST and OPTQUERY are the two programs, target/bin/optlist and target/bin/optquery
 if none is given; `none` leaves one out, and the output says so. Their answers and the second implementation's have to be equal in every
-line; lines for people, which begin with two blanks, are passed over.
+line; the lines for people, which begin with two blanks, are those of people.py.
 
 A difference is printed with its input, made smaller as far as leaving out fields and bytes does it; the exit code is then 1. The tables
-say how many cases came by each step, so that one that never occurs is seen. Option bytes of 65,536 bytes and more cannot be written as one
-field of a program's input.
+say how many cases came by each step, so that one that never occurs is seen, and the line "never taken" names it. Option bytes of 65,536
+bytes and more cannot be written as one field of a program's input.
 """
 import argparse
 import collections
@@ -22,6 +22,7 @@ import time
 
 import form
 import option_bytes
+import people
 import sheets
 from options_reader import NAMES, WIRE, Listing, Query, Sheet
 from resolve import cut, joined, shorter, tree
@@ -33,10 +34,22 @@ PROGRAMS = {"list": "target/bin/optlist", "query": "target/bin/optquery"}
 
 
 class Case:
-    def __init__(self, what, sheet, kind, data, name=None):
+    """A listing or, with a name, a query. A case at a figure has a label that says which."""
+
+    def __init__(self, what, sheet, kind, data, name=None, label=None):
         self.what, self.sheet, self.kind, self.data, self.name = what, sheet, kind, data, name
         self.call = "list" if name is None else "query"
         self.run = Listing(sheet, kind, data) if name is None else Query(sheet, kind, name, data)
+        self.wanted, self.seen = self.run.lines(), self.run.seen
+        if label:
+            self.seen.add(("figure", label, self.run.refused or 0))
+        if name is None and not self.run.refused:
+            names = people.names(sheet.data)
+            self.wanted += names.lines(kind, data, self.run.rows)
+            self.seen |= names.seen
+
+    def lines(self):
+        return self.wanted
 
     def fields(self):
         middle = b"" if self.name is None else f(0x46, self.name)
@@ -64,11 +77,9 @@ def drawn(total):
 
 # ---- the programs
 def groups(text):
-    """A program's lines, those of each answer together, without those for people."""
+    """A program's lines, those of each answer together."""
     told = []
     for line in text.splitlines():
-        if line.startswith("  "):
-            continue
         if line.startswith("answer ") or not told:
             told.append([])
         told[-1].append(line)
@@ -139,12 +150,12 @@ class Comparison:
         for case in cases:
             self.kinds[case.what] += 1
             self.calls[case.call] += 1
-            self.seen.update((case.call,) + step for step in case.run.seen)
+            self.seen.update((case.call,) + step for step in case.seen)
         for call, program in self.programs.items():
             mine = [case for case in cases if case.call == call]
             self.asked[call] += len(mine)
             for case, lines in zip(mine, answers(program, mine)):
-                if lines != case.run.lines():
+                if lines != case.lines():
                     self.report(program, case)
 
     def report(self, program, case):
@@ -152,9 +163,9 @@ class Comparison:
             return answers(program, [of])[0]
 
         self.differ += 1
-        case = smallest(case, lambda c: told(c) != c.run.lines())
+        case = smallest(case, lambda c: told(c) != c.lines())
         print("DIFFERS (%s, %s): %s" % (case.call, case.what, case.hex()))
-        print("  second:  %s\n  program: %s" % (cut(case.run.lines()), cut(told(case))))
+        print("  second:  %s\n  program: %s" % (cut(case.lines()), cut(told(case))))
         if self.differ >= 5:
             sys.exit(1)
 
@@ -203,6 +214,13 @@ def listing_steps():
     yield "18", [("18", what) for what in whats]
     yield "18 stands", [("18 at", what) for what in ("level 0", "further in")]
     yield "19: the type, and the wire type of the record", [("19", n, w) for n in range(1, 19) for w in (0, 1, 2, 5) if w != WIRE[n]]
+    yield "two faults in a record, the first of which counts", [("in a record", what) for what in (
+        "19 and payload", "payload and type path", "payload and level", "type path and level")]
+    inputs = ["sheet", "form of the type", "type", "bytes"]
+    yield "two inputs at fault, the first of which counts", [("order", a, b) for i, a in enumerate(inputs) for b in inputs[i + 1 :]
+                                                             if b == "form of the type" or b == "bytes"]
+    yield "figures", [("figure", label, n) for label, answers in option_bytes.FIGURES.items() for n in answers]
+    yield from people.steps()
     yield "replies", [("reply", n) for n in (0, 1, 2, 3, 7, 8, 18, 19)]
 
 
@@ -220,10 +238,17 @@ def query_steps():
     yield "answered, by type", [("answered", n) for n in range(1, 19) if n != 10]
     yield "answered at level", [("answered at level", n) for n in range(16)]
     yield "answers", [("answer", "record"), ("answer", "absent")]
+    inputs = ["sheet", "form of the type", "form of the name", "type", "bytes", "name"]
+    # the type and the name are judged by a sheet and a type that are fine
+    yield "two inputs at fault, the first of which counts", [
+        ("order", a, b) for i, a in enumerate(inputs) for b in inputs[i + 1 :] if (b != "type" or a == "form of the name") and (
+            b != "name" or a == "bytes")]
+    yield "figures", [("figure", label, n) for label, answers in option_bytes.ASKED.items() for n in answers]
     yield "replies", [("reply", n) for n in (0, 1, 2, 3, 4, 5, 6, 7, 8, 9, 18, 19)]
 
 
-TYPED = {"listed", "at level 31", "overlong value of", "low 32 bits kept of", "sign", "high bit", "payload", "19", "parts left", "answered"}
+TYPED = {"listed", "at level 31", "overlong value of", "low 32 bits kept of", "sign", "high bit", "payload", "19", "parts left", "answered",
+         "digits"}
 
 
 def word(key):

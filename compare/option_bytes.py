@@ -2,9 +2,11 @@
 options types; and names for the query, with bytes that have something along them. Everything is drawn from sheets.rnd, which the caller
 seeds.
 """
+import itertools
+
 import form
 from options_reader import GROUP_TYPE, I32, I64, LEN, MESSAGE, VARINT, WIRE, Refused, Sheet
-from sheets import Declared, Message, Plan, crossed, dotted, f, rnd, spoiled
+from sheets import VALUES, Declared, Enum, Message, Plan, crossed, dotted, f, rnd, spoiled
 
 EDGES = [0, 1, 2, 3, 127, 128, 300, 16384, 2**31 - 1, 2**31, 2**32 - 2, 2**32 - 1, 2**32, 2**32 + 1, 2**35, 2**56, 2**63 - 1, 2**63,
          2**64 - 1, 2**64 - 2, 2**64 - 2**31, 2**64 - 2**31 - 1, 2**64 - 2**32, 0xFFFFFFFF80000001, 0x1234567890ABCDEF, 0xFFFFFFFF00000000]
@@ -35,6 +37,9 @@ def tag(number, wire):
 
 def bits_for(kind):
     how = rnd.random()
+    if kind == 14 and how < 0.3:
+        # what the enums of the sheets list, by ten bytes or by the low 32 bits alone
+        return rnd.choice(VALUES) % 2 ** rnd.choice((64, 64, 32))
     if kind in (5, 14) and how < 0.35:
         return rnd.choice((2**64 - 1, 2**64 - rnd.getrandbits(31) - 1, 2**64 - 2**31, rnd.getrandbits(31), 2**31 - 1))
     if how < 0.6:
@@ -63,7 +68,8 @@ def some_text():
     if how < 0.3:
         return b""
     if how < 0.9:
-        return rnd.choice((b"a", b"order 7", b"\xff\xfe", b"\x08\x01", b"\x0a\x00", "gr\u00fcn".encode(), rnd.randbytes(rnd.randint(1, 9))))
+        return rnd.choice((b"a", b"order 7", b"\xff\xfe", b"\x08\x01", b"\x0a\x00", "gr\u00fcn".encode(), rnd.randbytes(rnd.randint(1, 9)),
+                           b"\"a\" 'b'\t\\\r\n", bytes(rnd.choice(b"\"'\\\n\r\t\0\x1f ~\x7f\x80\xff07a") for _ in range(4))))
     return bytes(rnd.choice((127, 128, 200, 300)))
 
 
@@ -380,8 +386,61 @@ def nest(levels, inside, number=19):
     return inside
 
 
-def limits():
-    """(sheet, options type, bytes, names) at each figure, one past it, and what is judged before it."""
+# the figures of "Most allowed", with the replies at each and one past it; option bytes of 65,537 cannot be written
+FIGURES = {"sheet of 32768 bytes": [0], "sheet of 32769 bytes": [3], "8 files": [0], "9 files": [3], "messages 16 deep": [0],
+           "messages 17 deep": [3], "name of 64 bytes in the sheet": [0], "name of 65 bytes in the sheet": [1], "type path of 255 bytes": [7],
+           "type path of 256 bytes": [2], "records at level 31": [0], "message at level 31": [3], "65535 option bytes": [0, 18]}
+ASKED = {"16 parts": [0, 9], "17 parts": [3], "path of 255 bytes": [4], "path of 256 bytes": [2], "name of 64 bytes": [9],
+         "name of 65 bytes": [2], "65535 option bytes": [0, 18]}
+
+
+def deep_messages(depth):
+    """So many messages one in the other, with an extension of o.F in the innermost."""
+    inside = Declared(b"y", 77, 13, 1, None, (b"o", b"F")).encoded()
+    for _ in range(depth):
+        inside = f(2, f(0x11, b"M") + inside)
+    return f(1, f(0x10, b"p") + inside)
+
+
+def figures():
+    """(label, sheet, options type, bytes, names with their labels) at each figure and one past it."""
+    sheet, v, y = self_sheet(), varint(13 * 8) + b"\7", varint(77 * 8) + b"\7"
+    asked = [("", f(0x1A, b"f13"))]
+    for size in (32768, 32769):
+        room = size - len(sheet) - len(f(1, f(0x10, b"p")))
+        many, over = divmod(room, 7)
+        filler = f(1, f(0x10, b"p") + f(2, f(0x11, b"M")) * (many - 1) + f(2, f(0x11, b"M" * (1 + over))))
+        yield "sheet of %d bytes" % size, self_sheet(filler), b"o.F", v, asked
+    for files in (8, 9):
+        yield "%d files" % files, self_sheet(f(1, f(0x10, b"q")) * (files - 1)), b"o.F", v, asked
+    for depth in (16, 17):
+        name = f(0x1B, b".p." + b"M." * depth + b"y")
+        yield "messages %d deep" % depth, self_sheet(deep_messages(depth)), b"o.F", y + v, asked + [("", name)]
+    for size in (64, 65):
+        there = Declared(b"n" * size, 77, 13, 1, None, (b"o", b"F")).encoded()
+        yield "name of %d bytes in the sheet" % size, self_sheet(f(1, f(0x10, b"p") + there)), b"o.F", y, asked
+    long = b".".join([b"a" * 63] * 4)
+    for path in (long, long + b"a"):
+        yield "type path of %d bytes" % len(path), sheet, path, v, asked
+    yield "records at level 31", sheet, b"o.F", nest(31, v), asked
+    yield "message at level 31", sheet, b"o.F", nest(32, v), asked
+    text = varint(9 * 8 + LEN) + varint(65531) + bytes(65531)
+    for data in (text, b"\x68\x01" * 32767 + b"\x68", b"\x68\x81\0" + b"\x68\x01" * 32766):
+        yield "65535 option bytes", sheet, b"o.F", data, [("65535 option bytes", f(0x1A, b"f13"))]
+    r, last = f(0x1A, b"r"), f(0x1A, b"f13")
+    names = [("16 parts", r * 15 + last), ("16 parts", r * 15 + f(0x1A, b"no")), ("17 parts", r * 16 + last), ("17 parts", r * 17)]
+    names += [("path of 255 bytes", f(0x1B, long)), ("path of 256 bytes", f(0x1B, b"." + long)), ("path of 256 bytes", f(0x1B, long + b"a"))]
+    names += [("name of %d bytes" % n, f(0x1A, b"n" * n)) for n in (64, 65)]
+    for data in (nest(15, v), b"", nest(15, v) + nest(14, v)):
+        yield "", sheet, b"o.F", data, names
+
+
+F_ENUM = Enum(b"E", [(b"NONE", 0), (b"ONE", 1), (b"UNO", 1), (b"LESS", -1), (b"MINUS", -1)])
+OTHER_ENUM = Enum(b"E", [(b"TWO", 2), (b"EINS", 1), (b"LEAST", -(2**31))])
+
+
+def edges():
+    """(sheet, options type, bytes, names): what lies at the ends of types and wire types, and what is judged before it."""
     sheet = self_sheet()
     r, x = f(0x1A, b"r"), f(0x1B, b"o.x")
     v = varint(13 * 8) + b"\7"
@@ -390,17 +449,27 @@ def limits():
     for levels in (1, 15, 16, 30, 31, 32, 33, 60):
         for inside in (b"", v, varint(999 * 8 + LEN) + b"\0", b"\x08", varint(13 * 8 + I32) + bytes(4), varint(21 * 8 + LEN) + b"\0"):
             yield sheet, b"o.F", nest(levels, inside), names[:3] + names[5:7]
+    # a message at level 31: its length overruns, its type is not there
+    for inside in (varint(19 * 8 + LEN) + b"\5", varint(21 * 8 + LEN) + b"\0", varint(21 * 8 + LEN) + b"\5", varint(21 * 8 + LEN)):
+        for levels in (0, 1, 31):
+            yield sheet, b"o.F", nest(levels, inside), []
     for inside in (b"", v, v + v, nest(1, v) + nest(1, b""), nest(1, b"") + nest(1, v), varint(11 * 8 + LEN) + b"\2" + v):
         yield sheet, b"o.F", inside, names
-    for size in (32768, 32769):
-        room = size - len(sheet) - len(f(1, f(0x10, b"p")))
-        many, over = divmod(room, 7)
-        filler = f(1, f(0x10, b"p") + f(2, f(0x11, b"M")) * (many - 1) + f(2, f(0x11, b"M" * (1 + over))))
-        yield self_sheet(filler), b"o.F", v, names[:2]
     yield bytes(32769), b"", b"", [b""]
     yield b"", b"o.F", b"", names[:1]
-    for files in (8, 9):
-        yield self_sheet(f(1, f(0x10, b"q")) * (files - 1)), b"o.F", v, names[:1]
+    for kind in range(1, 19):
+        size = {VARINT: b"\5", I64: b"\5" * 8, LEN: b"\1\5", I32: b"\5" * 4}.get(WIRE[kind])
+        if size and kind != MESSAGE:
+            yield sheet, b"o.F", nest(31, varint(kind * 8 + WIRE[kind]) + size), [r * 15 + f(0x1A, b"f%d" % kind)]
+    # two declarations of one number: what the first lists is none of the second's, wherever in a name that stands
+    again = f(1, f(0x10, b"q") + Declared(b"q", 19, 11, 1, (b"o", b"F"), (b"o", b"F")).encoded())
+    q = f(0x1B, b"q.q")
+    for levels in (0, 1, 2, 3):
+        yield self_sheet(again), b"o.F", nest(levels, v), [q, r + q, r + q + last, q + r + last, r + r + q, r + r + last]
+    # several inputs at fault
+    inputs = (sheet, b"\1"), (b"o.F", b"o..F", b"none"), (v, b"\x80"), (last, b"", f(0x1A, b"none"))
+    for of, kind, data, name in itertools.product(*inputs):
+        yield of, kind, data, [name]
     for number in (1, 15, 16, 2047, 2048, 262143, 262144, 33554431, 33554432, 536870910, 536870911, 536870912, 2**32, 2**61 - 1):
         for wire in range(8):
             yield sheet, b"o.F", varint(number * 8 + wire) + b"\1" * 8, names[6:8]
@@ -423,9 +492,6 @@ def limits():
     yield sheet, b"o.F", b"\x68\x01" * 32767 + b"\x68", [f(0x1A, b"f13")]
     for kind in (b"o", b"o.none", b"none", b"o.F.r", b"F", b".o.F", b"", b"o.F.", b"o..F", b"o.F.f1"):
         yield sheet, kind, v, names[:1] + [b""]
-    long = b".".join([b"a" * 63] * 4)
-    for kind in (long, long + b"a"):
-        yield sheet, kind, v, names[:1]
     both = f(1, f(0x10, b"") + f(2, f(0x11, b"o") + f(2, f(0x11, b"F"))))
     yield self_sheet(both), b"o.F", v, names[:1]
     yield self_sheet(f(1, f(0x10, b"o") + f(2, f(0x11, b"F")))), b"o.F", b"\0", names[:1]
@@ -438,17 +504,32 @@ def limits():
     # one message in one file, another of its name behind it: not 8
     again = f(2, f(0x11, b"F") + Declared(b"g", 30, 13).encoded())
     yield f(1, f(0x10, b"o") + f(2, f(0x11, b"F")) + again), b"o.F", varint(30 * 8) + b"\1", [f(0x1A, b"g")]
+    # an extension in it counts all the same, though no path leads there
+    again = f(2, f(0x11, b"F") + Declared(b"h", 30, 13, 1, None, (b"o", b"F")).encoded())
+    yield f(1, f(0x10, b"o") + f(2, f(0x11, b"F")) + again), b"o.F", varint(30 * 8) + b"\1", [f(0x1B, b"o.F.h")]
+    # enums of one full name: in one file the first counts, in two files none does; a message of that name is none
+    for more in ((), (F_ENUM,), (OTHER_ENUM,), (F_ENUM, OTHER_ENUM)):
+        own = Declared(b"e", 30, 14, 1, (b"o", b"E")).encoded()
+        here = f(1, f(0x10, b"o") + f(2, f(0x11, b"F") + own) + f(2, f(0x11, b"E")) + b"".join(x.encoded() for x in more))
+        for files in (here, here + f(1, f(0x10, b"o") + F_ENUM.encoded()), f(1, f(0x10, b"o") + OTHER_ENUM.encoded()) + here):
+            yield files, b"o.F", b"".join(varint(30 * 8) + varint(n % 2**64) for n in (0, 1, 2, -1, -(2**31), 5)), []
 
 
 # ---- cases
 def cases():
-    """Without end: what kind of a case it is, a sheet, its options type, option bytes, and a name or None for the listing."""
+    """Without end: what kind of a case it is, a sheet, its options type, option bytes, a name or None for the listing, and of a figure its
+    label."""
     while True:
-        for data, kind, payload, names in limits():
+        for label, data, kind, payload, names in figures():
             sheet = Sheet(data)
-            yield "figure", sheet, kind, payload, None
+            yield "figure", sheet, kind, payload, None, label
+            for its, name in names:
+                yield "figure", sheet, kind, payload, name, its
+        for data, kind, payload, names in edges():
+            sheet = Sheet(data)
+            yield "edge", sheet, kind, payload, None
             for name in names:
-                yield "figure", sheet, kind, payload, name
+                yield "edge", sheet, kind, payload, name
         for _ in range(2500):
             what = rnd.choice(WHAT)
             plan = plan_of(what)

@@ -179,7 +179,7 @@ def value_of(kind, bits):
 class Listing:
     def __init__(self, sheet, kind, data):
         self.sheet, self.kind, self.data = sheet, kind, data
-        self.seen, self.refused, self.rows, self.by = set(), None, [], []
+        self.seen, self.refused, self.rows, self.by, self.message = set(), None, [], [], None
         try:
             self.run()
         except Refused as refused:
@@ -194,23 +194,54 @@ class Listing:
             return ["answer %d" % self.refused, NAMES[self.refused]]
         return ["answer 0"] + ["record " + " ".join(map(str, row)) for row in self.rows]
 
-    def inputs(self):
-        """The forms, in the order of the call."""
+    def stages(self):
+        """What is judged, in the order of the call."""
+        return [("sheet", self.sheet_form), ("form of the type", self.type_form), ("type", self.options_type), ("bytes", self.read)]
+
+    def run(self):
+        """The stages in order, and the first fault. Those behind it are judged too, as far as they can be by themselves, only to see where
+        several are at fault: what they note is dropped."""
+        first = None
+        for what, stage in self.stages():
+            kept = set(self.seen)
+            try:
+                stage()
+            except Refused as refused:
+                if first:
+                    kept.add(("order", first[0], what))
+                else:
+                    first = what, refused.number
+                    continue
+            if first:
+                self.seen = kept
+        if first:
+            raise Refused(first[1])
+
+    def sheet_form(self):
         if self.sheet.fault:
             self.note("sheet", self.sheet.fault)
             raise Refused(self.sheet.fault)
+
+    def type_form(self):
         if not form.rel(self.kind):
             self.note("options type", 2)
             raise Refused(2)
 
-    def run(self):
-        self.inputs()
-        self.read()
-
-    def read(self):
+    def options_type(self):
         if len(self.data) > MOST_BYTES:
             raise Refused(3)
-        self.message = self.looked_up(self.kind, "options type")
+        if not self.sheet.fault and form.rel(self.kind):
+            self.message = self.looked_up(self.kind, "options type")
+
+    def read(self):
+        if self.message is None:
+            # whatever the type is
+            if self.data:
+                try:
+                    varint(self.data, 0, len(self.data), "tag")
+                except Fault:
+                    raise Refused(18) from None
+            return
         self.inside(self.message, self.kind, 0, len(self.data), 0, None)
         self.note("records", len(self.rows) if len(self.rows) < 5 else "5 and more" if len(self.rows) < 1000 else "1000 and more")
 
@@ -249,23 +280,46 @@ class Listing:
         if at - start > shortest(tag):
             self.note("overlong", "tag", at - start)
         self.note("tag bytes", at - start)
+        kind = declared.type if declared else 0
         if declared and WIRE[declared.type] != wire:
             self.note("19", declared.type, wire)
+            self.both("19 and payload", lambda: self.payload(wire, kind, at, end, level))
             raise Refused(19)
-        kind = declared.type if declared else 0
-        bits, place, after = self.payload(wire, kind, at, end, level)
+        try:
+            bits, place, after = self.payload(wire, kind, at, end, level)
+        except Refused:
+            if kind == MESSAGE:
+                self.both("payload and type path", lambda: self.sheet.message(declared.path))
+                self.both("payload and level", lambda: self.last_level(level, at, end))
+            raise
         value = value_of(kind, bits) if declared and wire != LEN else 0
         if kind == MESSAGE:
-            inner = self.looked_up(declared.path, "type path")
-            if level == LAST_LEVEL:
-                self.note("3", "level 31, empty" if place == after else "level 31")
-                raise Refused(3)
+            try:
+                inner = self.looked_up(declared.path, "type path")
+            except Refused:
+                self.both("type path and level", lambda: self.last_level(level, place, after))
+                raise
+            self.last_level(level, place, after)
         self.noted(declared, all_of_it, wire, level, bits, value, after - place)
         self.rows.append((level, number, kind, wire, place, after - place, value % 2**32, value >> 32))
         self.by.append((declared, parent))
         if kind == MESSAGE:
             self.inside(inner, declared.path, place, after, level + 1, len(self.rows) - 1)
         return after
+
+    def last_level(self, level, place, after):
+        if level == LAST_LEVEL:
+            self.note("3", "level 31, empty" if place == after else "level 31")
+            raise Refused(3)
+
+    def both(self, what, other):
+        """A record that is refused has another fault, which comes later."""
+        kept = set(self.seen)
+        try:
+            other()
+        except Refused:
+            kept.add(("in a record", what))
+        self.seen = kept
 
     def payload(self, wire, kind, at, end, level):
         """The bits of a scalar, and where the payload lies."""
@@ -324,8 +378,7 @@ def rows(sheet, kind, data):
 # ---- the query
 class Query(Listing):
     def __init__(self, sheet, kind, name, data):
-        self.name = name
-        self.answer = None
+        self.name, self.answer, self.split = name, None, None
         super().__init__(sheet, kind, data)
         if not self.refused:
             self.note("answer", "record" if self.answer else "absent")
@@ -335,13 +388,18 @@ class Query(Listing):
             return ["answer %d" % self.refused, NAMES[self.refused]]
         return ["answer 0", "record " + " ".join(map(str, self.answer)) if self.answer else "absent"]
 
-    def run(self):
-        self.inputs()
-        parts = self.parts()
-        self.note("parts", len(parts))
-        self.read()
-        steps, on_group = self.steps(parts)
-        self.answer = None if on_group else self.followed(steps)
+    def stages(self):
+        sheet, type_form, options_type, read = super().stages()
+        return [sheet, type_form, ("form of the name", self.name_form), options_type, read, ("name", self.name_steps)]
+
+    def name_form(self):
+        self.split = self.parts()
+        self.note("parts", len(self.split))
+
+    def name_steps(self):
+        if self.message is not None and self.split:
+            steps, on_group = self.steps(self.split)
+            self.answer = None if on_group else self.followed(steps)
 
     def parts(self):
         """A name as in 08: one or more parts and nothing else; the header before the tag, the tag before the limit."""

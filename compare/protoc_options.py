@@ -8,8 +8,8 @@ hand (Debian's protobuf-compiler and libprotobuf-dev, 3.21). plant_options.proto
 messages, alone and repeated; plant_use.proto sets them by hand; FILES more files, drawn here, set the same options to random values, which
 are known here before protoc sees them. protoc compiles them with --include_imports. The option bytes are those of the descriptor set as
 they stand there, not written again by anyone: the records of a FileDescriptorSet are followed down to the options by their numbers. The
-sheet is made of the set's own descriptors, descriptor.proto among them. python_reading.py says what python reads, as rows; the listing has
-to be these rows, and the query of each option that is there its last record. Of the drawn files the values that python reads have to be
+sheet is made of the set's own descriptors, descriptor.proto among them. python_reading.py says what python reads, as rows and as lines for
+people; the listing has to be these, and the query of each option that is there its last record. Of the drawn files the values that python reads have to be
 those that were drawn. A program that is `none` is left out, and options_reader.py, the second implementation, is asked in its place.
 """
 import argparse
@@ -25,7 +25,7 @@ import listing
 import python_options
 import python_reading as py
 from options_reader import Sheet
-from python_options import INTEGERS, Case, compare, line
+from python_options import INTEGERS, Case, answer, compare, line, note
 from python_reading import MESSAGE, descriptor_pb2
 
 rnd = random.Random()
@@ -144,20 +144,33 @@ def aggregate(members, depth):
     return "{ " + rnd.choice((" ", ", ")).join(text) + " }", wanted
 
 
+def drawn_options(on_message):
+    """Some options of a field or of a message, as the file has them, and what has to be read of them, as `aggregate` has it."""
+    options, expected, used = [], {}, set()
+    for _ in range(rnd.choice((1, 1, 2, 3, 5, 8))):
+        kind, repeated = rnd.choice(list(NAMES) + [11, 11, 11]), rnd.random() < 0.5
+        if on_message:
+            repeated = kind in (11, 14)
+        if not repeated and kind in used:
+            continue
+        used.add(None if repeated else kind)
+        text, value = literal(kind) if kind != 11 else aggregate(LIMITS + [rnd.choice(UNIT)], rnd.randrange(4))
+        first, number = ("m", 60000) if on_message else ("fr", 51000) if repeated else ("f", 50000)
+        options.append("(plant.%s_%s) = %s" % (first, NAMES[kind], text))
+        expected.setdefault(number + kind, []).append((kind, value))
+    return options, expected
+
+
 def drawn_file(many):
-    """A file of a message with so many fields, each with some options; and of each field what has to be read, as `aggregate` has it."""
+    """A file of a message with so many fields and messages in it, each with some options; and of each what has to be read."""
     lines, wanted = ['syntax = "proto2";', "package drawn;", 'import "plant_options.proto";', "message M {"], []
     for n in range(many):
-        options, expected, used = [], {}, set()
-        for _ in range(rnd.choice((1, 1, 2, 3, 5, 8))):
-            kind, repeated = rnd.choice(list(NAMES) + [11, 11, 11]), rnd.random() < 0.5
-            if not repeated and kind in used:
-                continue
-            used.add(None if repeated else kind)
-            text, value = literal(kind) if kind != 11 else aggregate(LIMITS + [rnd.choice(UNIT)], rnd.randrange(4))
-            options.append("(plant.%s_%s) = %s" % ("fr" if repeated else "f", NAMES[kind], text))
-            expected.setdefault((51000 if repeated else 50000) + kind, []).append((kind, value))
-        lines.append("  optional int32 v%d = %d [%s];" % (n, n + 1, ", ".join(options)))
+        on_message = rnd.random() < 0.3
+        options, expected = drawn_options(on_message)
+        if on_message:
+            lines.append("  message v%d { %s }" % (n, " ".join("option %s;" % option for option in options)))
+        else:
+            lines.append("  optional int32 v%d = %d [%s];" % (n, n + 1, ", ".join(options)))
         wanted.append(expected)
     return "\n".join(lines + ["}", ""]), wanted
 
@@ -172,6 +185,11 @@ def by_number(data, tree):
 
 
 # ---- cases
+TABLE = {"on": [GOOGLE + kind for _, kind in OPTIONS.values()], "otherwise": ["18: a group", "19: packed"],
+         "cases with a record of type": [n for n in range(1, 19) if n != py.GROUP], "cases with a record at level": list(range(6)),
+         "query of so many parts, answered": list(range(1, 6)), "query of so many parts, absent": list(range(2, 7))}
+
+
 def cases_of(made, seen):
     """A listing of the bytes of each options, and the query of each option in them."""
     for name, kind, data in made.options:
@@ -181,15 +199,13 @@ def cases_of(made, seen):
             seen["otherwise", "%d: %s" % (otherwise.number, otherwise.why)] += 1
             yield name, None, Case(name, made, kind, data, ["answer %d" % otherwise.number, listing.NAMES[otherwise.number]])
             continue
-        for key in reading.seen:
-            seen[("cases with",) + (key if isinstance(key, tuple) else (key,))] += 1
+        note(reading, seen)
         seen["on", kind] += 1
-        seen["records in all"] += len(reading.rows)
         py.check_real(made.schema, reading, kind, data, collections.Counter())
-        yield name, reading, Case(name, made, kind, data, ["answer 0"] + [line(row) for row in reading.rows])
+        yield name, reading, Case(name, made, kind, data, answer(reading))
         for fields in paths(reading.tree):
             row = py.follow(reading.tree, fields)
-            seen["query", "%d parts, %s" % (len(fields), "answered" if row else "absent")] += 1
+            seen["query of so many parts, " + ("answered" if row else "absent"), len(fields)] += 1
             asked = b"".join(py.part(x, rnd.random() < 0.5) for x in fields)
             yield name, None, Case(name, made, kind, data, ["answer 0", line(row) if row else "absent"], asked)
 
@@ -214,7 +230,7 @@ def run(made, seen, wanted=None):
         if wanted is not None and reading is not None:
             read = by_number(case.data, reading.tree)
             assert read == wanted[int(name.rsplit("/v", 1)[1])], (name, read)
-            seen["records that are as they were drawn"] += len(reading.rows)
+            seen["records that are as they were drawn", ""] += len(reading.rows)
     return out
 
 
@@ -243,7 +259,7 @@ def main():
             print(told, file=sys.stderr, flush=True)
         if differ >= 5:
             break
-    python_options.table(seen)
+    python_options.table(seen, TABLE)
     told = subprocess.run(["protoc", "--version"], stdout=subprocess.PIPE, encoding="utf-8", check=True).stdout.strip()
     print("%s, python3-protobuf %s, %s; by hand: listings %d, queries %d; drawn files %s: listings %d, queries %d" % (
         told, py.version(), py.api_implementation.Type(), by_hand["list"], by_hand["query"], args.files,

@@ -8,11 +8,15 @@ Run it from the root of the repository, by a python3 that has google.protobuf (D
 one to four files of messages, enums and extensions, drawn here and loaded by python; the sheet is made of the same descriptors, its files
 and declarations in any order. Bytes are built by python alone, in one of these ways: a message filled and serialized, one or more times
 after each other ("filled"); record by record, in any order, with unknown numbers, enum numbers that are not listed, and records of
-singular fields several times ("records"); the same with 64 bits set where the type keeps fewer ("wide"), or with tags, lengths and values
-made overlong here ("overlong"); records one in the other, up to 60 levels ("deep"). python_reading.py says what python reads, as rows. The
-listing has to be these rows: number, type, wire type, place, length, value, level and order. Where python reads what 01 refuses
-(docs/DIFFERENCES.md) the refusal is what is expected, and the cases are counted. Beside that python's reading by the labels as they are
-has to be what the rows come to, and the query of a name the last record of it.
+singular fields several times ("records"); the same with 64 bits set where the type keeps fewer, and any bytes as strings ("wide"), with
+known numbers on other wire types ("other wire types"), or with tags, lengths and values made overlong here, to five bytes and ten
+("overlong"), all to ten ("long"), or with bits set above the 32 or 64 that are read ("bits above"); records one in the other, up to 60
+levels ("deep"); and any of these with bytes changed, lost or put in ("damaged"). python_reading.py says what python reads, as rows and as lines for people. The listing has to be these: number, type, wire
+type, place, length, value, level and order, and every line. Where python reads what 01 refuses (docs/DIFFERENCES.md) the refusal is what is
+expected; where python refuses, so has the listing to, and which of 18, 19 and 3 it is says the second implementation; but tags and lengths
+of more than five bytes, which python does not read, have to be listed as python reads the same records with shorter ones. All this is
+counted. Beside that python's reading by the labels as they are has to be what the rows come to, and the query of a name the last record of
+it.
 
 A program that is `none` is left out, and options_reader.py, the second implementation, is asked in its place.
 """
@@ -24,17 +28,19 @@ import sys
 import time
 
 import listing
+import option_bytes
 import python_reading as py
-from options_reader import Listing, Query, Sheet
+import sheets
+from options_reader import Listing, Sheet
 from python_reading import ENUM, GROUP, MESSAGE, STRING, BYTES, descriptor_pb2
-from sheets import f
 
 rnd = random.Random()
 PACKAGES = ["", "plant", "plant.site", "fleet", "o"]
 INTEGERS = {3: (-(2**63), 2**63 - 1), 4: (0, 2**64 - 1), 5: (-(2**31), 2**31 - 1), 6: (0, 2**64 - 1), 7: (0, 2**32 - 1),
             13: (0, 2**32 - 1), 15: (-(2**31), 2**31 - 1), 16: (-(2**63), 2**63 - 1), 17: (-(2**31), 2**31 - 1), 18: (-(2**63), 2**63 - 1)}
 FLOATS = [0.0, -0.0, 1.5, -2.25, 0.1, 1e30, -1e-30, 3.4028234663852886e38, 1e-45, float("inf"), float("-inf"), float("nan")]
-TEXTS = ["", "a", "order 7", "gr\u00fcn", "\u20ac 5", "\U0001f69a", "\0", "\x08\x01", "a" * 127, "b" * 128, "\u07ff\uffff"]
+TEXTS = ["", "a", "order 7", "gr\u00fcn", "\u20ac 5", "\U0001f69a", "\0", "\x08\x01", "a" * 127, "b" * 128, "\u07ff\uffff",
+         "\"a\" 'b'\t\\\r\n", "\x1f ~\x7f", "\\0011"]
 
 
 # ---- schemas
@@ -84,6 +90,10 @@ class Draft:
         numbers = rnd.sample([1, 2, 3, -1, -2, 127, 128, -(2**31), 2**31 - 1, 5, 6], rnd.choice((1, 2, 3, 5)))
         for number in [0] + numbers if file.syntax == "proto3" else numbers:
             enum.value.add(name=self.name("V"), number=number)
+        if rnd.random() < 0.2:
+            # a second name of a number
+            enum.options.allow_alias = True
+            enum.value.add(name=self.name("V"), number=rnd.choice(numbers))
         self.enums[self.full(outer, enum.name)] = (file, enum)
 
     def shape(self, file, field, extendee=None):
@@ -147,15 +157,24 @@ class Draft:
 NARROW = (5, 8, 13, 14, 17)
 
 
-def all_builders(files, wide):
-    """The schema by which single records are built: enums are int32, so that any number can be set, messages bytes, all repeated; where it
-    is wide, what keeps fewer than 64 bits of a varint is uint64."""
+PLAIN, WIDE, OTHER, ABOVE = range(4)
+
+
+def all_builders(files, how):
+    """The schema by which single records are built: enums are int32, so that any number can be set, messages bytes, all repeated; of the
+    wide one, what keeps fewer than 64 bits of a varint is uint64, and strings are bytes; of the other one every type has another wire
+    type."""
     out = []
     for file in files:
         file = py.all_repeated(file)
         for field in py.fields_of(file):
-            if wide and field.type in NARROW:
+            if how == OTHER and field.type != GROUP:
+                field.type = rnd.choice([kind for kind in (4, 6, 7, 12) if py.WIRE[kind] != py.WIRE[field.type]])
+                field.options.Clear()
+            elif how == WIDE and field.type in NARROW:
                 field.type = 4
+            elif how == WIDE and field.type == STRING:
+                field.type = BYTES
             elif field.type == ENUM:
                 field.type = 5
             elif field.type == MESSAGE:
@@ -192,7 +211,7 @@ class Drawn:
                 break
         self.files, self.kinds = draft.files, list(draft.messages)
         self.schema = py.Schema(self.files)
-        self.builders = [py.Pool(all_builders(self.files, wide)) for wide in (False, True)]
+        self.builders = [py.Pool(all_builders(self.files, how)) for how in (PLAIN, WIDE, OTHER)]
         order = self.files[:]
         rnd.shuffle(order)
         self.sheet = Sheet(py.sheet(order, rnd.shuffle))
@@ -258,20 +277,22 @@ def filled_bytes(drawn, full):
 class Record:
     """A record that python built, taken apart: its tag, what stands before its payload, and the payload or the records in it."""
 
-    def __init__(self, data, inner=None, overlong=0.0):
+    def __init__(self, data, inner=None, overlong=0.0, above=0.0):
         (number, wire, value), = py.raw(data)
         tag = py.encoder.TagBytes(number, wire)
         assert data.startswith(tag)
+        # of tags and lengths python takes no more than five bytes
+        most = 5 if overlong < 0.5 else 10
         self.inner = inner
-        self.tag = longer(tag, 5) if rnd.random() < overlong else tag
+        self.tag = longer(tag, most, above) if rnd.random() < overlong else tag
         self.head, self.payload = b"", data[len(tag) :]
         if wire == py.LEN:
             self.payload = value if inner is None else b"".join(record.data() for record in inner)
             self.head = py.varint_bytes(len(self.payload))
             assert inner is not None or data == tag + self.head + value
-            self.head = longer(self.head, 5) if rnd.random() < overlong else self.head
+            self.head = longer(self.head, most) if rnd.random() < overlong else self.head
         elif wire == 0 and rnd.random() < overlong:
-            self.payload = longer(self.payload, 10)
+            self.payload = longer(self.payload, 10, above)
 
     def data(self):
         return self.tag + self.head + self.payload
@@ -284,8 +305,11 @@ class Record:
             at += len(record.data())
 
 
-def longer(varint, most):
-    """The same varint in more bytes. Of tags and lengths python takes no more than five."""
+def longer(varint, most, above=0.0):
+    """The same varint in more bytes; now and then in the most, with a bit that lies above the 32 or 64 that such a varint has."""
+    if rnd.random() < above:
+        varint = varint[:-1] + bytes([varint[-1] | 128] + [128] * (most - len(varint) - 1) + [0]) if len(varint) < most else varint
+        return varint[:-1] + bytes([varint[-1] | (rnd.choice((0x10, 0x20, 0x70)) if most == 5 else rnd.choice((2, 4, 0x7E)))])
     if len(varint) >= most:
         return varint
     more = rnd.choice((1, most - len(varint), rnd.randint(1, most - len(varint))))
@@ -303,22 +327,29 @@ def unknown_record(drawn, full, overlong):
     return Record(strange.SerializeToString(), None, overlong)
 
 
-def record(drawn, full, field, inner, overlong, wide=False):
+def record(drawn, full, field, inner, overlong, how=PLAIN):
     """One record of a field; of a message with these records in it."""
-    pool = drawn.builders[wide]
+    pool = drawn.builders[PLAIN if how == ABOVE else how]
     built = pool.message(full)()
-    of = py.values_of(built, pool.declared(built.DESCRIPTOR, field.number))
+    by = pool.declared(built.DESCRIPTOR, field.number)
+    of = py.values_of(built, by)
+    if how == OTHER:
+        of.append(value(by))
+        return Record(built.SerializePartialToString(), None, overlong)
+    above = 0.1 if how == ABOVE else 0.0
     if inner is not None:
         of.append(b"".join(x.data() for x in inner))
-    elif wide and field.type in NARROW:
+    elif how == WIDE and field.type in NARROW:
         some = (rnd.getrandbits(64), rnd.getrandbits(33), 2**64 - rnd.getrandbits(33), rnd.getrandbits(32) << 32, 2**32 + 5)
         of.append(rnd.choice(some) % 2**64)
+    elif how == WIDE and field.type == STRING:
+        of.append(rnd.choice((rnd.randbytes(rnd.randint(0, 6)), b"\xc0\x80", b"\xed\xa0\x80", b"a\xff", "\u20ac".encode())))
     else:
         of.append(value(field, True))
-    return Record(built.SerializePartialToString(), inner, overlong)
+    return Record(built.SerializePartialToString(), inner, overlong, above)
 
 
-def records(drawn, full, depth, overlong, wide=False):
+def records(drawn, full, depth, overlong, how=PLAIN):
     out = []
     fields = [x for x in drawn.declared(full) if x.type != GROUP]
     for _ in range(rnd.choice((0, 1, 2, 3, 4, 6))):
@@ -326,10 +357,13 @@ def records(drawn, full, depth, overlong, wide=False):
             out.append(unknown_record(drawn, full, overlong))
             continue
         field = rnd.choice(fields if not out or out[-1] is None or rnd.random() < 0.85 else fields[:1])
+        if how == OTHER and rnd.random() < 0.2:
+            out.append(record(drawn, full, field, None, overlong, OTHER))
+            continue
         inner = None
         if field.type == MESSAGE:
-            inner = records(drawn, field.message_type.full_name, depth - 1, overlong, wide) if depth > 0 else []
-        out.append(record(drawn, full, field, inner, overlong, wide))
+            inner = records(drawn, field.message_type.full_name, depth - 1, overlong, how) if depth > 0 else []
+        out.append(record(drawn, full, field, inner, overlong, how if how != OTHER else PLAIN))
     return [x for x in out if x is not None]
 
 
@@ -342,24 +376,44 @@ def deep(drawn, full, levels):
     return [record(drawn, full, field, deep(drawn, field.message_type.full_name, levels - 1), 0.0)]
 
 
+HOW = {"filled": 30, "records": 17, "wide": 11, "overlong": 13, "long": 4, "deep": 8, "other wire types": 5, "bits above": 4,
+       "damaged": 12}
+
+
 def some_bytes(drawn, full):
-    """What kind of bytes, the bytes, and where each payload lies if varints need not be the shortest."""
-    how = rnd.random()
-    if how < 0.4:
-        return "filled", filled_bytes(drawn, full), None
-    if how < 0.6:
-        what, made = "records", records(drawn, full, rnd.choice((0, 1, 2, 3)), 0.0)
-    elif how < 0.7:
-        what, made = "wide", records(drawn, full, rnd.choice((0, 1, 2)), 0.0, True)
-    elif how < 0.92:
-        what, made = "overlong", records(drawn, full, rnd.choice((0, 1, 2, 3)), 0.3)
+    """What kind of bytes, the bytes, and where each payload lies where they were put together record by record."""
+    what = rnd.choices(list(HOW), HOW.values())[0]
+    if what == "damaged":
+        _, data, _ = some_bytes(drawn, full)
+        return what, option_bytes.damaged(data), None
+    if what == "filled":
+        return what, filled_bytes(drawn, full), None
+    depth = rnd.choice((0, 1, 2, 3))
+    if what == "deep":
+        made = deep(drawn, full, rnd.choice((3, 8, 20, 30, 31, 31, 32, 33, 45, 60)))
+    elif what in ("overlong", "long", "bits above"):
+        made = records(drawn, full, depth, 0.6 if what == "long" else 0.3, ABOVE if what == "bits above" else PLAIN)
     else:
-        what, made = "deep", deep(drawn, full, rnd.choice((3, 8, 20, 30, 31, 32, 33, 45, 60)))
+        made = records(drawn, full, depth, 0.0, {"records": PLAIN, "wide": WIDE, "other wire types": OTHER}[what])
     places, at = [], 0
     for x in made:
         places += x.places(at)
         at += len(x.data())
-    return what, b"".join(x.data() for x in made), places if what == "overlong" else None
+    return what, b"".join(x.data() for x in made), places
+
+
+def with_short_headers(rows, data):
+    """The bytes of these rows, with the shortest tags and lengths."""
+    def at_level(level):
+        out = b""
+        while left and left[-1][0] == level:
+            _, number, kind, wire, place, size, _, _ = left.pop()
+            payload = at_level(level + 1) if kind == MESSAGE else data[place : place + size]
+            out += py.encoder.TagBytes(number, wire) + (py.varint_bytes(len(payload)) if wire == py.LEN else b"") + payload
+        return out
+
+    left = rows[::-1]
+    return at_level(0)
 
 
 # ---- cases
@@ -375,8 +429,7 @@ class Case:
     size = listing.Case.size
 
     def second(self):
-        told = Listing(self.sheet, self.kind, self.data) if self.name is None else Query(self.sheet, self.kind, self.name, self.data)
-        return told.lines()
+        return listing.Case(self.what, self.sheet, self.kind, self.data, self.name).lines()
 
 
 def line(row):
@@ -385,20 +438,34 @@ def line(row):
 
 def name_of(drawn, full, tree):
     """Fields from the options type inwards, mostly along what the bytes have."""
-    fields = []
+    fields, ends, most = [], rnd.choice((0.25, 0.25, 0.25, 0.01)), rnd.choice((16, rnd.randint(1, 16)))
     while True:
         known = [x for x in drawn.declared(full) if x.type != GROUP]
         there = [x for x in known if any(item[1][1] == x.number for item in tree)]
         inner = [x for x in there if x.type == MESSAGE]
         if not known:
             return fields
-        field = rnd.choice(inner if inner and rnd.random() < 0.4 else there if there and rnd.random() < 0.8 else known)
+        further = inner and rnd.random() < (0.4 if ends > 0.1 else 0.97)
+        field = rnd.choice(inner if further else there if there and rnd.random() < 0.8 else known)
         fields.append(field)
-        if field.type != MESSAGE or rnd.random() < 0.25 or len(fields) == 16:
+        if field.type != MESSAGE or rnd.random() < ends or len(fields) == most:
             return fields
         full = field.message_type.full_name
         same = [item for item in tree if item[1][1] == field.number]
         tree = same[-1][3] if same else []
+
+
+def refused_case(what, drawn, full, data, seen):
+    """Python refuses the bytes: so has the listing to, or they have a tag or a length of more than five bytes and no other fault."""
+    told = Listing(drawn.sheet, full.encode(), data)
+    if told.refused:
+        seen["python refuses, and the reply is", told.refused] += 1
+        return Case(what, drawn, full, data, told.lines())
+    reading = py.Reading(drawn.schema, full, with_short_headers(told.rows, data))
+    same = [[row[:4] + row[6:] + (row[5] if row[2] != MESSAGE else None,) for row in rows] for rows in (reading.rows, told.rows)]
+    assert same[0] == same[1], data
+    seen["listed", "a tag or a length of more than five bytes, which python refuses"] += 1
+    return Case(what, drawn, full, data, told.lines() + reading.people)
 
 
 def cases_of(drawn, seen):
@@ -412,19 +479,34 @@ def cases_of(drawn, seen):
         seen["otherwise", "%d: %s" % (otherwise.number, otherwise.why)] += 1
         yield Case(what, drawn, full, data, ["answer %d" % otherwise.number, listing.NAMES[otherwise.number]])
         return
-    for key, many in reading.seen.items():
-        seen[("cases with",) + (key if isinstance(key, tuple) else (key,))] += 1
-    seen["records in all"] += len(reading.rows)
+    except py.Refuses:
+        yield refused_case(what, drawn, full, data, seen)
+        return
+    note(reading, seen)
     merged = collections.Counter()
     py.check_real(drawn.schema, reading, full, data, merged)
     seen.update({("by the real labels, cases with", key): 1 for key in merged})
-    yield Case(what, drawn, full, data, ["answer 0"] + [line(row) for row in reading.rows])
+    yield Case(what, drawn, full, data, answer(reading))
     fields = name_of(drawn, full, reading.tree)
     if fields:
         row = py.follow(reading.tree, fields)
-        seen["query", "%d parts, %s" % (len(fields), "answered" if row else "absent")] += 1
+        seen["query of so many parts, " + ("answered" if row else "absent"), len(fields)] += 1
         name = b"".join(py.part(x, rnd.random() < 0.5) for x in fields)
         yield Case(what, drawn, full, data, ["answer 0", line(row) if row else "absent"], name)
+
+
+def answer(reading):
+    return ["answer 0"] + [line(row) for row in reading.rows] + reading.people
+
+
+def note(reading, seen):
+    """What a reading has, for the tables: how many cases have it, whatever the number of records."""
+    for key in reading.seen:
+        if isinstance(key, tuple):
+            seen["cases with a record " + ("of type" if key[0] == "type" else "at level"), key[1]] += 1
+        else:
+            seen["listed", key] += 1
+    seen["records in all", ""] += len(reading.rows)
 
 
 def told_by(program, cases):
@@ -444,20 +526,32 @@ def compare(cases, programs, calls):
     return differ
 
 
-def table(seen):
-    types = listing.TYPES
-    by = collections.defaultdict(list)
-    for key, many in seen.items():
-        if not isinstance(key, tuple):
-            print("%s: %d" % (key, many))
-        elif key[:2] == ("cases with", "type"):
-            by["cases with a record of type"].append((key[2], "%s %d" % (types[key[2]] if key[2] else "unknown", many)))
-        elif key[:2] == ("cases with", "level"):
-            by["cases with a record at level"].append((key[2], "%d: %d" % (key[2], many)))
-        else:
-            by[key[0]].append((str(key[1]), "%s %d" % (key[1], many)))
-    for title in sorted(by):
-        print("%s: %s" % (title, "; ".join(text for _, text in sorted(by[title]))))
+# what python reads otherwise, each with its reason: docs/DIFFERENCES.md
+OTHERWISE = ["3: a message at level 31", "18: a group", "18: a tag above 32 bits, of which python keeps 32",
+             "18: a tag of number 0 or of a group's end, where python stops reading", "18: a varint above 64 bits, of which python keeps 64",
+             "19: another wire type, which python takes for an unknown record", "19: packed"]
+LISTED = ["a string that is not UTF-8, of a proto2 file", "a string that is not UTF-8, of a proto3 file", "enum numbers set aside",
+          "a tag or a length of more than five bytes, which python refuses"]
+TABLE = {
+    "how": list(HOW), "otherwise": OTHERWISE, "listed": LISTED, "python refuses, and the reply is": [3, 18, 19],
+    "cases with a record of type": [n for n in range(19) if n != GROUP], "cases with a record at level": list(range(32)),
+    "query of so many parts, answered": list(range(1, 17)), "query of so many parts, absent": list(range(1, 17)),
+    "by the real labels, cases with": ["a singular scalar, once", "a singular scalar, the last of several", "a singular message, once",
+                                       "a singular message, merged from several", "a oneof's earlier member, dropped",
+                                       "last is an enum number set aside"]}
+
+
+def table(seen, wanted):
+    """What the cases came by: all that is wanted, with 0 where none did, and what else there is."""
+    never = []
+    for title in sorted({key[0] for key in seen} | set(wanted)):
+        keys = wanted.get(title, [])
+        keys = keys + sorted((key[1] for key in seen if key[0] == title and key[1] not in keys), key=str)
+        never += ["%s %s" % (title, key) for key in keys if not seen[title, key]]
+        names = [(listing.TYPES[key] if key else "unknown") if title.endswith("of type") else str(key) for key in keys]
+        text = ["%s %d" % (name, seen[title, key]) if name else str(seen[title, key]) for name, key in zip(names, keys)]
+        print("%s: %s" % (title, "; ".join(text)))
+    print("never: %s" % ("; ".join(never) or "none"))
 
 
 def main():
@@ -469,6 +563,8 @@ def main():
     args = parser.parse_args()
     programs = {"list": None if args.program == "none" else args.program, "query": None if args.query == "none" else args.query}
     rnd.seed(args.seed)
+    sheets.rnd.seed(args.seed)
+    py.quiet()
     seen, calls, schemas, differ, start, batch = collections.Counter(), collections.Counter(), 0, 0, time.time(), []
     while calls["list"] < args.cases:
         drawn = Drawn()
@@ -483,7 +579,7 @@ def main():
                 print("%d listings, %d s, %d differ" % (calls["list"], time.time() - start, differ), file=sys.stderr, flush=True)
             if differ >= 5:
                 break
-    table(seen)
+    table(seen, TABLE)
     print("python3-protobuf %s, %s; %d schemas; listings %d, queries %d" % (
         py.version(), py.api_implementation.Type(), schemas, calls["list"], calls["query"]))
     for call, program in programs.items():

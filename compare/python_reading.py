@@ -1,21 +1,26 @@
-"""What python3-protobuf itself reads of option bytes, as the rows that a listing has to give, for compare/protoc_options.py and
-compare/python_options.py. Needs google.protobuf: Debian's python3-protobuf is /usr/bin/python3's.
+"""What python3-protobuf itself reads of option bytes, as the rows and the lines for people that a listing has to give, for
+compare/protoc_options.py and compare/python_options.py. Needs google.protobuf: Debian's python3-protobuf is /usr/bin/python3's.
 
 A schema is FileDescriptorProtos. They are loaded twice: as they are, and with every label repeated and nothing packed, so that python
 keeps each record of a number by itself and in order. Order, number, wire type and payload of a record are those of its UnknownFields, read
 by a message that has no fields; its declaration is what python's pool has for the number; its value is the one that python's typed message
-holds. Places follow from these by the sizes of python's own tags and lengths, which are the shortest.
+holds. Places are those that the varints of python's own decoder end at. Names of types and of enum values are those of the descriptors,
+text is escaped by text_encoding.
 
-`rows` ends in Otherwise where python reads what 01 refuses: `number` is the reply and `why` the reason, a line of docs/DIFFERENCES.md.
+A Reading ends in Otherwise where python reads what 01 refuses: `number` is the reply and `why` the reason, a line of docs/DIFFERENCES.md;
+and in Refuses where python itself refuses the bytes.
 """
 import collections
 import math
+import os
 import struct
 import sys
+import warnings
 
 try:
-    from google.protobuf import descriptor_pb2, descriptor_pool, message_factory
-    from google.protobuf.internal import api_implementation, encoder, type_checkers, wire_format
+    from google.protobuf import descriptor_pb2, descriptor_pool, message_factory, text_encoding
+    from google.protobuf.internal import api_implementation, decoder, encoder, type_checkers, wire_format
+    from google.protobuf.message import DecodeError
 except ImportError:
     sys.exit("google.protobuf is not there: Debian's python3-protobuf is for /usr/bin/python3")
 if api_implementation.Type() != "cpp":
@@ -26,6 +31,7 @@ from sheets import f
 GROUP, MESSAGE, BYTES, STRING, ENUM, FLOAT, DOUBLE = 10, 11, 12, 9, 14, 2, 1
 LEN, START_GROUP = wire_format.WIRETYPE_LENGTH_DELIMITED, wire_format.WIRETYPE_START_GROUP
 WIRE = type_checkers.FIELD_TYPE_TO_WIRE_TYPE
+WIRE_NAMES = {wire_format.WIRETYPE_VARINT: "varint", wire_format.WIRETYPE_FIXED64: "i64", LEN: "len", wire_format.WIRETYPE_FIXED32: "i32"}
 LAST_LEVEL = 31
 
 
@@ -35,11 +41,22 @@ def version():
     return google.protobuf.__version__
 
 
+def quiet():
+    """Drops what the library itself writes to standard error, of each string that is not UTF-8, and its warning that it stopped early."""
+    warnings.filterwarnings("ignore", "Unexpected end-group tag")
+    sys.stderr = os.fdopen(os.dup(2), "w")
+    os.dup2(os.open(os.devnull, os.O_WRONLY), 2)
+
+
 class Otherwise(Exception):
     """Python reads on where the listing refuses."""
 
     def __init__(self, number, why):
         self.number, self.why = number, why
+
+
+class Refuses(Exception):
+    """Python refuses the bytes."""
 
 
 # ---- schemas
@@ -109,10 +126,24 @@ NOTHING = Pool([descriptor_pb2.FileDescriptorProto(name="nothing.proto", message
 NOTHING_CLASS = NOTHING.message("Nothing")
 
 
+def no_strings(file):
+    """The same with bytes for strings, so that python does not ask for UTF-8."""
+    out = all_repeated(file)
+    for field in fields_of(out):
+        field.type = BYTES if field.type == STRING else field.type
+    return out
+
+
 class Schema:
     def __init__(self, files):
         self.files = files
         self.real, self.every = Pool(files), Pool([all_repeated(file) for file in files])
+        self.lenient = None
+
+    def by_bytes(self):
+        if self.lenient is None:
+            self.lenient = Pool([no_strings(file) for file in self.files])
+        return self.lenient
 
 
 # ---- the sheet of a schema
@@ -182,29 +213,38 @@ def set_aside(field, number):
 
 
 class Reading:
-    """The rows of option bytes under a message, and python's own typed reading beside them."""
+    """The rows of option bytes under a message, the lines for people, and python's own typed reading beside them."""
 
     def __init__(self, schema, kind, data, places=None):
-        self.schema, self.pool, self.data, self.places = schema, schema.every, data, iter(places) if places is not None else None
-        self.rows, self.tree, self.seen = [], [], collections.Counter()
-        message = self.pool.message(kind)
-        self.end = self.walk(message.DESCRIPTOR, message.FromString(data), data, 0, 0, self.tree)
-        assert self.end == len(data), (self.end, len(data))
+        self.schema, self.data, self.view = schema, data, memoryview(data)
+        self.rows, self.people, self.tree, self.seen, self.pool = [], [], [], collections.Counter(), schema.every
+        typed = self.typed(kind)
+        end = self.walk(schema.every.message(kind).DESCRIPTOR, typed, data, 0, 0, self.tree)
+        if end < len(data):
+            raise Otherwise(18, "a tag of number 0 or of a group's end, where python stops reading")
+        assert places is None or places == [row[4:6] for row in self.rows], places
+
+    def typed(self, kind):
+        """Python's message of the bytes; if it is only that a string of a proto3 file is not UTF-8, one that has bytes for it."""
+        try:
+            return self.pool.message(kind).FromString(self.data)
+        except DecodeError:
+            self.pool = self.schema.by_bytes()
+        try:
+            return self.pool.message(kind).FromString(self.data)
+        except DecodeError:
+            raise Refuses from None
 
     def walk(self, message, typed, data, at, level, tree):
         taken, aside = collections.Counter(), collections.defaultdict(list)
         for unknown in typed.UnknownFields():
             aside[unknown.field_number].append(unknown.data)
         for number, wire, payload in raw(data):
-            field = self.pool.declared(message, number)
-            if wire == START_GROUP:
-                raise Otherwise(18, "a group")
-            if field is not None and WIRE[field.type] != wire:
-                raise Otherwise(19, "packed" if wire == LEN else "another wire type, which python takes for an unknown record")
-            place, size, at = self.place(number, wire, payload, at)
+            field, own = self.schema.every.declared(message, number), self.pool.declared(typed.DESCRIPTOR, number)
+            place, size, at = self.place(message, field, number, wire, at)
             value, inner = 0, None
             if field is not None and wire == LEN:
-                inner = values_of(typed, field)[taken[number]]
+                inner = values_of(typed, own)[taken[number]]
                 self.same_payload(field, inner, payload)
             elif field is not None and field.type == ENUM and set_aside(field, payload):
                 # python sets the number of an enum that is not listed aside, with its unknown records
@@ -212,13 +252,15 @@ class Reading:
                 self.seen["enum numbers set aside"] += 1
                 taken[number] -= 1
             elif field is not None:
-                value = bits_of(field, values_of(typed, field)[taken[number]], payload)
+                inner = values_of(typed, own)[taken[number]]
+                value = bits_of(field, inner, payload)
             taken[number] += 1
             kind = field.type if field is not None else 0
             if kind == MESSAGE and level == LAST_LEVEL:
                 raise Otherwise(3, "a message at level 31")
             row = (level, number, kind, wire, place, size, value % 2**32, value >> 32)
             self.rows.append(row)
+            self.people.append("  " * (level + 1) + for_people(field, number, wire, inner, value))
             self.seen["type", kind] += 1
             self.seen["level", level] += 1
             tree.append((field, row, inner, []))
@@ -227,23 +269,58 @@ class Reading:
         return at
 
     def same_payload(self, field, value, payload):
-        """That python's typed reading has this payload."""
+        """That python's typed reading has this payload. Of a proto2 file python hands out a string that is not UTF-8 as bytes."""
         if field.type == STRING:
-            assert value.encode() == payload, (value, payload)
+            if isinstance(value, bytes):
+                why = "a string that is not UTF-8, of a proto%s file" % field.file.syntax[-1]
+                try:
+                    value.decode()
+                except UnicodeDecodeError:
+                    self.seen[why] += 1
+            assert (value if isinstance(value, bytes) else value.encode()) == payload, (value, payload)
         elif field.type == BYTES:
             assert value == payload, (value, payload)
 
-    def place(self, number, wire, payload, at):
-        """Where the payload lies, how long it is, and where the next record starts; of the shortest varints if nobody says otherwise."""
-        if self.places is not None:
-            place, size = next(self.places)
-            return place, size, place + size
-        at += len(encoder.TagBytes(number, wire))
+    def place(self, message, field, number, wire, at):
+        """Where the payload lies, how long it is, and where the next record starts; what 01 refuses in a record, in 01's order."""
+        tag, at = decoder.ReadTag(self.view, at)
+        if decoder._DecodeVarint(tag, 0)[0] != number * 8 + wire:
+            raise Otherwise(18, "a tag above 32 bits, of which python keeps 32")
+        if wire == START_GROUP:
+            raise Otherwise(18, "a group")
+        if field is not None and WIRE[field.type] != wire:
+            many = self.schema.real.declared(self.schema.real.pool.FindMessageTypeByName(message.full_name), number).label == 3
+            packed = wire == LEN and many and field.type != GROUP
+            raise Otherwise(19, "packed" if packed else "another wire type, which python takes for an unknown record")
         if wire == LEN:
-            at += len(varint_bytes(len(payload)))
-            return at, len(payload), at + len(payload)
-        size = len(varint_bytes(payload)) if wire == 0 else 8 if wire == 1 else 4
-        return at, size, at + size
+            size, at = decoder._DecodeVarint(self.view, at)
+            return at, size, at + size
+        end = decoder._DecodeVarint(self.view, at)[1] if wire == 0 else at + (8 if wire == 1 else 4)
+        if wire == 0 and end - at == 10 and self.data[end - 1] > 1:
+            raise Otherwise(18, "a varint above 64 bits, of which python keeps 64")
+        return at, end - at, end
+
+
+def for_people(field, number, wire, value, bits):
+    """A record as a line for people has it, but for the blanks before it. `value` is python's own, but for enum numbers set aside."""
+    if field is None:
+        return "? %d %s" % (number, WIRE_NAMES[wire])
+    of = field.message_type or field.enum_type
+    line = "%s %d " % ("(%s)" % field.full_name if field.is_extension else field.name, number)
+    line += of.full_name if of else descriptor_pb2.FieldDescriptorProto.Type.Name(field.type)[5:].lower()
+    if field.type == MESSAGE:
+        return line
+    if field.type == ENUM:
+        signed = bits - 2**64 if bits >> 63 else bits
+        listed = field.enum_type.values_by_number.get(signed)
+        text = listed.name if listed else str(signed)
+    elif field.type in (FLOAT, DOUBLE):
+        text = "0x%0*X" % (8 if field.type == FLOAT else 16, bits)
+    elif field.type in (STRING, BYTES):
+        text = '"%s"' % text_encoding.CEscape(value if isinstance(value, bytes) else value.encode(), False)
+    else:
+        text = str(value).lower()
+    return "%s = %s" % (line, text)
 
 
 # ---- the same by the labels as they are
@@ -251,6 +328,13 @@ def check_real(schema, reading, kind, data, seen):
     """That python's reading by the real labels is what the rows come to: of a singular scalar the last, of a repeated one all, of a
     singular message all records merged."""
     message = schema.real.message(kind)
+    if reading.pool is not schema.every:
+        # a string of a proto3 file is not UTF-8
+        try:
+            message.FromString(data)
+        except DecodeError:
+            return
+        raise AssertionError(data)
     real(schema, message.FromString(data), reading.tree, seen)
 
 

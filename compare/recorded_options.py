@@ -3,12 +3,12 @@
 
 usage: recorded_options.py FOLDER
 
-Writes to FOLDER recorded.stdin and recorded.expected for optlist, recorded_query.stdin and recorded_query.expected for optquery, and
-recorded.md, which says where each case comes from. Run it from the root of the repository as protoc_options.py is run. The option bytes
-are those that protoc writes for plant_use.proto, then some that python builds for random schemas, chosen so that together they take every
-step that any of them takes. Of a schema only what the bytes need is left, so that the sheets are small; python reads the bytes under that
-schema, and its reading is what is expected. Only lines `answer` and `record`, and `absent`, are written: a program prints the name of a
-refusal, and lines for people, beside them.
+Writes to FOLDER optlist.stdin and optlist.stdout, optquery.stdin and optquery.stdout, which are to stand behind those that are written by
+hand, and recorded.md, which says where each case comes from. Run it from the root of the repository as protoc_options.py is run. The option
+bytes are all that protoc writes for plant_use.proto, then some that python builds for random schemas, chosen so that together they take
+every step twice that any of them takes, and what python reads otherwise. Of a schema only what the bytes need is left, so that the sheets
+are small; python reads the bytes under that schema, and its reading is what is expected, lines for people too. Where python refuses the
+bytes, which of 18, 19 and 3 is answered is the second implementation's; it has to give the same to every other case.
 """
 import collections
 import os
@@ -18,17 +18,19 @@ import listing
 import protoc_options
 import python_options
 import python_reading as py
+import sheets
 from options_reader import Listing, Sheet
 from protoc_options import FOLDER, Set, compiled
-from python_options import Case, Drawn, line
+from python_options import Case, Drawn, answer, line
 from python_reading import MESSAGE, descriptor_pb2
 
-SEED, DRAWN = 1, 12000
-# option bytes of a drawn case are fewer
-MOST = 400
-# these of protoc's are taken whatever they add: names, aggregates, several settings, numbers below zero, what 01 reads otherwise
-RICH = ("p1", "p2", "p3", "a1", "a2", "a3", "a4", "a5", "a6", "a7", "r1", "c1", "n1", "s2", "s3", "y1", "o1", "o2", "o3", "o4", "Dispatch",
-        "plant_use.proto", "Send", "Site", "either", "Order", "UP", "z3", "z6", "i2", "i7", "g2", "g3", "x1", "x3", "d3", "f4")
+SEED, DRAWN = 1, 16000
+# option bytes of a drawn case are fewer, of a deep one too
+MOST = 260
+# how many cases take a step, and how many candidates there are for it
+TWICE, CANDIDATES = 2, 5
+# how many queries of so many parts there are of each type answered, and of absent ones
+QUERIES = {1: 2, 2: 4, 3: 4}
 
 
 # ---- schemas made smaller
@@ -104,21 +106,99 @@ class Small:
         assert not self.sheet.fault
 
 
-# ---- cases
-def recorded(schema, kind, data, places, what):
-    """A case of the listing, and cases of the query, with python's answers under the smaller schema."""
-    small = Small(schema, kind, data)
+class Cut:
+    """A schema from which everything is left out that can be while python says the same of some bytes: for bytes that are not read."""
+
+    def __init__(self, schema, kind, data):
+        wanted = outcome(schema, kind, data)
+        files, again = schema.files, True
+        while again:
+            again = False
+            for less in fewer(files):
+                try:
+                    there = py.Schema(less)
+                    if outcome(there, kind, data) != wanted:
+                        continue
+                except (TypeError, KeyError):
+                    # a type that is left out
+                    continue
+                files, again = less, True
+                break
+        self.files, self.schema = files, py.Schema(files)
+        self.sheet = Sheet(py.sheet(self.files[::-1]))
+        assert not self.sheet.fault
+
+
+def outcome(schema, kind, data):
+    """What python and the second implementation come to, where python does not read the bytes as 01 does."""
+    told = Listing(Sheet(py.sheet(schema.files[::-1])), kind.encode(), data).refused
     try:
-        reading = py.Reading(small.schema, kind, data, places)
+        py.Reading(schema, kind, data)
     except py.Otherwise as otherwise:
-        return Case(what, small, kind, data, ["answer %d" % otherwise.number]), []
-    case = Case(what, small, kind, data, ["answer 0"] + [line(row) for row in reading.rows])
+        return told, otherwise.number, otherwise.why
+    except py.Refuses:
+        return told, "refuses"
+    return None
+
+
+def copied(files):
+    out = [descriptor_pb2.FileDescriptorProto.FromString(file.SerializeToString()) for file in files]
+    names = {file.name for file in out}
+    for file in out:
+        kept = [name for name in file.dependency if name in names]
+        file.ClearField("dependency")
+        file.dependency.extend(kept)
+    return out
+
+
+def places(file):
+    """Each list of declarations in a file."""
+    yield from (file.message_type, file.enum_type, file.extension)
+    for message in py.messages_of(file):
+        yield from (message.field, message.extension, message.nested_type, message.enum_type, message.oneof_decl)
+
+
+def fewer(files):
+    """The files with one of them left out, or one declaration."""
+    for n in range(len(files)):
+        yield copied(files[:n] + files[n + 1 :])
+    for n, file in enumerate(files):
+        for place, items in enumerate(places(file)):
+            for i in range(len(items)):
+                less = copied(files)
+                there = list(places(less[n]))[place]
+                del there[i]
+                for message in py.messages_of(less[n]):
+                    if not message.oneof_decl:
+                        for field in message.field:
+                            field.ClearField("oneof_index")
+                yield less
+
+
+# ---- cases
+def recorded(schema, kind, data, what):
+    """A case of the listing, and cases of the query, with python's answers under the smaller schema."""
+    if outcome(schema, kind, data):
+        small = Cut(schema, kind, data)
+        told, *why = outcome(small.schema, kind, data)
+        assert why[0] in (told, "refuses"), (told, why)
+        case = listing.Case(what, small.sheet, kind.encode(), data)
+        if told or why[0] != "refuses":
+            what = "%s; python %s" % (what, "refuses" if why[0] == "refuses" else "reads otherwise: " + why[1])
+            return Case(what, small, kind, data, ["answer %d" % told, listing.NAMES[told]]), []
+        # tags and lengths of more than five bytes
+        short = python_options.with_short_headers(case.run.rows, data)
+        reading = py.Reading(small.schema, kind, short)
+        what += "; python reads it with shorter tags and lengths"
+        return Case(what, small, kind, data, case.run.lines() + reading.people), []
+    small = Small(schema, kind, data)
+    reading = py.Reading(small.schema, kind, data)
     queries = []
     for fields in protoc_options.paths(reading.tree):
         row = py.follow(reading.tree, fields)
         name = b"".join(py.part(x, len(queries) % 2 == 0) for x in fields)
         queries.append(Case(what, small, kind, data, ["answer 0", line(row) if row else "absent"], name))
-    return case, queries
+    return Case(what, small, kind, data, answer(reading)), queries
 
 
 def edge(row):
@@ -136,13 +216,17 @@ def edge(row):
     return (signed > 0) - (signed < 0) if kind in (8, 14) else row[5] > 0
 
 
-def steps(sheet, kind, data):
-    """What a case takes: the steps of the second implementation, and which ends of types stand in it."""
-    told = Listing(sheet, kind.encode(), data)
+def steps(schema, sheet, kind, data):
+    """What a case takes: the steps of the second implementation, what stands in lines for people, which ends of types stand in it, and what
+    python says where it does not read as 01 does."""
+    case = listing.Case("", sheet, kind.encode(), data)
+    told = case.run
     if told.refused:
         # what stands before a refusal does not show
-        return {step[:1] if step[0] == "19" else step for step in told.seen if step[0] in ("18", "19", "3", "reply")}
-    few = {step for step in told.seen if step[0] not in ("records", "options type", "level", "tag bytes", "overlong", "at level 31")}
+        few = {step[:1] if step[0] == "19" else step for step in told.seen if step[0] in ("18", "19", "3", "reply", "in a record")}
+        return few | {outcome(schema, kind, data)}
+    left_out = ("records", "options type", "level", "tag bytes", "overlong", "at level 31", "digits")
+    few = {step for step in case.seen if step[0] not in left_out}
     few |= {("overlong", step[1]) for step in told.seen if step[0] == "overlong"}
     numbers = [(parent, row[1]) for (_, parent), row in zip(told.by, told.rows)]
     few |= {("several", declared.type) for (declared, parent), row in zip(told.by, told.rows)
@@ -152,44 +236,51 @@ def steps(sheet, kind, data):
 
 
 def from_protoc():
+    """All that protoc writes for the file, with its queries."""
     made = Set(compiled(["plant_use.proto"], [FOLDER]))
     for name, kind, data in made.options:
         if name.startswith("/plant_use.proto"):
-            yield steps(made.sheet, kind, data), made.schema, kind, data, None, "protoc, the options of " + name[1:]
+            yield steps(made.schema, made.sheet, kind, data), recorded(made.schema, kind, data, "protoc, the options of " + name[1:])
 
 
 def from_python():
-    """Drawn cases, of each step one that takes it."""
+    """Of drawn cases, those that take a step which few others of them take in as few bytes."""
     python_options.rnd.seed(SEED)
-    least = {}
+    sheets.rnd.seed(SEED)
+    best = collections.defaultdict(list)
     for _ in range(DRAWN // 16):
         drawn = Drawn()
         for _ in range(16):
             kind = python_options.rnd.choice(drawn.kinds)
-            how, data, places = python_options.some_bytes(drawn, kind)
-            taken = steps(drawn.sheet, kind, data)
-            for step in sorted(taken, key=str) if len(data) < MOST else ():
-                # of each step the case that takes most others
-                if step not in least or len(taken) > len(least[step][0]):
-                    least[step] = taken, drawn.schema, kind, data, places, "python3-protobuf, %s" % how
-    return list({id(x): x for x in least.values()}.values())
+            how, data, _ = python_options.some_bytes(drawn, kind)
+            if len(data) < MOST:
+                taken = steps(drawn.schema, drawn.sheet, kind, data)
+                for step in taken:
+                    there = best[step]
+                    there.append((len(data) / len(taken), len(there), taken, drawn.schema, kind, data, "python3-protobuf, " + how))
+                    there.sort(key=lambda x: x[:2])
+                    del there[CANDIDATES:]
+    several = {(x[4], x[5]): x for there in best.values() for x in there}
+    for _, _, taken, schema, kind, data, what in several.values():
+        yield taken, recorded(schema, kind, data, what)
 
 
 def chosen():
-    """Of protoc's cases first, then of python's, those that together take every step that any of them takes."""
-    done, out = set(), []
-    for several in (list(from_protoc()), from_python()):
-        for case in several:
-            if case[5].split("/")[-1].split()[-1] in RICH:
-                out.append(case)
-                done |= case[0]
-        left = set().union(*(x[0] for x in several)) - done
-        done |= left
-        while left:
-            best = max(several, key=lambda x: (len(left & x[0]), -len(x[3])))
-            left -= best[0]
-            out.append(best)
-    return [recorded(*x[1:]) for x in out]
+    """All of protoc's cases, then of python's those that together take every step twice, the fewest bytes for a step first."""
+    done, out = collections.Counter(), []
+    for taken, case in from_protoc():
+        out.append(case)
+    left = list(from_python())
+    while True:
+        def worth(x):
+            return sum(1 for step in x[0] if done[step] < TWICE) / x[1][0].size()
+
+        best = max(left, key=worth)
+        if not worth(best):
+            return out
+        left.remove(best)
+        done.update(best[0])
+        out.append(best[1])
 
 
 def written(folder, name, cases):
@@ -198,32 +289,32 @@ def written(folder, name, cases):
         text = case.hex()
         digits += [text[i : i + 120] for i in range(0, len(text), 120)]
         lines += case.wanted
-        told = [x for x in case.second() if x.split()[0] in ("answer", "record", "absent")]
-        assert told == case.wanted, (case.what, case.hex(), told, case.wanted)
-    for end, text in (("stdin", digits), ("expected", lines)):
+        assert case.second() == case.wanted, (case.what, case.hex(), case.second(), case.wanted)
+    for end, text in (("stdin", digits), ("stdout", lines)):
         with open(os.path.join(folder, "%s.%s" % (name, end)), "w") as file:
             file.write("\n".join(text) + "\n")
     size = sum(case.size() for case in cases)
-    print("%s: %d cases, %d bytes of input, %d lines expected" % (name, len(cases), size, len(lines)))
+    print("%s: %d cases, %d bytes of input, %d of its text, %d lines expected" % (name, len(cases), size, sum(map(len, digits)) + len(digits), len(lines)))
 
 
 def main():
     folder = sys.argv[1]
     protoc_options.rnd.seed(SEED)
+    py.quiet()
     lists, queries, asked = [], [], collections.Counter()
     for case, more in chosen():
         lists.append(case)
         for query in more:
-            # of each number of parts and each type one or two, of small sheets
+            # of each number of parts and each type answered some, of small sheets
             kind = len(listing.tree(query.name)), *query.wanted[1].split()[3:4]
-            if asked[kind] < (1 if kind[0] == 1 or kind[0] > 3 else 2) and query.size() < 500:
+            if asked[kind] < QUERIES.get(kind[0], 1) and query.size() < 450:
                 asked[kind] += 1
                 queries.append(query)
-    written(folder, "recorded", lists)
-    written(folder, "recorded_query", queries)
+    written(folder, "optlist", lists)
+    written(folder, "optquery", queries)
     with open(os.path.join(folder, "recorded.md"), "w") as file:
         file.write(NOTE)
-        for title, cases in (("recorded.stdin", lists), ("recorded_query.stdin", queries)):
+        for title, cases in (("optlist", lists), ("optquery", queries)):
             file.write("\n## %s\n\n" % title)
             for n, case in enumerate(cases):
                 file.write("%d. %s, on %s: %s\n" % (n + 1, case.what, case.kind.decode(), "; ".join(case.wanted)[:100]))
@@ -233,9 +324,9 @@ NOTE = """# Recorded cases
 
 Written by compare/recorded_options.py with libprotoc 3.21.12 and python3-protobuf 4.21.12 (cpp). Bytes of the cases "protoc" are those
 that protoc wrote for compare/plant_use.proto, as they stand in its descriptor set; bytes of the cases "python3-protobuf" were built by it,
-"overlong" ones with varints made longer afterwards. What is expected is python3-protobuf's own reading (compare/python_reading.py); 18, 19
-and 3 stand where it reads what 01 refuses: groups, packed records, messages at level 31. The second implementation gives the same to every
-case.
+those of "overlong", "long" and "bits above" with varints changed afterwards, those of "damaged" with bytes changed. What is expected is
+python3-protobuf's own reading (compare/python_reading.py); where it refuses, the number is the second implementation's, which gives the
+same to every case.
 """
 
 if __name__ == "__main__":

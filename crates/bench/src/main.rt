@@ -1,7 +1,8 @@
 // Calls of the library for the bench. Input: 40 a sheet, 44 how often (4 bytes), then the cases, each 45 what is called (1 byte) and what
-// that takes: 0 `resolve` or 1 `resolve_tested`, 41 a request; 2 the search, 42 a scope and 43 a path. All cases are called so often, with
-// no test of the sheet before. The line says how many calls there were, how many were answered 0 or found a number, and a checksum of the
-// replies with their bytes and of the numbers, all modulo 2^32.
+// that takes: 0 `resolve` or 1 `resolve_tested`, 41 a request; 2 the search, 42 a scope and 43 a path. In place of cases it may have one
+// listing: 46 an options type, 47 option bytes. All is called so often, with no test of the sheet before. The line says how many calls there
+// were, how many were answered 0 or found a number, and a checksum of the replies with their bytes and of the numbers, all modulo 2^32; of a
+// listing the words are added once, or the bench would time that.
 ghost use Rattle.basis.specs.Kit.{_≤_, length};
 use console::input::Input;
 use console::input::MOST_BYTES;
@@ -30,6 +31,10 @@ const TIMES: u8 = 0x44;
 
 const CALL: u8 = 0x45;
 
+const OPTIONS_TYPE: u8 = 0x46;
+
+const OPTION_BYTES: u8 = 0x47;
+
 // What is called; any other number is `resolve`.
 const RESOLVE_TESTED: u8 = 1;
 
@@ -37,6 +42,9 @@ const SEARCH: u8 = 2;
 
 // The room that is lent for the option bytes of a request.
 const ROOM: usize = 65_536;
+
+// The room that is lent for the words of a listing: eight a record, of which 65,536 bytes hold at most 32,768.
+const WORDS: usize = 262_144;
 
 // What a case came to: 1 where it was answered, its reply or the number found, how many bytes were written, and where the next case starts.
 struct Case {
@@ -173,8 +181,68 @@ fn answer_all(s: &[u8], sheet: &[u8], from: usize, times: u32, out: &mut [u8])
     tell(done, answered, sum);
 }
 
+// The checksum with the first n words more.
+fn mixed_words(sum: u32, words: &[u32], n: usize) -> u32 {
+    let end = least(n, words.len());
+    let mut mix = sum;
+    let mut i = 0;
+    while i < end {
+        mix = wrapping_add_u32(wrapping_sub_u32(mix << 5, mix), words[i]);
+        i += 1;
+    }
+    mix
+}
+
+// The listing, so often.
+fn list_often(sheet: &[u8], options_type: &[u8], bytes: &[u8], times: u32, words: &mut [u32]) {
+    let mut answered = 0;
+    let mut sum = 0;
+    let mut length: usize = 0;
+    let mut done = 0;
+    while done < times {
+        let answer = listing::list_tested(sheet, options_type, bytes, words);
+        answered = wrapping_add_u32(answered, (answer.reply == 0) as u32);
+        sum = wrapping_add_u32(wrapping_sub_u32(sum << 5, sum), answer.reply);
+        length = answer.length as usize;
+        done += 1;
+    }
+    tell(done, answered, mixed_words(sum, words, length));
+}
+
+// The listing at a place, so often.
+fn list_at(s: &[u8], sheet: &[u8], at: usize, times: u32, words: &mut [u32])
+    requires { ⌜ at ≤ length (now s) ⌝ }
+{
+    let Leaf::At { from: a, to: e } = field_of(s, at, OPTIONS_TYPE) else {
+        return;
+    };
+    let Leaf::At { from, to } = field_of(s, e, OPTION_BYTES) else {
+        return;
+    };
+    list_often(sheet, &s[a..e], &s[from..to], times, words);
+}
+
+// Whether a listing stands at a place.
+fn lists(s: &[u8], at: usize) -> bool {
+    if at < s.len() {
+        return s[at] == OPTIONS_TYPE;
+    }
+    false
+}
+
+// All that stands from a place on, so often.
+fn call_all(s: &[u8], sheet: &[u8], from: usize, times: u32, out: &mut [u8], words: &mut [u32])
+    requires { ⌜ from ≤ length (now s) ⌝ }
+{
+    if lists(s, from) {
+        list_at(s, sheet, from, times, words);
+        return;
+    }
+    answer_all(s, sheet, from, times, out);
+}
+
 // The whole input.
-fn run(s: &[u8], out: &mut [u8]) {
+fn run(s: &[u8], out: &mut [u8], words: &mut [u32]) {
     let Leaf::At { from, to } = field_of(s, 0, SHEET) else {
         return;
     };
@@ -182,15 +250,21 @@ fn run(s: &[u8], out: &mut [u8]) {
         return;
     };
     if has_size(TIMES, n, cases, 4) {
-        answer_all(s, &s[from..to], cases, octets::u32_at(s, n), out);
+        call_all(s, &s[from..to], cases, octets::u32_at(s, n), out, words);
     }
+}
+
+// Standard input, read into a lent buffer.
+fn run_over(buffer: &mut [u8], out: &mut [u8], words: &mut [u32]) {
+    let Input::Bytes(n) = console::input::read(buffer) else {
+        return;
+    };
+    run(&buffer[..n], out, words);
 }
 
 fn main() {
     let mut buffer = [0u8; MOST_BYTES];
     let mut out = [0u8; ROOM];
-    let Input::Bytes(n) = console::input::read(&mut buffer) else {
-        return;
-    };
-    run(&buffer[..n], &mut out);
+    let mut words = [0u32; WORDS];
+    run_over(&mut buffer, &mut out, &mut words);
 }

@@ -24,4 +24,5 @@ run-spec = tie.close (tie.spec
     (λ c κs. search place-laws)
     (λ c. search)
     (λ c. search)
+    (λ c. search)
     (λ c. search))
