@@ -193,6 +193,8 @@ def recorded(schema, kind, data, what):
         return Case(what, small, kind, data, case.run.lines() + reading.people), []
     small = Small(schema, kind, data)
     reading = py.Reading(small.schema, kind, data)
+    # which names are drawn is the case's own, whatever came before it
+    protoc_options.rnd.seed(data)
     queries = []
     for fields in protoc_options.paths(reading.tree):
         row = py.follow(reading.tree, fields)
@@ -255,7 +257,7 @@ def from_python():
             how, data, _ = python_options.some_bytes(drawn, kind)
             if len(data) < MOST:
                 taken = steps(drawn.schema, drawn.sheet, kind, data)
-                for step in taken:
+                for step in sorted(taken, key=str):
                     there = best[step]
                     there.append((len(data) / len(taken), len(there), taken, drawn.schema, kind, data, "python3-protobuf, " + how))
                     there.sort(key=lambda x: x[:2])
@@ -299,7 +301,6 @@ def written(folder, name, cases):
 
 def main():
     folder = sys.argv[1]
-    protoc_options.rnd.seed(SEED)
     py.quiet()
     lists, queries, asked = [], [], collections.Counter()
     for case, more in chosen():
