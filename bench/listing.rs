@@ -56,11 +56,25 @@ fn find_message_by_abs_name(s: &[u8], path: &[u8]) -> Result<LookupScope, Refusa
     }
 }
 
+// The number of a declaration, read before the rest of it.
+fn said_at(s: &[u8], at: usize, end: usize) -> Option<u32> {
+    let n = sized_at(s, at, end, NUMBER, 4)?;
+    Some(u32::from_be_bytes([s[n.from], s[n.from + 1], s[n.from + 2], s[n.from + 3]]))
+}
+
+fn field_said(s: &[u8], from: usize, to: usize) -> Option<u32> {
+    said_at(s, leaf_at(s, from, to, NAME)?.to, to)
+}
+
+fn extension_said(s: &[u8], from: usize, to: usize) -> Option<u32> {
+    said_at(s, leaf_at(s, leaf_at(s, from, to, NAME)?.to, to, EXTENDEE)?.to, to)
+}
+
 fn field_numbered(s: &[u8], scope: LookupScope, number: u32) -> Option<Declaration> {
     let mut at = scope.body.from;
     while at < scope.body.to {
         let (tag, from, to) = field_at(s, at, scope.body.to)?;
-        if tag == FIELD {
+        if tag == FIELD && field_said(s, from, to) == Some(number) {
             if let Some(d) = message_field_at(s, from, to).filter(|d| d.shape.number == number) {
                 return Some(d);
             }
@@ -72,6 +86,9 @@ fn field_numbered(s: &[u8], scope: LookupScope, number: u32) -> Option<Declarati
 
 fn extension_in_item(s: &[u8], tag: u8, item: Span, left: usize, message: &[u8], number: u32) -> Option<Declaration> {
     if tag == EXTENSION {
+        if extension_said(s, item.from, item.to) != Some(number) {
+            return None;
+        }
         return extension_at(s, item.from, item.to)
             .filter(|d| d.shape.number == number && &s[d.extendee.from..d.extendee.to] == message);
     }

@@ -65,9 +65,9 @@ fn signed_word(w: i32) {
     number(size(w));
 }
 
-// The line `words`, with the first n words of a slice.
-pub fn words(ws: &[u32], n: usize) {
-    text(b"words");
+// A line of what the words are, and the first n words of a slice.
+pub fn words(what: &[u8], ws: &[u32], n: usize) {
+    text(what);
     let end = least(n, ws.len());
     let mut i = 0;
     while i < end {
@@ -77,6 +77,7 @@ pub fn words(ws: &[u32], n: usize) {
     text(b"\n");
 }
 
+// The line `words`, with the first n words of a slice.
 pub fn signed_words(ws: &[i32], n: usize) {
     text(b"words");
     let end = least(n, ws.len());

@@ -11,8 +11,6 @@ ghost use Rattle.limits.specs.Figures.{mostOptionBytes};
 ghost use Rattle.scope.specs.inner.Answers.{InSheet};
 ghost use Rattle.levels.specs.inner.Stack.{stackWords};
 ghost use Rattle.levels.specs.inner.Left.{Open};
-use console::output::number;
-use console::output::text;
 use fullname::LookedUp;
 use inputs::words::least;
 use levels::Cursor;
@@ -28,21 +26,10 @@ use scope::lookup::LookupScope;
 // The words of a record.
 const RECORD: usize = 8;
 
-fn show_word(word: u32) {
-    text(b" ");
-    number(word as u64);
-}
-
 // The line `record`, with the eight words from a place on, or with as many as there are.
 pub fn record(words: &[u32], at: usize) {
-    text(b"record");
-    let mut i = least(at, words.len());
-    let end = i + least(RECORD, words.len() - i);
-    while i < end {
-        show_word(words[i]);
-        i += 1;
-    }
-    text(b"\n");
+    let from = least(at, words.len());
+    console::output::words(b"record", &words[from..], RECORD);
 }
 
 // Such a line for each eight of the first n words.

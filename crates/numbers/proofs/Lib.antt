@@ -1,3 +1,4 @@
+pub mod SaysLaws
 pub mod NumberLaws
 pub mod PlaceLaws
 pub mod Controls

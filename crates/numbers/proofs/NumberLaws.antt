@@ -32,11 +32,12 @@ use Rattle.numbers.specs.Number.{hasNumber, isExtensionOf, fieldNumbered
 use Rattle.scope.proofs.Answers.{declared-or-else, declared-append, declared-listed, whose-laws}
 use Rattle.named.proofs.DeclaredPlaces.{declaration-at-ordered, declaration-at-places, places-laws}
 use Rattle.named.proofs.NamedLaws.{declarationWhere, declarations-seek}
+use Rattle.numbers.proofs.SaysLaws.{field-tag-other, field-says-other, extension-tag-other, extension-says-other}
 
 -- ---- field_numbered_at
-pub ruleset field-numbered-at-laws = (whose-laws, eq-eqb, ne-eqb)
+pub ruleset field-numbered-at-laws = (whose-laws, eq-eqb, ne-eqb, field-tag-other, field-says-other, not-true, not-false)
 
--- ---- extension_numbered_at
+-- ---- extension_read_at
 module _ (s m : List ℕ) (k : ℕ) (d : Declaration) where
   pub extension-of-other-number : (d .shape .number ≡ k → ⊥) → isExtensionOf s m k d ≡ false
   extension-of-other-number h = rw (ne-eqb (d .shape .number) k h)
@@ -48,7 +49,7 @@ module _ (s m : List ℕ) (k : ℕ) (d : Declaration) where
     pub extension-of-both : b ≡ true → isExtensionOf s m k d ≡ true
     extension-of-both g = rw (eq-eqb (d .shape .number) k h, ← q, g)
 
-pub ruleset extension-numbered-at-laws = (
+pub ruleset extension-read-at-laws = (
   whose-laws,
   extension-of-other-number,
   extension-of-other-message,
@@ -59,6 +60,9 @@ pub ruleset extension-numbered-at-laws = (
   not-true,
   not-false,
 )
+
+-- ---- extension_numbered_at
+pub ruleset extension-numbered-at-laws = (extension-tag-other, extension-says-other, not-true, not-false)
 
 -- ---- field_numbered
 pub field-numbered-is : (k : ℕ) (s : List ℕ) (p : LookupScope) (r : Declared)

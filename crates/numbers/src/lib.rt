@@ -1,5 +1,5 @@
 // The declaration of a number at a message: the message's fields first, then the sheet's extensions of it in the order of the bytes.
-ghost use Rattle.basis.specs.Kit.{_≡_};
+ghost use Rattle.basis.specs.Kit.{_≡_, _≤_, length};
 ghost use Rattle.field.specs.Leaf.{Lies};
 ghost use Rattle.field.specs.Walk.{walk};
 ghost use Rattle.sheet.specs.declared.declaration.Declared.the-variants.{NoDeclaration};
@@ -11,6 +11,7 @@ ghost use Rattle.scope.specs.Scope.{holding};
 ghost use Rattle.scope.specs.inner.Answers.{InSheet, declared};
 ghost use Rattle.scope.specs.inner.Steps.{declarationAt, tellsDeclared, whose, itemAt, fileAt};
 ghost use Rattle.numbers.specs.Number.{hasNumber, isExtensionOf, fieldNumbered, extensionNumbered, declarationOf};
+ghost use Rattle.numbers.specs.inner.Says.{saysNumber, fieldSays, extensionSays};
 use field::Field;
 use field::Leaf;
 use field::Span;
@@ -21,12 +22,67 @@ use scope::lookup::LookupScope;
 use sheet::declaration::Declared;
 use sheet::table;
 
+// Whether the number of a declaration is this one. It is read before the rest: most declarations that a look-up comes by are of another.
+fn says_number(s: &[u8], at: usize, end: usize, number: u32) -> bool
+    requires { ⌜ (at ≤ end) × (end ≤ length (now s)) ⌝ }
+    ensures { λ r. ⌜ r ≡ saysNumber number (now (s .entry)) at end ⌝ }
+{
+    let Leaf::At { from, to: _ } = field::sized_at(s, at, end, table::NUMBER, 4) else {
+        return false;
+    };
+    octets::u32_at(s, from) == number
+}
+
+// Whether a field says this number.
+fn field_says(s: &[u8], item: Span, number: u32) -> bool
+    requires { ⌜ Lies item (now s) ⌝ }
+    ensures { λ r. ⌜ r ≡ fieldSays number (now (s .entry)) (item .from) (item .to) ⌝ }
+{
+    let Leaf::At {
+        from: _,
+        to: shapes,
+    } = field::leaf_at(s, item.from, item.to, table::NAME)
+    else {
+        return false;
+    };
+    says_number(s, shapes, item.to, number)
+}
+
+// Whether an extension says this number.
+fn extension_says(s: &[u8], item: Span, number: u32) -> bool
+    requires { ⌜ Lies item (now s) ⌝ }
+    ensures { λ r. ⌜ r ≡ extensionSays number (now (s .entry)) (item .from) (item .to) ⌝ }
+{
+    let end = item.to;
+    let Leaf::At {
+        from: _,
+        to: extendees,
+    } = field::leaf_at(s, item.from, end, table::NAME)
+    else {
+        return false;
+    };
+    let Leaf::At {
+        from: _,
+        to: shapes,
+    } = field::leaf_at(s, extendees, end, table::EXTENDEE)
+    else {
+        return false;
+    };
+    says_number(s, shapes, end, number)
+}
+
 // The field of a message that a field of its body is, where it is of this number.
 fn field_numbered_at(s: &[u8], tag: u8, item: Span, number: u32) -> Declared
     requires { ⌜ Lies item (now s) ⌝ }
     ensures { λ r. ⌜ r ≡ whose NoDeclaration tellsDeclared (hasNumber number)
         (declarationAt fieldTag (now (s .entry)) tag (item .from) (item .to)) ⌝ }
 {
+    if tag != table::FIELD {
+        return Declared::NoDeclaration;
+    }
+    if !field_says(s, item, number) {
+        return Declared::NoDeclaration;
+    }
     let Declared::Declares(d) = declaration_at(s, tag, item.from, item.to, table::FIELD) else {
         return Declared::NoDeclaration;
     };
@@ -56,8 +112,8 @@ fn field_numbered(s: &[u8], scope: LookupScope, number: u32) -> Declared
     Declared::NoDeclaration
 }
 
-// The extension that a field of a scope is, where it is of this message and number.
-fn extension_numbered_at(s: &[u8], tag: u8, item: Span, message: &[u8], number: u32) -> Declared
+// The extension that a field of a scope is, where it is of this message and number, read as a whole.
+fn extension_read_at(s: &[u8], tag: u8, item: Span, message: &[u8], number: u32) -> Declared
     requires { ⌜ Lies item (now s) ⌝ }
     ensures { λ r. ⌜ r ≡ whose NoDeclaration tellsDeclared (isExtensionOf (now (s .entry)) (now (message .entry)) number)
         (declarationAt extensionTag (now (s .entry)) tag (item .from) (item .to)) ⌝ }
@@ -72,6 +128,21 @@ fn extension_numbered_at(s: &[u8], tag: u8, item: Span, message: &[u8], number: 
         return Declared::NoDeclaration;
     }
     Declared::Declares(d)
+}
+
+// The same, read as a whole only where its number is this one.
+fn extension_numbered_at(s: &[u8], tag: u8, item: Span, message: &[u8], number: u32) -> Declared
+    requires { ⌜ Lies item (now s) ⌝ }
+    ensures { λ r. ⌜ r ≡ whose NoDeclaration tellsDeclared (isExtensionOf (now (s .entry)) (now (message .entry)) number)
+        (declarationAt extensionTag (now (s .entry)) tag (item .from) (item .to)) ⌝ }
+{
+    if tag != table::EXTENSION {
+        return Declared::NoDeclaration;
+    }
+    if !extension_says(s, item, number) {
+        return Declared::NoDeclaration;
+    }
+    extension_read_at(s, tag, item, message, number)
 }
 
 // The first one in a field of a scope, at every depth, with `left` levels of messages left.

@@ -14,7 +14,7 @@ fn lower(payload: &[u8]) {
     let a = oneofs::lower_fields(&words[..n], &mut out);
     console::output::answer(a);
     if a.reply == 0 {
-        console::output::words(&out, a.length as usize);
+        console::output::words(b"words", &out, a.length as usize);
     }
 }
 

@@ -6,11 +6,8 @@ use Rattle.numbers.proofs.extension_numbered_at.Tie as tie
 
 pub extension-numbered-at-spec : {M : Type 1} → statement M
 extension-numbered-at-spec = tie.close (tie.spec
+    (λ c. search extension-numbered-at-laws)
     (λ c κs. search)
-    (λ c. search)
-    (λ c. search)
     (λ c. search extension-numbered-at-laws)
-    (λ c. search extension-numbered-at-laws)
-    (λ c κs. search extension-numbered-at-laws)
-    (λ c. search extension-numbered-at-laws)
-    (λ c. search extension-numbered-at-laws))
+    (λ c κs. search)
+    (λ c. search))

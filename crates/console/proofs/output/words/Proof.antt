@@ -6,14 +6,13 @@ use Rattle.console.proofs.output.words.Statement.{statement}
 use Rattle.console.proofs.output.words.Tie as tie
 
 abbrev Inv-loop : tie.InvT-loop
-Inv-loop ws n end i₀ t6 i = Unit
+Inv-loop what ws n end i₀ t6 i = Unit
 
 abbrev μ-loop : tie.MeasureT-loop
-μ-loop ws n end i₀ t6 i = end - i
+μ-loop what ws n end i₀ t6 i = end - i
 
 pub words-spec : {M : Type 1} → statement M
 words-spec = tie.close (tie.spec Inv-loop μ-loop
-    (λ c. search)
     (λ c κs. search)
     (λ c κs. search)
     (λ c. search)
