@@ -6,7 +6,7 @@ usage: listing.py [ROUNDS] [--program PROGRAM]
 
 The sheet is that of resolve.py, 200 extensions of eight types. Listed are 64 KB of option bytes, of which each record has the number of
 one of these extensions, now and then of a field of the options type or of nothing: flat, with scalars and strings alone; nested, where
-each is a message of one to 31 levels; and shallow, scalars of an options type whose six fields are all that the sheet has, so that a
+each is a message of one to 31 levels; and shallow, scalars of an options type whose five fields are all that the sheet has, so that a
 look-up of a number is short. PROGRAM is bench as `rt check` builds it for x86-64, target/bin/bench if none is given; on another
 machine it has to be one that was compiled for that (docs/SPEED.md); `none` leaves it out. listing.rs is built here by rustc at level 3, as
 bench is by its compiler. Both read the same input and have to print the same line.
@@ -153,7 +153,7 @@ def workloads():
 
 
 def most():
-    """Listings that cost much, likewise. A full sheet has 1,200 extensions of other numbers and then the one that is listed."""
+    """Listings that cost much, likewise. A full sheet has 1,258 extensions of another number and then the one that is listed."""
     def full(last):
         small = member(3, b"x", 1000, UINT32, extendee=b"M")
         many = (32768 - 6 - len(last)) // len(small)

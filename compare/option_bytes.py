@@ -388,8 +388,9 @@ def nest(levels, inside, number=19):
 
 # the figures of "Most allowed", with the replies at each and one past it; option bytes of 65,537 cannot be written
 FIGURES = {"sheet of 32768 bytes": [0], "sheet of 32769 bytes": [3], "8 files": [0], "9 files": [3], "messages 16 deep": [0],
-           "messages 17 deep": [3], "name of 64 bytes in the sheet": [0], "name of 65 bytes in the sheet": [1], "type path of 255 bytes": [7],
-           "type path of 256 bytes": [2], "records at level 31": [0], "message at level 31": [3], "65535 option bytes": [0, 18]}
+           "messages 17 deep": [3], "name of 64 bytes in the sheet": [0], "name of 65 bytes in the sheet": [1],
+           "type path of 255 bytes": [7], "type path of 256 bytes": [2], "records at level 31": [0], "message at level 31": [3],
+           "65535 option bytes": [0, 18]}
 ASKED = {"16 parts": [0, 9], "17 parts": [3], "path of 255 bytes": [4], "path of 256 bytes": [2], "name of 64 bytes": [9],
          "name of 65 bytes": [2], "65535 option bytes": [0, 18]}
 
@@ -429,7 +430,7 @@ def figures():
         yield "65535 option bytes", sheet, b"o.F", data, [("65535 option bytes", f(0x1A, b"f13"))]
     r, last = f(0x1A, b"r"), f(0x1A, b"f13")
     names = [("16 parts", r * 15 + last), ("16 parts", r * 15 + f(0x1A, b"no")), ("17 parts", r * 16 + last), ("17 parts", r * 17)]
-    names += [("path of 255 bytes", f(0x1B, long)), ("path of 256 bytes", f(0x1B, b"." + long)), ("path of 256 bytes", f(0x1B, long + b"a"))]
+    names += [("path of %d bytes" % len(path), f(0x1B, path)) for path in (long, b"." + long, long + b"a")]
     names += [("name of %d bytes" % n, f(0x1A, b"n" * n)) for n in (64, 65)]
     for data in (nest(15, v), b"", nest(15, v) + nest(14, v)):
         yield "", sheet, b"o.F", data, names

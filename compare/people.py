@@ -38,7 +38,7 @@ class Names:
             self.scope(package, items, True)
 
     def scope(self, full, items, counts):
-        """What stands in a file or a message. Every extension of the sheet is kept by the text of its extendee, in the order of the bytes."""
+        """What stands in a file or a message. Every extension of the sheet is kept by the text of its extendee, in order of the bytes."""
         there = set()
         for tag, payload in items:
             (_, name), *inside = nodes(payload)
@@ -115,7 +115,8 @@ class Names:
             leaves, name = self.declared(inside[level], number)
             path = leaves.get(0x16)
             line = "%s%s %d %s" % (start, name, number, SCALARS[of] if of in SCALARS else path.decode())
-            self.seen.add(("line", "extension" if name[0] == "(" else "field", "scalar" if of in SCALARS else "enum" if of == 14 else "message"))
+            by = "extension" if name[0] == "(" else "field"
+            self.seen.add(("line", by, "scalar" if of in SCALARS else "enum" if of == 14 else "message"))
             if of == 11:
                 inside.append(path)
             else:
@@ -133,7 +134,8 @@ def steps():
     """What a comparison has to hit, for a table."""
     yield "lines for people, unknown", [("line", "?", wire) for wire in WIRES.values()]
     yield "lines for people, known", [("line", by, of) for by in ("field", "extension") for of in ("scalar", "enum", "message")]
-    yield "enum values", [("enum", how + below) for how in ("listed", "listed more than once", "not listed") for below in ("", ", below zero")]
+    hows = ("listed", "listed more than once", "not listed")
+    yield "enum values", [("enum", how + sign) for how in hows for sign in ("", ", below zero")]
     yield "enum values whose enum is", [("enum", how) for how in ("none", "more than one")]
     yield "bytes of strings and bytes", [("byte", how) for how in KINDS_OF_BYTES]
     yield "bools for people", [("bool", n) for n in (0, 1)]

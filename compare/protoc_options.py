@@ -9,8 +9,9 @@ messages, alone and repeated; plant_use.proto sets them by hand; FILES more file
 are known here before protoc sees them. protoc compiles them with --include_imports. The option bytes are those of the descriptor set as
 they stand there, not written again by anyone: the records of a FileDescriptorSet are followed down to the options by their numbers. The
 sheet is made of the set's own descriptors, descriptor.proto among them. python_reading.py says what python reads, as rows and as lines for
-people; the listing has to be these, and the query of each option that is there its last record. Of the drawn files the values that python reads have to be
-those that were drawn. A program that is `none` is left out, and options_reader.py, the second implementation, is asked in its place.
+people; the listing has to be these, and the query of each option that is there its last record. Of the drawn files the values that python
+reads have to be those that were drawn. A program that is `none` is left out, and options_reader.py, the second implementation, is asked in
+its place.
 """
 import argparse
 import collections

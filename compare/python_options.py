@@ -11,12 +11,12 @@ after each other ("filled"); record by record, in any order, with unknown number
 singular fields several times ("records"); the same with 64 bits set where the type keeps fewer, and any bytes as strings ("wide"), with
 known numbers on other wire types ("other wire types"), or with tags, lengths and values made overlong here, to five bytes and ten
 ("overlong"), all to ten ("long"), or with bits set above the 32 or 64 that are read ("bits above"); records one in the other, up to 60
-levels ("deep"); and any of these with bytes changed, lost or put in ("damaged"). python_reading.py says what python reads, as rows and as lines for people. The listing has to be these: number, type, wire
-type, place, length, value, level and order, and every line. Where python reads what 01 refuses (docs/DIFFERENCES.md) the refusal is what is
-expected; where python refuses, so has the listing to, and which of 18, 19 and 3 it is says the second implementation; but tags and lengths
-of more than five bytes, which python does not read, have to be listed as python reads the same records with shorter ones. All this is
-counted. Beside that python's reading by the labels as they are has to be what the rows come to, and the query of a name the last record of
-it.
+levels ("deep"); and any of these with bytes changed, lost or put in ("damaged"). python_reading.py says what python reads, as rows and as
+lines for people. The listing has to be these: number, type, wire type, place, length, value, level and order, and every line. Where python
+reads what 01 refuses (docs/DIFFERENCES.md) the refusal is what is expected; where python refuses, so has the listing to, and which of 18,
+19 and 3 it is says the second implementation; but tags and lengths of more than five bytes, which python does not read, have to be listed
+as python reads the same records with shorter ones. All this is counted. Beside that python's reading by the labels as they are has to be
+what the rows come to, and the query of a name the last record of it.
 
 A program that is `none` is left out, and options_reader.py, the second implementation, is asked in its place.
 """
@@ -528,7 +528,8 @@ def compare(cases, programs, calls):
 
 # what python reads otherwise, each with its reason: docs/DIFFERENCES.md
 OTHERWISE = ["3: a message at level 31", "18: a group", "18: a tag above 32 bits, of which python keeps 32",
-             "18: a tag of number 0 or of a group's end, where python stops reading", "18: a varint above 64 bits, of which python keeps 64",
+             "18: a tag of number 0 or of a group's end, where python stops reading",
+             "18: a varint above 64 bits, of which python keeps 64",
              "19: another wire type, which python takes for an unknown record", "19: packed"]
 LISTED = ["a string that is not UTF-8, of a proto2 file", "a string that is not UTF-8, of a proto3 file", "enum numbers set aside",
           "a tag or a length of more than five bytes, which python refuses"]

@@ -295,8 +295,8 @@ def written(folder, name, cases):
     for end, text in (("stdin", digits), ("stdout", lines)):
         with open(os.path.join(folder, "%s.%s" % (name, end)), "w") as file:
             file.write("\n".join(text) + "\n")
-    size = sum(case.size() for case in cases)
-    print("%s: %d cases, %d bytes of input, %d of its text, %d lines expected" % (name, len(cases), size, sum(map(len, digits)) + len(digits), len(lines)))
+    size, text = sum(case.size() for case in cases), sum(len(line) + 1 for line in digits)
+    print("%s: %d cases, %d bytes of input, %d of its text, %d lines expected" % (name, len(cases), size, text, len(lines)))
 
 
 def main():
