@@ -1,8 +1,8 @@
 // Calls of the library for the bench. Input: 40 a sheet, 44 how often (4 bytes), then the cases, each 45 what is called (1 byte) and what
 // that takes: 0 `resolve` or 1 `resolve_tested`, 41 a request; 2 the search, 42 a scope and 43 a path. In place of cases it may have one
-// listing: 46 an options type, 47 option bytes. All is called so often, with no test of the sheet before. The line says how many calls there
-// were, how many were answered 0 or found a number, and a checksum of the replies with their bytes and of the numbers, all modulo 2^32; of a
-// listing the words are added once, or the bench would time that.
+// listing: 46 an options type, 47 option bytes. All is called so often, with no test of the sheet before. The line says how many calls
+// there were, how many were answered 0 or found a number, and a checksum of the replies with their bytes and of the numbers, all modulo
+// 2^32; of a listing the words are added once, or the bench would time that.
 ghost use Rattle.basis.specs.Kit.{_≤_, length};
 use console::input::Input;
 use console::input::MOST_BYTES;

@@ -1,5 +1,5 @@
--- Closed cases of the records of option bytes, which the checker computes: of each rule cases that hold, cases at its border, and cases that
--- are refused. The expected words and replies come from a second implementation of 01, and of a few cases from a reading by hand.
+-- Closed cases of the records of option bytes, which the checker computes: of each rule cases that hold, cases at its border, and cases
+-- that are refused. The expected words and replies come from a second implementation of 01, and of a few cases from a reading by hand.
 -- Assumes nothing.
 use Rattle.basis.specs.Kit.{_≡_, refl, true, false, List, [], _∷_, _++_, map, ℕ, zero, suc, _+_, _-_, _*_, ltb, length}
 use Rattle.basis.specs.First.{told, onlyIf}

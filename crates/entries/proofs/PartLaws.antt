@@ -14,7 +14,8 @@ drop-take (suc n) (suc k) (x ∷ xs) = let q : suc k - suc n ≡ k - n = omega a
 pub part-behind : (s : List ℕ) (at n end : ℕ) → drop n (part s at end) ≡ part s (at + n) end
 part-behind s at n end = let q : end - at - n ≡ end - (at + n) = omega arith in rw (drop-take, drop-drop, q)
 
-pub part-inside : (s : List ℕ) (at n size end : ℕ) → at + n + size ≤ end → take size (drop n (part s at end)) ≡ part s (at + n) (at + n + size)
+pub part-inside : (s : List ℕ) (at n size end : ℕ) → at + n + size ≤ end
+    → take size (drop n (part s at end)) ≡ part s (at + n) (at + n + size)
 part-inside s at n size end h =
     let q : at + n + size - (at + n) ≡ size = omega arith in
     rw (part-behind s at n end, q) (take-take size (end - (at + n)) (drop (at + n) s) (omega arith))

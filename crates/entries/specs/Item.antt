@@ -1,5 +1,5 @@
--- One reading step: the record at the front of the bytes left, from 01's "Listing and lowering". "A record gives 18 for the tag and its wire
--- type, then 19, 18 for the payload, 7 or 8 for a known message's type path, then 3".
+-- One reading step: the record at the front of the bytes left, from 01's "Listing and lowering". "A record gives 18 for the tag and its
+-- wire type, then 19, 18 for the payload, 7 or 8 for a known message's type path, then 3".
 --
 --                  Item == records that hold nothing, and how many bytes they take; or a known message: its record, itself, how many bytes
 --                          stand before its inside, and how many that has; or why there is none

@@ -1,4 +1,5 @@
--- Option bytes as the tree of their records: the first fault from the front, or the tree. Structural on the bytes; levels are the only fuel.
+-- Option bytes as the tree of their records: the first fault from the front, or the tree. Structural on the bytes; levels are the only
+-- fuel.
 --
 --                   Listed == the records at a level, or the first fault
 --               onward f x == f of the records of x

@@ -1,5 +1,5 @@
--- Closed cases of the record that declarations lead to, which the checker computes. Of singular fields Encoding says, under "Last One Wins",
--- that the last value counts, and of messages that their records are merged: that is what `joins` says of a declaration.
+-- Closed cases of the record that declarations lead to, which the checker computes. Of singular fields Encoding says, under "Last One
+-- Wins", that the last value counts, and of messages that their records are merged: that is what `joins` says of a declaration.
 -- Assumes nothing.
 use Rattle.basis.specs.Kit.{_≡_, refl, true, List, [], _∷_, Option, none, some, ℕ}
 use Rattle.field.specs.Leaf.{span}

@@ -61,7 +61,8 @@ module _ (ks : List ℕ) (n : ℕ) (f : Followed) (x : Row) (m : ℕ) (q : m ≡
         follow-last h b k = rw (← k) (sym (by-key ∙ simp (byKey, key-seen, g, eq-eqb (x .level + 1) n h)))
 
         module _ (h : x .level + 1 ≡ n → ⊥) where
-          pub follow-joined : (getD ks (x .level * keyWords + 1) 0 ≡ 0 → ⊥) → record { matched = x .level + 1; best = f .best } ≡ follow ks n f x
+          pub follow-joined : (getD ks (x .level * keyWords + 1) 0 ≡ 0 → ⊥)
+              → record { matched = x .level + 1; best = f .best } ≡ follow ks n f x
           unfolding keyAt
           follow-joined j =
               sym (by-key ∙ simp (byKey, key-seen, g, ne-eqb (x .level + 1) n h, ne-eqb (getD ks (x .level * keyWords + 1) 0) 0 j))

@@ -1,5 +1,5 @@
--- The rows of a tree, followed by the keys of a name's declarations, come to the row that these declarations lead to, whichever of them join
--- their records.
+-- The rows of a tree, followed by the keys of a name's declarations, come to the row that these declarations lead to, whichever of them
+-- join their records.
 --
 --                kept joins d b ==  what was found before a record that d lists, where that still counts
 --   bestAfter joins b l d ds t ==  the best row after the records t at the level l, b being the one before, by the declarations d and then ds
@@ -192,7 +192,8 @@ module _ (joins : Declaration → Bool) where
         go true q = all-joined q NoneYet t ∙ simp (inside, q)
         go false q = anew q end t ∙ simp (inside, q)
 
-  after-reached : (l : ℕ) (d : Declaration) (ds : List Declaration) (t : Tree) → bestAfter NoneYet l d ds t ≡ bestOf (reached joins l (d ∷ ds) t)
+  after-reached : (l : ℕ) (d : Declaration) (ds : List Declaration) (t : Tree)
+      → bestAfter NoneYet l d ds t ≡ bestOf (reached joins l (d ∷ ds) t)
   after-reached l d [] t = after-last l d none t
   after-reached l d (o ∷ ds) t = after-inside l d o ds t ∙ after-reached (suc l) o ds (inside joins d t)
 
@@ -201,7 +202,8 @@ module _ (joins : Declaration → Bool) where
     abbrev Goes : (level : ℕ) → Declaration → List Declaration → Tree → Type 0
     Goes l d ds t = (f : Followed) → l ≤ f .matched → Gone l (bestAfter (f .best) l d ds t) (followed ks n f (rows l t))
 
-    goes-on : (l : ℕ) (d : Declaration) (ds : List Declaration) (b : Best) (f g : Followed) (t : Tree) → f ≡ g → l ≤ g .matched → g .best ≡ b
+    goes-on : (l : ℕ) (d : Declaration) (ds : List Declaration) (b : Best) (f g : Followed) (t : Tree) → f ≡ g → l ≤ g .matched
+        → g .best ≡ b
         → Goes l d ds t → Gone l (bestAfter b l d ds t) (followed ks n f (rows l t))
     goes-on l d ds b f g t e o q r =
         subst (λ (x : Followed). Gone l (bestAfter b l d ds t) (followed ks n x (rows l t))) (sym e)
@@ -266,7 +268,8 @@ module _ (joins : Declaration → Bool) where
         λ f o. goes-held l d (cc) e t (omega arith) m ds (goes l d (m ∷ ds) k h t) f o i (goes (suc l) m ds (cc) (omega arith) i)
 
   -- ---- the whole
-  pub followed-reached : (ks : List ℕ) (ds : List Declaration) (n : ℕ) (t : Tree) → n ≡ 0 + length ds → keysFrom ks 0 (length ds) ≡ map (keyOf joins) ds
+  pub followed-reached : (ks : List ℕ) (ds : List Declaration) (n : ℕ) (t : Tree) → n ≡ 0 + length ds
+      → keysFrom ks 0 (length ds) ≡ map (keyOf joins) ds
       → followed ks n nothingYet (rows 0 t) .best ≡ bestOf (reached joins 0 ds t)
   followed-reached ks [] n t h k = rw h (followed-none ks nothingYet (rows 0 t))
   followed-reached ks (d ∷ ds) n t h k = goes ks n 0 d ds k h t nothingYet (omega arith) .best ∙ after-reached 0 d ds t

@@ -29,8 +29,10 @@ use Rattle.levels.specs.declared.Event.{Event}
 use Rattle.levels.specs.declared.Event.the-variants.{Record, End, Wrong}
 use Rattle.levels.specs.inner.Stack.{levelWords, wordsOf, levelAt, messageIn}
 use Rattle.levels.specs.inner.Left.{left, OpenAt, Open, Settles, StepsIn, too-deep, steps-in, Moves, moves, ends, wrongs}
-use Rattle.levels.proofs.OpenLaws.{settled-few, settled-more, settled-open, open-later, open-ahead, open-within, open-name, open-place, open-inside}
-use Rattle.levels.proofs.LeftLaws.{message-outer, message-other, left-none, left-settled, left-wrong, left-leaf, left-deep, left-inside}
+use Rattle.levels.proofs.OpenLaws.{settled-few, settled-more, settled-open, open-later, open-ahead}
+use Rattle.levels.proofs.OpenLaws.{open-within, open-name, open-place, open-inside}
+use Rattle.levels.proofs.LeftLaws.{message-outer, message-other, left-none, left-settled, left-wrong}
+use Rattle.levels.proofs.LeftLaws.{left-leaf, left-deep, left-inside}
 
 -- ---- `step_in`
 module _ (st : List ℕ) (d : ℕ) (e : Entry) (p : Span) (q : LookupScope) where

@@ -1,6 +1,7 @@
 -- The stack as words: how its words are laid, a level that was written is read again, and those below it stay.
 -- Assumes nothing.
-use Rattle.basis.specs.Kit.{_≡_, refl, sym, ap, _∙_, Bool, true, false, List, [], _∷_, ℕ, zero, suc, _+_, _*_, _≤_, _<_, length, getD, eqb, sets}
+use Rattle.basis.specs.Kit.{_≡_, refl, sym, ap, _∙_, Bool, true, false, List, [], _∷_, ℕ}
+use Rattle.basis.specs.Kit.{zero, suc, _+_, _*_, _≤_, _<_, length, getD, eqb, sets}
 use Rattle.basis.proofs.Kit.{arith}
 use mathlib.Core.Bool.{not}
 use native.Mathlib.Nat.{add-zero, add-suc, suc-add}

@@ -1,5 +1,5 @@
-// The levels of option bytes that are open, as a stack in lent memory, and the one function that moves it: it reads the record at a place and
-// answers it as a row, with where to go on. Whoever reads option bytes goes through it; nothing recurses over bytes.
+// The levels of option bytes that are open, as a stack in lent memory, and the one function that moves it: it reads the record at a place
+// and answers it as a row, with where to go on. Whoever reads option bytes goes through it; nothing recurses over bytes.
 ghost use Rattle.basis.specs.Kit.{_≡_, suc, _+_, _*_, _≤_, _<_, length, sets};
 ghost use Rattle.limits.specs.Figures.{mostOptionBytes, mostLevels};
 ghost use Rattle.field.specs.Leaf.{Lies};
@@ -21,8 +21,8 @@ use reply::Refusal;
 use reply::Verdict;
 use scope::lookup::LookupScope;
 
-// A level that is open: where the bytes of its message end, the message's path in the sheet, and its place there. The outermost has no path:
-// its name is the options type.
+// A level that is open: where the bytes of its message end, the message's path in the sheet, and its place there. The outermost has no
+// path: its name is the options type.
 pub struct Level {
     pub end: usize,
     pub name: Span,

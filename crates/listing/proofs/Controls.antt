@@ -1,5 +1,5 @@
--- Closed cases of the whole call `list`, which the checker computes: the first fault of each input in its order, then the look-up of the options
--- type, the words of the records, and room last.
+-- Closed cases of the whole call `list`, which the checker computes: the first fault of each input in its order, then the look-up of the
+-- options type, the words of the records, and room last.
 -- Assumes nothing.
 use Rattle.basis.specs.Kit.{_≡_, refl, List, [], _∷_, _++_, map, ℕ}
 use lib.ListN.{replicate}

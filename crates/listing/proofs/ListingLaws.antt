@@ -1,5 +1,5 @@
--- The laws of `options_message`, `list_tested` and `list`: the first fault of the inputs, the message that the options type is, and that the
--- words of its rows are the listing; and that of a sheet of the right form the whole test says no more than its length's.
+-- The laws of `options_message`, `list_tested` and `list`: the first fault of the inputs, the message that the options type is, and that
+-- the words of its rows are the listing; and that of a sheet of the right form the whole test says no more than its length's.
 -- Assumes nothing.
 use Rattle.basis.specs.Kit.{_≡_, refl, sym, ap, _∙_, List, ℕ, _≤_, length}
 use Rattle.basis.proofs.Never.{never}

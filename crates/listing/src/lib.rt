@@ -1,5 +1,5 @@
-// The call `list`: the records of option bytes under a sheet, eight words a record. They are counted first, which finds the first fault, and then
-// written over the lent memory, so that a refusal writes nothing and NoRoom comes last.
+// The call `list`: the records of option bytes under a sheet, eight words a record. They are counted first, which finds the first fault,
+// and then written over the lent memory, so that a refusal writes nothing and NoRoom comes last.
 ghost use Rattle.basis.specs.Kit.{_≡_, _*_, _≤_, length};
 ghost use Rattle.limits.specs.Figures.{mostOptionBytes, mostLevels};
 ghost use Rattle.reply.specs.Outcome.{Answered};
@@ -109,8 +109,8 @@ fn list_in(
     list_over(sheet, options_type, place, bytes, &mut stack, out)
 }
 
-// The message that the options type is, or why there is none: that the sheet is too long, the first fault of the options type and the length of
-// the option bytes, or its look-up. The form of the sheet was tested before.
+// The message that the options type is, or why there is none: that the sheet is too long, the first fault of the options type and the
+// length of the option bytes, or its look-up. The form of the sheet was tested before.
 fn options_message(sheet: &[u8], options_type: &[u8], bytes: &[u8]) -> LookedUp
     ensures { λ r. ⌜ r ≡ admitted (judgeLength (now (sheet .entry))) (now (sheet .entry)) (now («options_type» .entry)) (now (bytes .entry)) ⌝ }
 {
@@ -137,8 +137,8 @@ pub fn list_tested(sheet: &[u8], options_type: &[u8], bytes: &[u8], out: &mut [u
     }
 }
 
-// The records of option bytes under a sheet, eight words a record: level, number, type, wire type, place and length of the payload, value low,
-// value high.
+// The records of option bytes under a sheet, eight words a record: level, number, type, wire type, place and length of the payload, value
+// low, value high.
 pub fn list(sheet: &[u8], options_type: &[u8], bytes: &[u8], out: &mut [u32]) -> Answer
     ensures { λ r. ⌜ Answered (listing (now (sheet .entry)) (now («options_type» .entry)) (now (bytes .entry)))
         (now (out .entry)) (now (out .exit)) r ⌝ }

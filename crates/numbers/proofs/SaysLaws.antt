@@ -1,5 +1,5 @@
--- The laws of the test that a declaration's number takes before the rest of it is read: the ways through `says_number`, `extension_says` and
--- `field_says`, and that what they refuse is no declaration of the number.
+-- The laws of the test that a declaration's number takes before the rest of it is read: the ways through `says_number`, `extension_says`
+-- and `field_says`, and that what they refuse is no declaration of the number.
 -- Assumes nothing.
 use Rattle.basis.specs.Kit.{_≡_, refl, sym, _∙_, Bool, true, false, List, ℕ, eqb, getD}
 use Rattle.basis.proofs.Kit.{ne-eqb, not-true}
@@ -119,7 +119,8 @@ refused good NoDeclaration h = refl
 refused good (Declares d) h = rw (h d refl)
 
 module _ (k : ℕ) (s : List ℕ) (t a e : ℕ) where
-  pub field-tag-other : (t ≡ fieldTag → ⊥) → NoDeclaration ≡ whose NoDeclaration tellsDeclared (hasNumber k) (declarationAt fieldTag s t a e)
+  pub field-tag-other : (t ≡ fieldTag → ⊥)
+      → NoDeclaration ≡ whose NoDeclaration tellsDeclared (hasNumber k) (declarationAt fieldTag s t a e)
   unfolding declarationAt
   field-tag-other h =
       refused (hasNumber k) _ λ d p. absurd (other-tag d (eqb t fieldTag) (messageFieldAt s a e) (ne-eqb t fieldTag h) p)

@@ -29,8 +29,8 @@ payloadOf : List ℕ → Asked → Handed
 unfolding payloadSpan payloadAnswer judgePayload judgeBytes
 payloadOf bs a = hands (payloadSpan bs (a .from) (a .size)) (payloadAnswer bs (a .from) (a .size))
 
--- inside, all of them, at the end with no length, at the start likewise; a byte past the end, a place past the end, and a place and a length whose
--- sum passes the largest number
+-- inside, all of them, at the end with no length, at the start likewise; a byte past the end, a place past the end, and a place and a
+-- length whose sum passes the largest number
 payloads :
     map (payloadOf (0x52 ∷ 0x03 ∷ 7 ∷ 8 ∷ 9 ∷ []))
     (asks 2 3 ∷ asks 0 5 ∷ asks 5 0 ∷ asks 0 0 ∷ asks 2 4 ∷ asks 6 0 ∷ asks (2 ^ 64 - 1) 1 ∷ asks 1 (2 ^ 64 - 1) ∷ [])

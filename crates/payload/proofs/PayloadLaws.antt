@@ -1,5 +1,5 @@
--- The laws of `payload`: the ways through the test of a place and a length, what it says where it is fine, and the part and the answer of its
--- verdict.
+-- The laws of `payload`: the ways through the test of a place and a length, what it says where it is fine, and the part and the answer of
+-- its verdict.
 -- Assumes nothing.
 use Rattle.basis.specs.Kit.{_≡_, refl, sym, ap, _∙_, Bool, true, false, List, ℕ, _+_, _-_, _≤_, _<_, leb, length}
 use Rattle.basis.proofs.Kit.{arith, Fits, w64}

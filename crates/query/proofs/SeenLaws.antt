@@ -1,5 +1,5 @@
--- All rows followed, and what the name makes of the best one: the loop of `follow_rows`, and the ways through `count_of`, `settle`, `see_rows`
--- and `query_over`.
+-- All rows followed, and what the name makes of the best one: the loop of `follow_rows`, and the ways through `count_of`, `settle`,
+-- `see_rows` and `query_over`.
 -- Assumes nothing.
 use Rattle.basis.specs.Kit.{_≡_, refl, sym, ap, _∙_, List, [], _∷_, map, ℕ, _+_, _*_, _≤_, length}
 use Rattle.basis.proofs.Kit.{arith}

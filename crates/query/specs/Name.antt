@@ -1,5 +1,5 @@
--- The declarations that the parts of a name come to, no option byte being read. 01, Listing and lowering: "then the name by the option steps
--- from an empty scope, a direct part always a field (9)".
+-- The declarations that the parts of a name come to, no option byte being read. 01, Listing and lowering: "then the name by the option
+-- steps from an empty scope, a direct part always a field (9)".
 --
 --                       Named == the declarations of a name's parts; or that parts are left on a group; or why not, and of which part
 --                    also d n == the declaration d, then those of n

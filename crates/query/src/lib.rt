@@ -212,8 +212,8 @@ fn answer_of(seen: Seen, out: &mut [u32]) -> Answer
     }
 }
 
-// The message that the options type is, or why there is none: that the sheet is too long, the first fault of the options type, the name and the
-// length of the option bytes, or its look-up. The form of the sheet was tested before.
+// The message that the options type is, or why there is none: that the sheet is too long, the first fault of the options type, the name
+// and the length of the option bytes, or its look-up. The form of the sheet was tested before.
 fn options_message(sheet: &[u8], options_type: &[u8], name: &[u8], bytes: &[u8]) -> LookedUp
     ensures { λ r. ⌜ r ≡ admitted (judgeLength (now (sheet .entry))) (now (sheet .entry)) (now («options_type» .entry)) (now (name .entry))
         (now (bytes .entry)) ⌝ }
