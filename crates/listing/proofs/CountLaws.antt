@@ -23,16 +23,8 @@ use Rattle.entries.specs.inner.Fronts.{message}
 use Rattle.levels.specs.declared.Cursor.{Cursor}
 use Rattle.levels.specs.inner.Left.{flat, left, Starts}
 use Rattle.levels.proofs.StartLaws.{start-open, start-left}
-use Rattle.rows.specs.inner.Worded.{worded, WroteAtMost}
+use Rattle.listing.specs.inner.Worded.{worded, WroteAtMost}
 use Rattle.listing.specs.inner.Admitted.{counted}
-
--- ---- put_all_rows
-module _ (p : LookupScope) (bs st : List ℕ) (c : Cursor) (k : Starts p bs st c) where
-  pub all-put : (s type l l′ : List ℕ) (r : Put) → Puts (worded (left (walking s) s type bs st (c .depth) (c .at))) 0 l l′ r
-      → Puts (worded (flat 0 (reading (walking s) s mostLevels (message type p) 0 bs))) 0 l l′ r
-  all-put s type l l′ r h = rw (← (start-left p bs st c k (walking s) s type)) h
-
-pub ruleset all-laws = (start-open, all-put)
 
 -- ---- count_words
 pub words-counted : (o : Outcome ℕ) (l l′ : List ℕ) (r : Put) → Puts o 0 l l′ r → r ≡ counted o

@@ -2,7 +2,6 @@
 -- the words of its rows are the listing; and that of a sheet of the right form the whole test says no more than its length's.
 -- Assumes nothing.
 use Rattle.basis.specs.Kit.{_≡_, refl, sym, ap, _∙_, List, ℕ, _≤_, length}
-use Rattle.basis.proofs.Never.{never}
 use borrow.Author.Tests.{leb-true}
 use Rattle.limits.specs.Figures.{mostOptionBytes, mostLevels}
 use Rattle.reply.specs.declared.Refusal.{Refusal}
@@ -11,7 +10,7 @@ use Rattle.reply.specs.declared.Verdict.{Verdict}
 use Rattle.reply.specs.declared.Verdict.the-variants.{Fine, Refused}
 use Rattle.reply.specs.declared.Answer.{Answer}
 use Rattle.reply.specs.Reply.{nowhere, refusedBy as refusedAnswer}
-use Rattle.reply.specs.Outcome.{Outcome, refuse, Answered}
+use Rattle.reply.specs.Outcome.{refuse, unless, Answered}
 use Rattle.reply.proofs.Outcomes.{answered-refused}
 use Rattle.reply.proofs.VerdictLaws.{first-fine-rest, judged-fine}
 use Rattle.sheetform.specs.Form.{judgeLength, judgeSheet}
@@ -23,13 +22,14 @@ use Rattle.fullname.specs.declared.LookedUp.{LookedUp}
 use Rattle.fullname.specs.declared.LookedUp.the-variants.{Message as Found, NoMessage}
 use Rattle.lookups.specs.Lookups.{Message, walking}
 use Rattle.lookups.proofs.LookupLaws.{message-lies}
+use Rattle.lookups.proofs.AdmitLaws.{Admits, admits, admits-none}
 use Rattle.payload.specs.Payload.{judgeBytes}
 use Rattle.entries.specs.Reading.{Listed, listed as read, refused as unread, reading, recordsOf, within, onType}
 use Rattle.entries.specs.inner.Fronts.{message}
 use Rattle.levels.specs.inner.Left.{flat}
-use Rattle.listing.specs.Listing.{judgeInputs, unless, listed, listingBy, listing, listingTested}
-use Rattle.rows.specs.inner.Worded.{worded}
-use Rattle.listing.specs.inner.Admitted.{unlessFaulty, admitted}
+use Rattle.listing.specs.Listing.{judgeInputs, listed, listingBy, listing, listingTested}
+use Rattle.listing.specs.inner.Worded.{worded}
+use Rattle.listing.specs.inner.Admitted.{admitted}
 
 -- ---- options_message
 module _ (s type bs : List ℕ) (u : Verdict) (x : u ≡ judgeLength s) where
@@ -57,21 +57,6 @@ pub ruleset message-laws = (message-long, message-bad-type, message-long-bytes, 
 within-worded : (m : Message) (x : Listed) → listed (within m x) ≡ worded (flat 0 x)
 within-worded m (read t) = refl
 within-worded m (unread w) = refl
-
--- ---- the message that the options type is, of inputs that are judged v
-pub record Admits (v : Verdict) (s type : List ℕ) (p : LookupScope) : Type 0 where
-  pub fine : v ≡ Fine
-  pub is : walking s .message type ≡ Found p
-
-module _ (s type : List ℕ) where
-  pub admits : (v : Verdict) (p : LookupScope) → unlessFaulty v (walking s .message type) ≡ Found p → Admits v s type p
-  admits (Refused w) p e = never cc
-  admits Fine p e = record { fine = refl; is = e }
-
-  pub admits-none : (v : Verdict) (w : Refusal) → unlessFaulty v (walking s .message type) ≡ NoMessage w → (f : LookedUp → Outcome ℕ)
-      → ((x : Refusal) → f (NoMessage x) ≡ refuse x) → unless v (f (walking s .message type)) ≡ refuse w
-  admits-none (Refused x) w e f n = let same : x ≡ w = cc in ap refuse same
-  admits-none Fine w e f n = ap f e ∙ n w
 
 module _ (v : Verdict) (s type bs : List ℕ) where
   listing-rows : (p : LookupScope) → admitted v s type bs ≡ Found p

@@ -1,6 +1,5 @@
 -- The calls `list` and `list_tested`, from 01's "Listing and lowering".
 --
---               unless v o == the refusal of the verdict v, else o
 --      judgeInputs v type bs == the first fault of the sheet, which is judged v, the options type and the length of the option bytes
 --                listed u == the words of the records of u, or its refusal
 --      listingOf L s type bs == the words of the records of bs, of any look-ups
@@ -11,19 +10,14 @@
 -- Assumes nothing.
 use Rattle.basis.specs.Kit.{List, ℕ}
 use Rattle.reply.specs.declared.Verdict.{Verdict}
-use Rattle.reply.specs.declared.Verdict.the-variants.{Fine, Refused}
 use Rattle.reply.specs.Verdicts.{firstFault}
-use Rattle.reply.specs.Outcome.{Outcome, refuse, give}
+use Rattle.reply.specs.Outcome.{Outcome, refuse, unless, give}
 use Rattle.sheetform.specs.Form.{judgeLength, judgeSheet}
 use Rattle.requestform.specs.Form.{judgeOptionsType}
 use Rattle.lookups.specs.Lookups.{Lookups, walking}
 use Rattle.entries.specs.Tree.{rows, wordsOf}
 use Rattle.payload.specs.Payload.{judgeBytes}
 use Rattle.entries.specs.Reading.{Under, under, refusedBy, recordsOf}
-
-abbrev pub unless : {A : Type 0} → Verdict → Outcome A → Outcome A
-unless Fine o = o
-unless (Refused w) o = refuse w
 
 -- 01, Replies: "Inputs in the order a call names them, the sheet first, each by over-length, then (option bytes apart) the first fault"
 -- [FAULT-1, FAULT-2]

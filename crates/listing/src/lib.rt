@@ -12,22 +12,24 @@ ghost use Rattle.emit.specs.inner.Puts.{Puts};
 ghost use Rattle.levels.specs.inner.Stack.{stackWords};
 ghost use Rattle.levels.specs.inner.Left.{flat};
 ghost use Rattle.listing.specs.Listing.{listingTested, listing};
-ghost use Rattle.rows.specs.inner.Worded.{worded, WroteAtMost};
+ghost use Rattle.listing.specs.inner.Worded.{worded, WroteAtMost};
 ghost use Rattle.listing.specs.inner.Admitted.{counted, admitted};
 use emit::Put;
 use fullname::LookedUp;
+use levels::Event;
 use levels::STACK_WORDS;
+use levels::next;
 use levels::start;
 use payload::check_bytes;
 use reply::Answer;
 use reply::Refusal;
 use reply::Verdict;
 use requestform::check_options_type;
-use rows::put_rows;
+use rows::put_row;
 use scope::lookup::LookupScope;
 
-// The rows of option bytes in the message at that place, likewise.
-fn put_all_rows(
+// The rows of option bytes in the message at that place, from the front of the lent memory on, as far as there is room.
+fn put_rows(
     sheet: &[u8],
     options_type: &[u8],
     place: LookupScope,
@@ -42,8 +44,18 @@ fn put_all_rows(
         (messageOf (now («options_type» .entry)) place) 0 (now (bytes .entry))))) 0 (now (out .entry)) (now (out .exit)) r ⌝ }
     ensures few { λ r. ⌜ WroteAtMost (8 * length (now (bytes .entry))) r ⌝ }
 {
-    let cursor = start(bytes, stack, place);
-    put_rows(sheet, options_type, bytes, stack, cursor, out)
+    let mut cursor = start(bytes, stack, place);
+    let mut n = 0;
+    loop {
+        match next(sheet, options_type, bytes, stack, cursor) {
+            Event::End => return Put::Wrote(n),
+            Event::Wrong(why) => return Put::Refused(reply::nowhere(why)),
+            Event::Record { row, rest } => {
+                n = put_row(out, n, row);
+                cursor = rest;
+            }
+        }
+    }
 }
 
 // How many words these rows have, or the first fault: they are written in no room to speak of.
@@ -62,7 +74,7 @@ fn count_words(
     ensures few { λ r. ⌜ WroteAtMost (8 * length (now (bytes .entry))) r ⌝ }
 {
     let mut none = [0u32; 1];
-    put_all_rows(sheet, options_type, place, bytes, stack, &mut none)
+    put_rows(sheet, options_type, place, bytes, stack, &mut none)
 }
 
 // The answer of the call, with room for the levels.
@@ -86,7 +98,7 @@ fn list_over(
             if out.len() < n {
                 return reply::refused(Refusal::NoRoom);
             }
-            put_all_rows(sheet, options_type, place, bytes, stack, out);
+            put_rows(sheet, options_type, place, bytes, stack, out);
             reply::done(n as u32)
         }
     }

@@ -1,1 +1,2 @@
 pub mod LookupLaws
+pub mod AdmitLaws

@@ -12,7 +12,7 @@ use Rattle.reply.specs.declared.Verdict.the-variants.{Fine, Refused as Bad}
 use Rattle.reply.specs.declared.Answer.{Answer}
 use Rattle.reply.specs.Reply.{nowhere, refusedBy as refusedAnswer, doneWith, absentAnswer}
 use Rattle.reply.specs.Verdicts.{firstFault}
-use Rattle.reply.specs.Outcome.{refuse, give, Answered}
+use Rattle.reply.specs.Outcome.{refuse, unless, give, Answered}
 use Rattle.reply.proofs.Outcomes.{answered-refused, answered-absent, answered-no-room, answered-done}
 use Rattle.reply.proofs.VerdictLaws.{first-fine-front, first-fine-rest, judged-fine}
 use Rattle.emit.proofs.WriteLaws.{sets-front}
@@ -27,13 +27,12 @@ use Rattle.fullname.specs.declared.LookedUp.{LookedUp}
 use Rattle.fullname.specs.declared.LookedUp.the-variants.{Message as Is, NoMessage}
 use Rattle.lookups.specs.Lookups.{Lookups, Message, walking}
 use Rattle.lookups.proofs.LookupLaws.{message-lies}
+use Rattle.lookups.proofs.AdmitLaws.{Admits, admits, admits-none}
 use Rattle.entries.specs.declared.Row.{Row}
 use Rattle.entries.specs.Tree.{Tree, words}
 use Rattle.payload.specs.Payload.{judgeBytes}
 use Rattle.entries.specs.Reading.{Listed, listed, refused, reading, recordsOf, within, onType}
 use Rattle.entries.specs.inner.Fronts.{message}
-use Rattle.listing.specs.Listing.{unless}
-use Rattle.listing.proofs.ListingLaws.{Admits, admits, admits-none}
 use Rattle.following.specs.declared.Best.{Best}
 use Rattle.following.specs.declared.Best.the-variants.{Found, NoneYet}
 use Rattle.query.specs.declared.Seen.{Seen}

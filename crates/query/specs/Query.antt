@@ -13,7 +13,7 @@
 use Rattle.basis.specs.Kit.{Bool, List, Option, none, some, ℕ, length}
 use Rattle.reply.specs.declared.Verdict.{Verdict}
 use Rattle.reply.specs.Verdicts.{firstFault}
-use Rattle.reply.specs.Outcome.{Outcome, refuse, nothing, give}
+use Rattle.reply.specs.Outcome.{Outcome, refuse, unless, nothing, give}
 use Rattle.field.specs.Walk.{walk}
 use Rattle.sheet.specs.declared.declaration.Declaration.{Declaration}
 use Rattle.sheetform.specs.Form.{judgeLength, judgeSheet}
@@ -24,7 +24,6 @@ use Rattle.entries.specs.declared.Row.{Row}
 use Rattle.entries.specs.Tree.{Tree, words}
 use Rattle.payload.specs.Payload.{judgeBytes}
 use Rattle.entries.specs.Reading.{Under, under, refusedBy, recordsOf}
-use Rattle.listing.specs.Listing.{unless}
 use Rattle.following.specs.Reached.{never, reached}
 use Rattle.query.specs.Name.{Named, names, group, refusedAt, declarations}
 

@@ -5,7 +5,7 @@ use Rattle.basis.specs.Kit.{_≡_, refl, List, ℕ}
 use Rattle.basis.proofs.Never.{never}
 use Rattle.reply.specs.declared.Verdict.{Verdict}
 use Rattle.reply.specs.declared.Verdict.the-variants.{Fine, Refused}
-use Rattle.reply.specs.Outcome.{Outcome, nothing, give}
+use Rattle.reply.specs.Outcome.{Outcome, unless, nothing, give}
 use Rattle.reply.proofs.VerdictLaws.{first-fine-front, first-fine-rest}
 use Rattle.sheetform.specs.Form.{judgeSheet}
 use Rattle.requestform.specs.Form.{judgeOptionsType, judgeName}
@@ -13,7 +13,7 @@ use Rattle.lookups.specs.Lookups.{Message, walking}
 use Rattle.entries.specs.Tree.{Tree, rows, wordsOf}
 use Rattle.entries.specs.Reading.{Under, under, refusedBy, recordsOf}
 use Rattle.payload.specs.Payload.{judgeBytes}
-use Rattle.listing.specs.Listing.{unless, judgeInputs, listed, listingOf, listingBy, listing}
+use Rattle.listing.specs.Listing.{judgeInputs, listed, listingOf, listingBy, listing}
 use Rattle.following.specs.Reached.{never as noneJoins}
 use Rattle.query.specs.Query.{queryOf, queryBy, query}
 use Rattle.query.specs.Query as queries

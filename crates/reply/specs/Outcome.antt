@@ -2,6 +2,7 @@
 --
 --                   Outcome A ==  a refusal, Absent, or elements for the lent memory
 --                    refuse w ==  this refusal, nowhere
+--                  unless v o ==  the refusal of the verdict v, else o
 --                push front o ==  the outcome with elements in front of what it gives
 --               within room o ==  the outcome where there is room for so many elements
 --                  answerOf o ==  the answer record
@@ -13,6 +14,8 @@ use Rattle.basis.specs.Kit.{_≡_, true, false, List, _++_, ℕ, ltb, length, d
 use Rattle.reply.specs.declared.Refusal.{Refusal}
 use Rattle.reply.specs.declared.Refusal.the-variants.{NoRoom}
 use Rattle.reply.specs.declared.Cause.{Cause}
+use Rattle.reply.specs.declared.Verdict.{Verdict}
+use Rattle.reply.specs.declared.Verdict.the-variants.{Fine, Refused}
 use Rattle.reply.specs.declared.Answer.{Answer}
 use Rattle.reply.specs.Reply.{nowhere, refusedFor, doneWith, absentAnswer}
 
@@ -23,6 +26,10 @@ pub data Outcome (A : Type 0) : Type 0 where
 
 abbrev pub refuse : {A : Type 0} → Refusal → Outcome A
 refuse w = refused (nowhere w)
+
+abbrev pub unless : {A : Type 0} → Verdict → Outcome A → Outcome A
+unless Fine o = o
+unless (Refused w) o = refuse w
 
 abbrev pub push : {A : Type 0} (front : List A) → Outcome A → Outcome A
 push front (refused c) = refused c

@@ -1,20 +1,16 @@
-// Rows as words of lent memory, eight a row, as far as there is room.
-ghost use Rattle.basis.specs.Kit.{_≡_, _*_, _^_, _<_, length, sets};
-ghost use Rattle.lookups.specs.Lookups.{walking};
-ghost use Rattle.emit.specs.inner.Puts.{Puts};
+// A row as words of lent memory.
+ghost use Rattle.basis.specs.Kit.{_≡_, _+_, _^_, _<_, sets};
 ghost use Rattle.entries.specs.Tree.{words};
-ghost use Rattle.levels.specs.inner.Left.{Open, left};
-ghost use Rattle.rows.specs.inner.Worded.{worded, WroteAtMost};
-use emit::Put;
 use entries::Row;
-use levels::Cursor;
-use levels::Event;
-use levels::next;
 
-// The eight words of a row, from a place on, as far as there is room.
-pub fn put_row(out: &mut [u32], at: usize, row: Row)
+// The words of a row.
+const ROW_WORDS: usize = 8;
+
+// The eight words of a row, from a place on, as far as there is room; and the place after them.
+pub fn put_row(out: &mut [u32], at: usize, row: Row) -> usize
     requires { ⌜ at < 2 ^ 63 ⌝ }
-    ensures { λ _. ⌜ now (out .exit) ≡ sets (now (out .entry)) at (words row) ⌝ }
+    ensures laid { λ _. ⌜ now (out .exit) ≡ sets (now (out .entry)) at (words row) ⌝ }
+    ensures counted { λ r. ⌜ r ≡ at + 8 ⌝ }
 {
     let words = [
         row.level,
@@ -27,33 +23,5 @@ pub fn put_row(out: &mut [u32], at: usize, row: Row)
         (row.entry.value / 0x1_0000_0000) as u32,
     ];
     emit::put_words(&words, out, at);
-}
-
-// The rows that are left, from the front of the lent memory on, as far as there is room.
-pub fn put_rows(
-    sheet: &[u8],
-    options_type: &[u8],
-    bytes: &[u8],
-    stack: &mut [usize],
-    from: Cursor,
-    out: &mut [u32],
-) -> Put
-    requires { ⌜ Open (now sheet) (now bytes) (now stack) from ⌝ }
-    ensures puts { λ r. ⌜ Puts (worded (left (walking (now (sheet .entry))) (now (sheet .entry)) (now («options_type» .entry)) (now (bytes .entry))
-        (now (stack .entry)) (from .depth) (from .at))) 0 (now (out .entry)) (now (out .exit)) r ⌝ }
-    ensures few { λ r. ⌜ WroteAtMost (8 * length (now (bytes .entry))) r ⌝ }
-{
-    let mut cursor = from;
-    let mut n = 0;
-    loop {
-        match next(sheet, options_type, bytes, stack, cursor) {
-            Event::End => return Put::Wrote(n),
-            Event::Wrong(why) => return Put::Refused(reply::nowhere(why)),
-            Event::Record { row, rest } => {
-                put_row(out, n, row);
-                n += 8;
-                cursor = rest;
-            }
-        }
-    }
+    at + ROW_WORDS
 }

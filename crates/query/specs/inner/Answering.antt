@@ -16,10 +16,10 @@ use Rattle.field.specs.Walk.{walk}
 use Rattle.request.specs.Name.{partsIn}
 use Rattle.fullname.specs.declared.LookedUp.{LookedUp}
 use Rattle.lookups.specs.Lookups.{Lookups, Message, walking}
+use Rattle.lookups.specs.inner.Admitted.{unlessFaulty}
 use Rattle.entries.specs.declared.Row.{Row}
 use Rattle.entries.specs.Tree.{Tree, words}
 use Rattle.entries.specs.Reading.{Listed, listed, refused, reading}
-use Rattle.listing.specs.inner.Admitted.{unlessFaulty}
 use Rattle.following.specs.declared.Best.{Best}
 use Rattle.following.specs.declared.Best.the-variants.{Found, NoneYet}
 use Rattle.following.specs.declared.Followed.{Followed}

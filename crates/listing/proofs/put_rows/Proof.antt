@@ -1,12 +1,12 @@
--- `rows::put_rows` meets its contract, by its loop's invariant and laws.
+-- `listing::put_rows` meets its contract, by its loop's invariant and laws.
 -- Assumes nothing.
 use Rattle.basis.specs.Kit.{_-_, length}
 use Rattle.basis.proofs.Kit.{needs}
 use Rattle.lookups.specs.Lookups.{walking}
 use Rattle.levels.specs.inner.Left.{left}
-use Rattle.rows.proofs.RowLaws.{Rowing, rowing-laws}
-use Rattle.rows.proofs.put_rows.Statement.{statement}
-use Rattle.rows.proofs.put_rows.Tie as tie
+use Rattle.listing.proofs.RowLaws.{Rowing, rowing-laws}
+use Rattle.listing.proofs.put_rows.Statement.{statement}
+use Rattle.listing.proofs.put_rows.Tie as tie
 
 abbrev Inv-loop : tie.InvT-loop
 Inv-loop sheet options-type bytes stack₀ out₀ cursor₀ n₀ stack out cursor n =
@@ -17,6 +17,7 @@ abbrev μ-loop : tie.MeasureT-loop
 
 pub put-rows-spec : {M : Type 1} → statement M
 put-rows-spec = tie.close (tie.spec Inv-loop μ-loop
+    (λ c κs. search (needs, rowing-laws))
     (λ c. search (needs, rowing-laws))
     (λ c κs. search (needs, rowing-laws))
     (λ c. search (needs, rowing-laws))
@@ -30,6 +31,5 @@ put-rows-spec = tie.close (tie.spec Inv-loop μ-loop
     (λ c. search (needs, rowing-laws))
     (λ c. search (needs, rowing-laws))
     (λ c κs. search (needs, rowing-laws))
-    (λ c. search (needs, rowing-laws))
     (λ c. search (needs, rowing-laws))
     (λ c. search (needs, rowing-laws)))
