@@ -7,7 +7,7 @@
 --
 -- Assumes nothing.
 use Rattle.basis.specs.Kit.{_≡_, refl, sym, ap, _∙_, Bool, true, false, List, [], _∷_, _++_, map, Option, none, some, ℕ, suc, _+_, _≤_}
-use Rattle.basis.specs.Kit.{_<_, eqb, length}
+use Rattle.basis.specs.Kit.{_<_, ltb, length}
 use Rattle.basis.specs.First.{onlyIf}
 use mathlib.Core.Path.{subst}
 use native.Mathlib.Decide.{decLt}
@@ -20,28 +20,15 @@ use Rattle.entries.specs.declared.Row.{Row}
 use Rattle.entries.specs.Tree.{Tree, end, one, held, append, row, rows}
 use Rattle.following.specs.declared.Best.{Best}
 use Rattle.following.specs.declared.Best.the-variants.{Found, NoneYet}
-use Rattle.following.specs.declared.Followed.{Followed}
 use Rattle.following.specs.Reached.{isBy, listedBy, insideAfter, joined, lastAfter, inside, reached}
 use Rattle.following.specs.inner.Keys.{keyOf, keyAt, keysFrom}
-use Rattle.following.specs.inner.Following.{nothingYet, isAt, lesser, byKey, atLevel, follow, followed}
-use Rattle.following.specs.inner.Following.{bestOf}
+use Rattle.following.specs.inner.Following.{bestOf, Followed, nothingYet, isAt, step, after, byKey, atLevel, stepOf, follow, followed}
 
 pub record Gone (level : ℕ) (b : Best) (f : Followed) : Type 0 where
   pub best : f .best ≡ b
   pub still : level ≤ f .matched
 
 -- ---- the rows, one after the other
-lesser-left : (a b : ℕ) → a ≤ b → lesser a b ≡ a
-unfolding lesser
-lesser-left a b h = elim (decLt a b) [
-  | yes y ↦ simp (lesser, lt-ltb a b y)
-  | no n ↦ simp (lesser, le-ltb a b (omega arith)) (omega arith)
-]
-
-lesser-right : (a b : ℕ) → b ≤ a → lesser a b ≡ b
-unfolding lesser
-lesser-right a b h = simp (lesser, le-ltb a b h)
-
 module _ (ks : List ℕ) (n : ℕ) where
   followed-append : (f : Followed) (xs ys : List Row) → followed ks n f (xs ++ ys) ≡ followed ks n (followed ks n f xs) ys
   followed-append f [] ys = refl
@@ -49,10 +36,8 @@ module _ (ks : List ℕ) (n : ℕ) where
 
   -- a row deeper than what is open changes nothing
   follow-deeper : (f : Followed) (x : Row) → f .matched < x .level → follow ks n f x ≡ f
-  unfolding follow
-  follow-deeper f x h =
-      ap (λ (k : ℕ). atLevel ks n k (f .best) x) (lesser-right (x .level) (f .matched) (omega arith))
-      ∙ simp (atLevel, ne-eqb (f .matched) (x .level) (λ e. omega arith))
+  unfolding follow stepOf
+  follow-deeper f x h = simp (stepOf, lt-ltb (f .matched) (x .level) h)
 
   followed-deeper : (f : Followed) (l : ℕ) (t : Tree) → f .matched < l → followed ks n f (rows l t) ≡ f
   followed-deeper f l end h = refl
@@ -65,13 +50,13 @@ module _ (ks : List ℕ) (n : ℕ) where
 
 -- no keys, no row
 follow-none : (ks : List ℕ) (f : Followed) (x : Row) → follow ks 0 f x .best ≡ f .best
-unfolding follow
-follow-none ks f x = go (eqb (lesser (x .level) (f .matched)) (x .level)) refl
+unfolding follow stepOf
+follow-none ks f x = go (ltb (f .matched) (x .level)) refl
   where
-    go : (b : Bool) → eqb (lesser (x .level) (f .matched)) (x .level) ≡ b
-        → atLevel ks 0 (lesser (x .level) (f .matched)) (f .best) x .best ≡ f .best
-    go true q = simp (atLevel, q, le-ltb (x .level) 0 (omega arith))
-    go false q = simp (atLevel, q)
+    go : (b : Bool) → ltb (f .matched) (x .level) ≡ b
+        → after (stepOf ks 0 (f .matched) true (x .level) (x .entry .by)) (f .best) x .best ≡ f .best
+    go true q = simp (stepOf, q)
+    go false q = simp (stepOf, q, atLevel, le-ltb (x .level) 0 (omega arith))
 
 pub followed-none : (ks : List ℕ) (f : Followed) (xs : List Row) → followed ks 0 f xs .best ≡ f .best
 followed-none ks f [] = refl
@@ -88,11 +73,9 @@ module _ (joins : Declaration → Bool) where
   kept d b = onlyIf (joins d) b NoneYet
 
   module _ (ks : List ℕ) (n l : ℕ) (d : Declaration) (k : keyAt ks l ≡ keyOf joins d) (f : Followed) (o : l ≤ f .matched) (e : Entry) where
-    by-key : l < n → follow ks n f (row l e) ≡ byKey ks n l l (f .best) (row l e)
-    unfolding follow
-    by-key h =
-        ap (λ (m : ℕ). atLevel ks n m (f .best) (row l e)) (lesser-left l (f .matched) o)
-        ∙ simp (atLevel, eq-eqb l l refl, lt-ltb l n h)
+    by-key : l < n → follow ks n f (row l e) ≡ after (byKey ks n true l (e .by)) (f .best) (row l e)
+    unfolding follow stepOf
+    by-key h = simp (stepOf, le-ltb (f .matched) l o, atLevel, lt-ltb l n h)
 
     step-other : l < n → isBy d (e .by) ≡ false → follow ks n f (row l e) ≡ record { matched = l; best = f .best }
     step-other h z = by-key h ∙ simp (byKey, k, by-at d (e .by), z)
@@ -101,7 +84,12 @@ module _ (joins : Declaration → Bool) where
     step-last h z = by-key (omega arith) ∙ simp (byKey, k, by-at d (e .by), z, eq-eqb (l + 1) n h)
 
     step-in : l + 1 < n → isBy d (e .by) ≡ true → follow ks n f (row l e) ≡ record { matched = l + 1; best = kept d (f .best) }
-    step-in h z = by-key (omega arith) ∙ simp (byKey, k, by-at d (e .by), z, ne-eqb (l + 1) n (λ q. omega arith))
+    step-in h z = by-key (omega arith) ∙ simp (byKey, k, by-at d (e .by), z, ne-eqb (l + 1) n (λ q. omega arith)) (joining (joins d))
+      where
+        joining : (j : Bool) → after (step (l + 1) (onlyIf j true false) false) (f .best) (row l e)
+            ≡ record { matched = l + 1; best = onlyIf j (f .best) NoneYet }
+        joining true = refl
+        joining false = refl
 
   -- ---- the best row after records
   abbrev bestAfter : Best → (level : ℕ) → Declaration → List Declaration → Tree → Best

@@ -1,7 +1,7 @@
-// Rows followed by the parts of a name: the row that was found last.
+// Rows followed by the parts of a name: what a row does to the row that was found last.
 ghost use Rattle.basis.specs.Kit.{_≡_, _*_, _≤_, length};
 ghost use Rattle.following.specs.inner.Keys.{keyWords};
-ghost use Rattle.following.specs.inner.Following.{isAt, lesser, follow as followOf};
+ghost use Rattle.following.specs.inner.Following.{isAt, stepOf};
 use entries::Row;
 use sheet::declaration::Declared;
 
@@ -11,10 +11,11 @@ pub enum Best {
     NoneYet,
 }
 
-// How far the open messages are the name's parts, and the best row so far.
-pub struct Followed {
+// After a row: how far the open messages are the name's parts, whether the row that was taken last counts, and whether this one is taken.
+pub struct Step {
     pub matched: usize,
-    pub best: Best,
+    pub counts: bool,
+    pub takes: bool,
 }
 
 // Whether a record is listed by the declaration at that place of the sheet.
@@ -27,53 +28,53 @@ fn is_at(place: usize, by: Declared) -> bool
     }
 }
 
-// The lesser of two.
-fn lesser_of(a: usize, b: usize) -> usize
-    ensures { λ r. ⌜ r ≡ lesser a b ⌝ }
-{
-    if a < b {
-        return a;
-    }
-    b
-}
-
-// What is followed after a row.
-pub fn follow(keys: &[usize], count: usize, past: Followed, row: Row) -> Followed
+// What is followed after a row of that level, which `by` lists.
+pub fn follow(
+    keys: &[usize],
+    count: usize,
+    matched: usize,
+    counts: bool,
+    level: usize,
+    by: Declared,
+) -> Step
     requires { ⌜ count * keyWords ≤ length (now keys) ⌝ }
-    ensures { λ r. ⌜ r ≡ followOf (now (keys .entry)) count past row ⌝ }
+    ensures { λ r. ⌜ r ≡ stepOf (now (keys .entry)) count matched counts level by ⌝ }
 {
-    let level = row.level as usize;
-    let matched = lesser_of(level, past.matched);
-    let best = past.best;
-    let shut = Followed {
-        matched: matched,
-        best: best,
-    };
-    if matched != level {
-        return shut;
+    if matched < level {
+        return Step {
+            matched: matched,
+            counts: counts,
+            takes: false,
+        };
     }
+    let shut = Step {
+        matched: level,
+        counts: counts,
+        takes: false,
+    };
     if count <= level {
         return shut;
     }
-    let entry = row.entry;
-    let by = entry.by;
     if !is_at(keys[level * 2], by) {
         return shut;
     }
     if level + 1 == count {
-        return Followed {
-            matched: matched,
-            best: Best::Found(row),
+        return Step {
+            matched: level,
+            counts: true,
+            takes: true,
         };
     }
     if keys[level * 2 + 1] != 0 {
-        return Followed {
+        return Step {
             matched: level + 1,
-            best: best,
+            counts: counts,
+            takes: false,
         };
     }
-    Followed {
+    Step {
         matched: level + 1,
-        best: Best::NoneYet,
+        counts: false,
+        takes: false,
     }
 }

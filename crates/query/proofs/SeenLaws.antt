@@ -1,8 +1,9 @@
 -- All rows followed, and what the name makes of the best one: the loop of `follow_rows`, and the ways through `count_of`, `settle`,
 -- `see_rows` and `query_over`.
 -- Assumes nothing.
-use Rattle.basis.specs.Kit.{_≡_, refl, sym, ap, _∙_, List, [], _∷_, map, ℕ, _+_, _*_, _≤_, length}
-use Rattle.basis.proofs.Kit.{arith}
+use Rattle.basis.specs.Kit.{_≡_, refl, sym, ap, _∙_, Bool, true, false, List, [], _∷_, map, ℕ, _+_, _*_, _≤_, length}
+use Rattle.basis.specs.First.{onlyIf}
+use Rattle.basis.proofs.Kit.{arith, not-true, not-false}
 use Rattle.basis.proofs.Never.{never as nothing-left}
 use Rattle.limits.specs.Figures.{mostLevels, mostParts}
 use Rattle.reply.specs.declared.Refusal.{Refusal}
@@ -25,8 +26,8 @@ use Rattle.levels.specs.inner.Left.{flat, left, Open, Starts, Moves}
 use Rattle.levels.proofs.StartLaws.{start-open, start-left}
 use Rattle.levels.proofs.MovesLaws.{moved-open, moved-rest, moved-less, moved-end, moved-wrong}
 use Rattle.following.specs.declared.Best.{Best}
-use Rattle.following.specs.declared.Best.the-variants.{NoneYet}
-use Rattle.following.specs.declared.Followed.{Followed}
+use Rattle.following.specs.declared.Best.the-variants.{Found, NoneYet}
+use Rattle.following.specs.declared.Step.{Step}
 use Rattle.query.specs.declared.name.Naming.{Naming}
 use Rattle.query.specs.declared.name.Naming.the-variants.{Parts, Group, Refused as RefusedName}
 use Rattle.query.specs.declared.Seen.{Seen}
@@ -35,9 +36,10 @@ use Rattle.query.specs.Name.{Named, declarations}
 use Rattle.following.specs.Reached.{never}
 use Rattle.following.specs.inner.Keys.{keyOf, keyWords, keysFrom}
 use Rattle.query.specs.inner.Naming.{Namable, Declares, declares, leaves-group, refuses}
-use Rattle.following.specs.inner.Following.{nothingYet, follow, followed}
+use Rattle.following.specs.inner.Following.{Followed, nothingYet, after, stepOf, follow, followed}
 use Rattle.query.specs.inner.Answering.{seenIn, countOf, settled, ofNamed, ofListed, queried}
 use Rattle.query.proofs.NameLaws.{declarations-length}
+use Rattle.following.proofs.FollowLaws.{step-after}
 use Rattle.following.proofs.ReachedLaws.{followed-reached}
 
 -- ---- follow_rows: the rows before the cursor are followed
@@ -47,39 +49,68 @@ seen-push ks n f x (give xs) = refl
 seen-push ks n f x nothing = refl
 seen-push ks n f x (refusedFor c) = refl
 
-pub record Seeing (s type bs ks : List ℕ) (n : ℕ) (whole : Outcome Row) (st : List ℕ) (c : Cursor) (f : Followed) : Type 0 where
+-- of the row that was taken last, where it counts
+abbrev soFar : (matched : ℕ) (counts : Bool) (taken : Best) → Followed
+soFar k o b = record { matched = k; best = onlyIf o b NoneYet }
+
+pub record Seeing (s type bs ks : List ℕ) (n : ℕ) (whole : Outcome Row) (st : List ℕ) (c : Cursor) (k : ℕ) (o : Bool) (b : Best) : Type 0 where
   pub opens : Open s bs st c
-  pub rest : seenIn ks n nothingYet whole ≡ seenIn ks n f (left (walking s) s type bs st (c .depth) (c .at))
+  pub rest : seenIn ks n nothingYet whole ≡ seenIn ks n (soFar k o b) (left (walking s) s type bs st (c .depth) (c .at))
 
-pub seeing-start : (s type bs ks : List ℕ) (n : ℕ) (st : List ℕ) (c : Cursor) → Open s bs st c
-    → Seeing s type bs ks n (left (walking s) s type bs st (c .depth) (c .at)) st c nothingYet
-seeing-start s type bs ks n st c o = record { opens = o; rest = refl }
+pub seeing-start : (s type bs ks : List ℕ) (n : ℕ) (st : List ℕ) (c : Cursor) (b : Best) → Open s bs st c
+    → Seeing s type bs ks n (left (walking s) s type bs st (c .depth) (c .at)) st c 0 false b
+seeing-start s type bs ks n st c b o = record { opens = o; rest = refl }
 
-module _ (s type bs ks : List ℕ) (n : ℕ) (whole : Outcome Row) (st : List ℕ) (c : Cursor) (f : Followed)
-    (u : Seeing s type bs ks n whole st c f) where
+module _ (s type bs ks : List ℕ) (n : ℕ) (whole : Outcome Row) (st : List ℕ) (c : Cursor) (k : ℕ) (o : Bool) (b : Best)
+    (u : Seeing s type bs ks n whole st c k o b) where
   pub seeing-open : Open s bs st c
   seeing-open = u .opens
 
   module _ (st′ : List ℕ) (r : Event)
-      (k : Moves s type bs (left (walking s) s type bs st (c .depth) (c .at)) (c .at) st′ r) where
-    pub seeing-end : r ≡ End → All (f .best) ≡ seenIn ks n nothingYet whole
-    seeing-end g = sym (u .rest ∙ ap (seenIn ks n f) (moved-end s type bs _ (c .at) st′ r k g))
+      (v : Moves s type bs (left (walking s) s type bs st (c .depth) (c .at)) (c .at) st′ r) where
+    ended : r ≡ End → seenIn ks n nothingYet whole ≡ All (soFar k o b .best)
+    ended g = u .rest ∙ ap (seenIn ks n (soFar k o b)) (moved-end s type bs _ (c .at) st′ r v g)
+
+    pub seeing-found : r ≡ End → o ≡ true → All b ≡ seenIn ks n nothingYet whole
+    seeing-found g h = sym (ended g ∙ ap (λ (x : Bool). All (onlyIf x b NoneYet)) h)
+
+    pub seeing-none : r ≡ End → o ≡ false → All NoneYet ≡ seenIn ks n nothingYet whole
+    seeing-none g h = sym (ended g ∙ ap (λ (x : Bool). All (onlyIf x b NoneYet)) h)
 
     pub seeing-wrong : (w : Refusal) → r ≡ Wrong w → Refused w ≡ seenIn ks n nothingYet whole
-    seeing-wrong w g = sym (u .rest ∙ ap (seenIn ks n f) (moved-wrong s type bs _ (c .at) st′ r k w g))
+    seeing-wrong w g = sym (u .rest ∙ ap (seenIn ks n (soFar k o b)) (moved-wrong s type bs _ (c .at) st′ r v w g))
 
-    pub seeing-next : (x : Row) (d : Cursor) → r ≡ Record x d → (f′ : Followed) → f′ ≡ follow ks n f x
-        → Seeing s type bs ks n whole st′ d f′
-    seeing-next x d g f′ e =
-        let after = left (walking s) s type bs st′ (d .depth) (d .at) in
-        record {
-          opens = moved-open s type bs _ (c .at) st′ r k x d g;
-          rest =
-              u .rest ∙ ap (seenIn ks n f) (moved-rest s type bs _ (c .at) st′ r k x d g) ∙ seen-push ks n f x after
-              ∙ ap (λ (h : Followed). seenIn ks n h after) (sym e);
-        }
+    module _ (x : Row) (d : Cursor) (g : r ≡ Record x d) (y : Step) (e : y ≡ stepOf ks n k o (x .level) (x .entry .by)) where
+      stepped : (b′ : Best) → onlyIf (y .takes) (Found x) b ≡ b′ → Seeing s type bs ks n whole st′ d (y .matched) (y .counts) b′
+      stepped b′ h =
+          let f = soFar k o b in
+          let next = left (walking s) s type bs st′ (d .depth) (d .at) in
+          record {
+            opens = moved-open s type bs _ (c .at) st′ r v x d g;
+            rest =
+                u .rest ∙ ap (seenIn ks n f) (moved-rest s type bs _ (c .at) st′ r v x d g) ∙ seen-push ks n f x next
+                ∙ ap (λ (p : Followed). seenIn ks n p next) (sym (step-after ks n k o b x) ∙ ap (λ (z : Step). after z b x) (sym e))
+                ∙ ap (λ (p : Best). seenIn ks n (soFar (y .matched) (y .counts) p) next) h;
+          }
 
-pub ruleset seeing-laws = (seeing-start, seeing-open, seeing-end, seeing-wrong, seeing-next, moved-less)
+      pub seeing-taken : y .takes ≡ true → (b′ : Best) → Found x ≡ b′ → Seeing s type bs ks n whole st′ d (y .matched) (y .counts) b′
+      seeing-taken h b′ z = stepped b′ (ap (λ (t : Bool). onlyIf t (Found x) b) h ∙ z)
+
+      pub seeing-kept : y .takes ≡ false → Seeing s type bs ks n whole st′ d (y .matched) (y .counts) b
+      seeing-kept h = stepped b (ap (λ (t : Bool). onlyIf t (Found x) b) h)
+
+pub ruleset seeing-laws = (
+  not-true,
+  not-false,
+  seeing-start,
+  seeing-open,
+  seeing-found,
+  seeing-none,
+  seeing-wrong,
+  seeing-taken,
+  seeing-kept,
+  moved-less,
+)
 
 -- ---- count_of and settle
 module _ (r : Naming) where

@@ -21,7 +21,6 @@ ghost use Rattle.following.specs.inner.Following.{nothingYet};
 ghost use Rattle.query.specs.inner.Answering.{seenIn, countOf, settled, queried, outcomeOf, admitted};
 use entries::Row;
 use following::Best;
-use following::Followed;
 use following::follow;
 use fullname::LookedUp;
 use levels::Cursor;
@@ -66,19 +65,28 @@ fn follow_rows(
         (now («options_type» .entry)) (now (bytes .entry)) (now (stack .entry)) (from .depth) (from .at)) ⌝ }
 {
     let mut cursor = from;
-    let mut so_far = Followed {
-        matched: 0,
-        best: Best::NoneYet,
-    };
+    let mut matched = 0;
+    let mut counts = false;
+    let mut best = Best::NoneYet;
     loop {
         match next(sheet, options_type, bytes, stack, cursor) {
             Event::End => {
-                let best = so_far.best;
-                return Seen::All(best);
+                if counts {
+                    return Seen::All(best);
+                }
+                return Seen::All(Best::NoneYet);
             }
             Event::Wrong(why) => return Seen::Refused(why),
             Event::Record { row, rest } => {
-                so_far = follow(keys, count, so_far, row);
+                let level = row.level as usize;
+                let entry = row.entry;
+                let by = entry.by;
+                let step = follow(keys, count, matched, counts, level, by);
+                if step.takes {
+                    best = Best::Found(row);
+                }
+                matched = step.matched;
+                counts = step.counts;
                 cursor = rest;
             }
         }

@@ -22,7 +22,6 @@ use Rattle.entries.specs.Tree.{Tree, words}
 use Rattle.entries.specs.Reading.{Listed, listed, refused, reading}
 use Rattle.following.specs.declared.Best.{Best}
 use Rattle.following.specs.declared.Best.the-variants.{Found, NoneYet}
-use Rattle.following.specs.declared.Followed.{Followed}
 use Rattle.query.specs.declared.name.Naming.{Naming}
 use Rattle.query.specs.declared.name.Naming.the-variants.{Parts, Group, Refused as RefusedName}
 use Rattle.query.specs.declared.Seen.{Seen}
@@ -30,7 +29,7 @@ use Rattle.query.specs.declared.Seen.the-variants.{All, Refused}
 use Rattle.query.specs.Name.{Named, names, group, refusedAt, declarations}
 use Rattle.following.specs.Reached.{never, reached}
 use Rattle.query.specs.Query.{judgeInputs}
-use Rattle.following.specs.inner.Following.{bestOf, followed}
+use Rattle.following.specs.inner.Following.{bestOf, Followed, followed}
 
 abbrev pub seenIn : (words : List ℕ) (count : ℕ) → Followed → Outcome Row → Seen
 seenIn ks n f (give xs) = All (followed ks n f xs .best)
