@@ -7,10 +7,10 @@ use Rattle.levels.proofs.front_in.Tie as tie
 
 pub front-in-spec : {M : Type 1} → statement M
 front-in-spec = tie.close (tie.spec
-    (λ c κs. search (needs, front-laws))
+    (λ c κs. search)
     (λ c. (search (needs, front-laws), search (needs, front-laws)))
-    (λ c. search (needs, front-laws))
-    (λ c. search (needs, front-laws))
-    (λ c. search (needs, front-laws))
-    (λ c κs. search (needs, front-laws))
+    (λ c. search)
+    (λ c. search)
+    (λ c. search)
+    (λ c κs. search)
     (λ c. (search (needs, front-laws), search (needs, front-laws))))

@@ -7,6 +7,6 @@ use Rattle.levels.proofs.front_of.Tie as tie
 
 pub front-of-spec : {M : Type 1} → statement M
 front-of-spec = tie.close (tie.spec
-    (λ c κs. search (needs, front-laws))
+    (λ c κs. search)
     (λ c κs. (search (needs, front-laws), (search (needs, front-laws), ((search (needs, front-laws), search (needs, front-laws)), search (needs, front-laws)))))
     (λ c. (search (needs, front-laws), search (needs, front-laws))))

@@ -7,9 +7,9 @@ use Rattle.levels.proofs.put_level.Tie as tie
 
 pub put-level-spec : {M : Type 1} → statement M
 put-level-spec = tie.close (tie.spec
-    (λ c. search (needs, level-written))
-    (λ c. search (needs, level-written))
-    (λ c. search (needs, level-written))
-    (λ c κs. search (needs, level-written))
-    (λ c. search (needs, level-written))
-    (λ c. search (needs, level-written)))
+    (λ c. search)
+    (λ c. search needs)
+    (λ c. search)
+    (λ c κs. search needs)
+    (λ c. search)
+    (λ c. search level-written))

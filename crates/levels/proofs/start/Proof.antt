@@ -7,6 +7,6 @@ use Rattle.levels.proofs.start.Tie as tie
 
 pub start-spec : {M : Type 1} → statement M
 start-spec = tie.close (tie.spec
-    (λ c κs. search (needs, start-laws))
-    (λ c. search (needs, start-laws))
-    (λ c. search (needs, start-laws)))
+    (λ c κs. search needs)
+    (λ c. search)
+    (λ c. search start-laws))

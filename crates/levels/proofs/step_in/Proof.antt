@@ -7,13 +7,13 @@ use Rattle.levels.proofs.step_in.Tie as tie
 
 pub step-in-spec : {M : Type 1} → statement M
 step-in-spec = tie.close (tie.spec
-    (λ c. search (needs, step-laws))
-    (λ c. search (needs, step-laws))
-    (λ c. search (needs, step-laws))
-    (λ c. search (needs, step-laws))
-    (λ c κs. search (needs, step-laws))
-    (λ c. search (needs, step-laws))
-    (λ c. search (needs, step-laws))
-    (λ c. search (needs, step-laws))
-    (λ c. search (needs, step-laws))
-    (λ c. search (needs, step-laws)))
+    (λ c. search step-laws)
+    (λ c. search needs)
+    (λ c. search needs)
+    (λ c. search needs)
+    (λ c κs. search)
+    (λ c. search)
+    (λ c. search needs)
+    (λ c. search needs)
+    (λ c. search)
+    (λ c. search step-laws))

@@ -13,13 +13,13 @@ abbrev μ-loop : tie.MeasureT-loop
 
 pub still-open-spec : {M : Type 1} → statement M
 still-open-spec = tie.close (tie.spec Inv-loop μ-loop
-    (λ c. search (needs, closing-laws))
-    (λ c. search (needs, closing-laws))
-    (λ c. search (needs, closing-laws))
-    (λ c. search (needs, closing-laws))
-    (λ c. search (needs, closing-laws))
-    (λ c. search (needs, closing-laws))
-    (λ c. search (needs, closing-laws))
-    (λ c. search (needs, closing-laws))
-    (λ c. search (needs, closing-laws))
-    (λ c. search (needs, closing-laws)))
+    (λ c. search)
+    (λ c. search)
+    (λ c. search needs)
+    (λ c. search needs)
+    (λ c. search needs)
+    (λ c. search closing-laws)
+    (λ c. search)
+    (λ c. search needs)
+    (λ c. search closing-laws)
+    (λ c. search closing-laws))
