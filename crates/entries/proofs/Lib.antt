@@ -4,4 +4,3 @@ pub mod ReadingLaws
 pub mod FrontLaws
 pub mod LiesLaws
 pub mod RecordLaws
-pub mod Controls

@@ -1,2 +1,1 @@
 pub mod PayloadLaws
-pub mod Controls

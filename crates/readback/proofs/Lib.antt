@@ -17,3 +17,5 @@ pub mod FollowsLaws
 pub mod QueryLaws
 pub mod CallLaws
 pub mod Controls
+pub mod EntryControls
+pub mod PayloadControls
