@@ -1,11 +1,13 @@
--- The laws of `payload_at` and of its four helpers, one for each way through the code.
+-- The laws of `payload_at` and of its three helpers, one for each way through the code.
 -- Assumes nothing.
-use Rattle.basis.specs.Kit.{_≡_, refl, sym, ap, _∙_, true, List, none, some, ℕ, _+_, _-_, _≤_, _<_, length, take, drop}
-use Rattle.basis.proofs.Kit.{arith, ne-eqb}
+use Rattle.basis.specs.Kit.{_≡_, refl, sym, ap, _∙_, Bool, true, false, List, none, some, ℕ, _+_, _-_, _≤_, _<_, eqb, length, take, drop}
+use Rattle.basis.proofs.Kit.{arith, eq-eqb, ne-eqb, not-true, not-false}
+use Rattle.basis.specs.First.{onlyIf}
 use Rattle.basis.proofs.Never.{never}
 use mathlib.Core.Path.{ap₂}
 use mathlib.Core.Bool.{or-false}
 use native.Mathlib.Nat.{add-zero, add-sub-cancel-left}
+use native.Mathlib.Decide.{ℕ-discrete}
 use borrow.Author.Tests.{le-leb, lt-leb, eqb-true}
 use lib.Seq.{take-take}
 use Rattle.octets.specs.Octets.{part}
@@ -143,18 +145,41 @@ module _ (s : List ℕ) (at end : ℕ) (h : end ≤ length s) where
   pub eight-whole : (v : ℕ) → v ≡ little (part s at (at + 8)) → 8 ≤ end - at → Whole at 8 v ≡ payloadIn I64 s at end
   eight-whole = fixed-whole I64 8 fixed-eight s at end h
 
+-- ---- `varint_in`: the two wire types that begin with a varint
+module _ (s : List ℕ) (at end : ℕ) (b : Bool) (r : Read) (p : r ≡ varintAt s at end) where
+  pub either-cut : r ≡ Bad → Cut ≡ payloadIn (onlyIf b VARINT LEN) s at end
+  either-cut q = go b
+    where
+      go : (b : Bool) → Cut ≡ payloadIn (onlyIf b VARINT LEN) s at end
+      go true = varint-cut s at end r p q
+      go false = delimited-cut s at end r p q
+
+  module _ (v next : ℕ) (q : r ≡ Varint v next) where
+    pub either-varint : b ≡ true → Whole at (next - at) v ≡ payloadIn (onlyIf b VARINT LEN) s at end
+    either-varint e = rw e (varint-whole s at end r p v next q)
+
+    module _ (e : b ≡ false) (h : end ≤ length s) where
+      pub either-delimited : v ≤ end - next → Whole next v 0 ≡ payloadIn (onlyIf b VARINT LEN) s at end
+      either-delimited k = rw e (delimited-whole s at end r p v next q h k)
+
+      pub either-short : end - next < v → Cut ≡ payloadIn (onlyIf b VARINT LEN) s at end
+      either-short k = rw e (delimited-short s at end r p v next q h k)
+
 -- ---- `payload_at`: by the wire type
 module _ (w : ℕ) (s : List ℕ) (at end : ℕ) (r : Payload) where
   pub by-wire : (x : ℕ) → r ≡ payloadIn x s at end → w ≡ x → r ≡ payloadIn w s at end
   by-wire x q e = rw e q
 
-  pub by-rest : r ≡ payloadIn LEN s at end → wireRead w ≡ true → (w ≡ VARINT → ⊥) → (w ≡ I64 → ⊥) → (w ≡ I32 → ⊥)
+  pub by-rest : r ≡ payloadIn (onlyIf (eqb w VARINT) VARINT LEN) s at end → wireRead w ≡ true → (w ≡ I64 → ⊥) → (w ≡ I32 → ⊥)
       → r ≡ payloadIn w s at end
-  by-rest q g a b c =
-      let e : w ≡ LEN = eqb-true w LEN (rw (ne-eqb w VARINT a, ne-eqb w I64 b, ne-eqb w I32 c, or-false) at g) in
-      rw e q
+  by-rest q g a b = elim (ℕ-discrete w VARINT) [
+    | yes e ↦ q ∙ rw (eq-eqb w VARINT e) (rw e)
+    | no c ↦
+        let e : w ≡ LEN = eqb-true w LEN (rw (ne-eqb w VARINT c, ne-eqb w I64 a, ne-eqb w I32 b, or-false) at g) in
+        q ∙ rw (ne-eqb w VARINT c) (rw e)
+  ]
 
-pub ruleset varint-laws = (next-after, next-inside, varint-cut, varint-whole, delimited-cut, delimited-whole, delimited-short)
+pub ruleset varint-laws = (next-after, next-inside, not-true, not-false, either-cut, either-varint, either-delimited, either-short)
 
 pub ruleset fixed-laws = (four-cut, four-whole, eight-cut, eight-whole)
 

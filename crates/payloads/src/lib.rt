@@ -1,5 +1,6 @@
 // The payload of a record: its bytes, the number that they say, and the value of that on a type.
 ghost use Rattle.basis.specs.Kit.{_≡_, true, _≤_, length};
+ghost use Rattle.basis.specs.First.{onlyIf};
 ghost use Rattle.types.specs.Types.{VARINT as varintType, I64 as i64Type, I32 as i32Type, LEN as lenType};
 ghost use Rattle.wire.specs.Tag.{wireRead};
 ghost use Rattle.payloads.specs.Value.{valueOf};
@@ -30,29 +31,21 @@ pub enum Payload {
     Cut,
 }
 
-// A varint.
-fn varint_in(s: &[u8], at: usize, end: usize) -> Payload
+// A varint that says its own number, or else a length and as many bytes.
+fn varint_in(s: &[u8], own: bool, at: usize, end: usize) -> Payload
     requires { ⌜ (at ≤ end) × (end ≤ length (now s)) ⌝ }
-    ensures { λ r. ⌜ r ≡ payloadIn varintType (now (s .entry)) at end ⌝ }
+    ensures { λ r. ⌜ r ≡ payloadIn (onlyIf own varintType lenType) (now (s .entry)) at end ⌝ }
 {
     let Read::Varint { value, next } = varint_at(s, at, end) else {
         return Payload::Cut;
     };
-    Payload::Whole {
-        at: at,
-        size: next - at,
-        number: value,
+    if own {
+        return Payload::Whole {
+            at: at,
+            size: next - at,
+            number: value,
+        };
     }
-}
-
-// A length and as many bytes.
-fn delimited_in(s: &[u8], at: usize, end: usize) -> Payload
-    requires { ⌜ (at ≤ end) × (end ≤ length (now s)) ⌝ }
-    ensures { λ r. ⌜ r ≡ payloadIn lenType (now (s .entry)) at end ⌝ }
-{
-    let Read::Varint { value, next } = varint_at(s, at, end) else {
-        return Payload::Cut;
-    };
     if value <= (end - next) as u64 {
         return Payload::Whole {
             at: next,
@@ -99,16 +92,13 @@ pub fn payload_at(s: &[u8], wire: u8, at: usize, end: usize) -> Payload
     requires { ⌜ wireRead wire ≡ true ⌝ }
     ensures { λ r. ⌜ r ≡ payloadIn wire (now (s .entry)) at end ⌝ }
 {
-    if wire == VARINT {
-        return varint_in(s, at, end);
-    }
     if wire == I64 {
         return eight_in(s, at, end);
     }
     if wire == I32 {
         return four_in(s, at, end);
     }
-    delimited_in(s, at, end)
+    varint_in(s, wire == VARINT, at, end)
 }
 
 // The value of a record of that type whose payload says this number.

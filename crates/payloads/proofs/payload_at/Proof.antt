@@ -11,6 +11,4 @@ payload-at-spec = tie.close (tie.spec
     (λ c κs. search)
     (λ c. search payload-laws)
     (λ c κs. search)
-    (λ c. search payload-laws)
-    (λ c κs. search)
     (λ c. search payload-laws))

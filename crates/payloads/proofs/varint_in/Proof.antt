@@ -11,4 +11,7 @@ varint-in-spec = tie.close (tie.spec
     (λ c. search)
     (λ c. search payload-laws)
     (λ c. search payload-laws)
+    (λ c. search payload-laws)
+    (λ c. search payload-laws)
+    (λ c. search payload-laws)
     (λ c. search payload-laws))
