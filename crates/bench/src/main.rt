@@ -1,9 +1,9 @@
-// Calls of the library for the bench. Input: 40 a sheet, 44 how often (4 bytes), then the cases, each 45 what is called (1 byte) and what
-// that takes: 0 `resolve` or 1 `resolve_tested`, 41 a request; 2 the search, 42 a scope and 43 a path. In place of cases it may have one
-// listing: 46 an options type, 47 option bytes. All is called so often, with no test of the sheet before. The line says how many calls
-// there were, how many were answered 0 or found a number, and a checksum of the replies with their bytes and of the numbers, all modulo
-// 2^32; of a listing the words are added once, or the bench would time that.
-ghost use Rattle.basis.specs.Kit.{_≤_, length};
+// Calls of the library for the bench. Input: 40 a sheet, 44 how many calls (4 bytes), then the cases, each a first input under the tag of what
+// is called, and 49 a second input: 45 `resolve` and 46 `resolve_tested` take a request and nothing, 47 the search takes a scope and a path,
+// 48 `list_tested` an options type and option bytes. The cases are called in turn, after the last the first again, with no test of the sheet
+// before. The line says how many calls there were, how many were answered 0 or found a number, and a checksum of the answers with their
+// bytes. The words of a listing are added once, after the last call, or the bench would time that.
+ghost use Rattle.basis.specs.Kit.{_≤_, _<_, length};
 use console::input::Input;
 use console::input::MOST_BYTES;
 use console::input::field_of;
@@ -17,28 +17,19 @@ use path::protobuf_rel_path::is_rel_or_empty;
 use reply::Answer;
 use search::extension::Resolved;
 use std::num::wrapping_add_u32;
-use std::num::wrapping_sub_u32;
 
 const SHEET: u8 = 0x40;
 
-const REQUEST: u8 = 0x41;
+const CALLS: u8 = 0x44;
 
-const SCOPE: u8 = 0x42;
+// What is called; any other tag is `resolve`, 45.
+const RESOLVE_TESTED: u8 = 0x46;
 
-const PATH: u8 = 0x43;
+const SEARCH: u8 = 0x47;
 
-const TIMES: u8 = 0x44;
+const LIST_TESTED: u8 = 0x48;
 
-const CALL: u8 = 0x45;
-
-const OPTIONS_TYPE: u8 = 0x46;
-
-const OPTION_BYTES: u8 = 0x47;
-
-// What is called; any other number is `resolve`.
-const RESOLVE_TESTED: u8 = 1;
-
-const SEARCH: u8 = 2;
+const SECOND: u8 = 0x49;
 
 // The room that is lent for the option bytes of a request.
 const ROOM: usize = 65_536;
@@ -46,30 +37,35 @@ const ROOM: usize = 65_536;
 // The room that is lent for the words of a listing: eight a record, of which 65,536 bytes hold at most 32,768.
 const WORDS: usize = 262_144;
 
-// What a case came to: 1 where it was answered, its reply or the number found, how many bytes were written, and where the next case starts.
+// Where the search finds nothing: ExtensionNotFound.
+const NOT_FOUND: Answer = Answer {
+    reply: 4,
+    second: 0,
+    absent: 0,
+    length: 0,
+};
+
+// What a case was answered, and where the next one starts.
 struct Case {
-    answered: u32,
-    word: u32,
-    length: usize,
+    answer: Answer,
     next: usize,
 }
 
 // Where the input is no case; that has been said.
 const NO_CASE: Case = Case {
-    answered: 0,
-    word: 0,
-    length: 0,
+    answer: NOT_FOUND,
     next: 0,
 };
 
-// The checksum with a word and then the first n bytes of a slice more. Each time it is 31 times what it was, and the word or the byte.
-fn mixed(sum: u32, first: u32, bytes: &[u8], n: usize) -> u32 {
-    let end = least(n, bytes.len());
+// The checksum with an answer and then its bytes more: each time it is turned by five bits, and the word or the byte is
+// added to it bit by bit.
+fn mixed(sum: u32, answer: Answer, bytes: &[u8]) -> u32 {
+    let end = least(answer.length as usize, bytes.len());
     let mut mix = sum;
-    let mut word = first;
+    let mut word = answer.reply ^ answer.second;
     let mut i = 0;
     loop {
-        mix = wrapping_add_u32(wrapping_sub_u32(mix << 5, mix), word);
+        mix = (mix << 5 | mix >> 27) ^ word;
         if end <= i {
             return mix;
         }
@@ -78,71 +74,59 @@ fn mixed(sum: u32, first: u32, bytes: &[u8], n: usize) -> u32 {
     }
 }
 
-// The number of the extension that is found; 0 where none is, and for what is no scope or no path, which the search does not take.
-fn number_found(sheet: &[u8], scope: &[u8], path: &[u8]) -> u32 {
+// The checksum of all words of a slice, 0 where they are 0.
+fn mixed_words(words: &[u32]) -> u32 {
+    let mut mix = 0;
+    let mut i = 0;
+    while i < words.len() {
+        mix = (mix << 5 | mix >> 27) ^ words[i];
+        i += 1;
+    }
+    mix
+}
+
+// The search, which does not take what is no scope or no path. The number that it finds is the second word of its answer.
+fn searched(sheet: &[u8], scope: &[u8], path: &[u8]) -> Answer {
     if is_rel_or_empty(scope) {
         if is_path(path) {
             if let Resolved::Field(found) = lookups::extension_named(sheet, scope, path) {
-                return found.declaration.shape.number;
+                return Answer {
+                    reply: 0,
+                    second: found.declaration.shape.number,
+                    absent: 0,
+                    length: 0,
+                };
             }
         }
     }
-    0
+    NOT_FOUND
 }
 
-// The pair at a place, looked up.
-fn look_up_at(s: &[u8], sheet: &[u8], at: usize) -> Case
-    requires { ⌜ at ≤ length (now s) ⌝ }
-    ensures { λ r. ⌜ r .next ≤ length (now (s .entry)) ⌝ }
-{
-    let Leaf::At { from: a, to: e } = field_of(s, at, SCOPE) else {
-        return NO_CASE;
-    };
-    let Leaf::At { from: n, to: m } = field_of(s, e, PATH) else {
-        return NO_CASE;
-    };
-    let found = number_found(sheet, &s[a..e], &s[n..m]);
-    Case {
-        answered: (found != 0) as u32,
-        word: found,
-        length: 0,
-        next: m,
-    }
-}
-
-// The call that a request is for.
-fn resolved(sheet: &[u8], request: &[u8], call: u8, out: &mut [u8]) -> Answer {
-    if call == RESOLVE_TESTED {
-        return resolver::resolve_tested(sheet, request, out);
-    }
-    resolver::resolve(sheet, request, out)
-}
-
-// The case at a place; the bytes of a request are written to lent room.
-fn answer_at(s: &[u8], sheet: &[u8], at: usize, out: &mut [u8]) -> Case
-    requires { ⌜ at ≤ length (now s) ⌝ }
-    ensures { λ r. ⌜ r .next ≤ length (now (s .entry)) ⌝ }
-{
-    let Leaf::At { from: c, to: a } = field_of(s, at, CALL) else {
-        return NO_CASE;
-    };
-    if !has_size(CALL, c, a, 1) {
-        return NO_CASE;
-    }
-    let call = octets::octet_at(s, c);
+// The call that a tag stands for. Of a listing the second word is how many words there are, and no bytes are written.
+fn called(
+    call: u8,
+    sheet: &[u8],
+    first: &[u8],
+    second: &[u8],
+    out: &mut [u8],
+    words: &mut [u32],
+) -> Answer {
     if call == SEARCH {
-        return look_up_at(s, sheet, a);
+        return searched(sheet, first, second);
     }
-    let Leaf::At { from, to } = field_of(s, a, REQUEST) else {
-        return NO_CASE;
-    };
-    let answer = resolved(sheet, &s[from..to], call, out);
-    Case {
-        answered: (answer.reply == 0) as u32,
-        word: answer.reply,
-        length: answer.length as usize,
-        next: to,
+    if call == LIST_TESTED {
+        let listed = listing::list_tested(sheet, first, second, words);
+        return Answer {
+            reply: listed.reply,
+            second: listed.length,
+            absent: 0,
+            length: 0,
+        };
     }
+    if call == RESOLVE_TESTED {
+        return resolver::resolve_tested(sheet, first, out);
+    }
+    resolver::resolve(sheet, first, out)
 }
 
 fn tell(done: u32, answered: u32, sum: u32) {
@@ -155,90 +139,45 @@ fn tell(done: u32, answered: u32, sum: u32) {
     text(b"\n");
 }
 
-// All cases from a place on, so often. A case that is none ends the program.
-fn answer_all(s: &[u8], sheet: &[u8], from: usize, times: u32, out: &mut [u8])
-    requires { ⌜ from ≤ length (now s) ⌝ }
+// The case at a place.
+fn answer_at(s: &[u8], sheet: &[u8], at: usize, out: &mut [u8], words: &mut [u32]) -> Case
+    requires { ⌜ at < length (now s) ⌝ }
+    ensures { λ r. ⌜ r .next ≤ length (now (s .entry)) ⌝ }
 {
-    let mut done = 0;
+    let call = s[at];
+    let Leaf::At { from: a, to: e } = field_of(s, at, call) else {
+        return NO_CASE;
+    };
+    let Leaf::At { from, to } = field_of(s, e, SECOND) else {
+        return NO_CASE;
+    };
+    let answer = called(call, sheet, &s[a..e], &s[from..to], out, words);
+    Case { answer, next: to }
+}
+
+// So many calls of the cases from a place on. A case that is none ends the program.
+fn call_all(s: &[u8], sheet: &[u8], from: usize, calls: u32, out: &mut [u8], words: &mut [u32])
+    requires { ⌜ from < length (now s) ⌝ }
+{
     let mut answered = 0;
     let mut sum = 0;
-    let mut left = times;
     let mut at = from;
-    while left != 0 {
-        let case = answer_at(s, sheet, at, out);
-        if case.next <= at {
+    let mut done = 0;
+    while done < calls {
+        done += 1;
+        let case = answer_at(s, sheet, at, out, words);
+        let answer = case.answer;
+        answered = wrapping_add_u32(answered, (answer.reply == 0) as u32);
+        sum = mixed(sum, answer, out);
+        at = case.next;
+        if at == 0 {
             return;
         }
-        done = wrapping_add_u32(done, 1);
-        answered = wrapping_add_u32(answered, case.answered);
-        sum = mixed(sum, case.word, out, case.length);
-        at = case.next;
         if at == s.len() {
             at = from;
-            left -= 1;
         }
     }
-    tell(done, answered, sum);
-}
-
-// The checksum with the first n words more.
-fn mixed_words(sum: u32, words: &[u32], n: usize) -> u32 {
-    let end = least(n, words.len());
-    let mut mix = sum;
-    let mut i = 0;
-    while i < end {
-        mix = wrapping_add_u32(wrapping_sub_u32(mix << 5, mix), words[i]);
-        i += 1;
-    }
-    mix
-}
-
-// The listing, so often.
-fn list_often(sheet: &[u8], options_type: &[u8], bytes: &[u8], times: u32, words: &mut [u32]) {
-    let mut answered = 0;
-    let mut sum = 0;
-    let mut length: usize = 0;
-    let mut done = 0;
-    while done < times {
-        let answer = listing::list_tested(sheet, options_type, bytes, words);
-        answered = wrapping_add_u32(answered, (answer.reply == 0) as u32);
-        sum = wrapping_add_u32(wrapping_sub_u32(sum << 5, sum), answer.reply);
-        length = answer.length as usize;
-        done += 1;
-    }
-    tell(done, answered, mixed_words(sum, words, length));
-}
-
-// The listing at a place, so often.
-fn list_at(s: &[u8], sheet: &[u8], at: usize, times: u32, words: &mut [u32])
-    requires { ⌜ at ≤ length (now s) ⌝ }
-{
-    let Leaf::At { from: a, to: e } = field_of(s, at, OPTIONS_TYPE) else {
-        return;
-    };
-    let Leaf::At { from, to } = field_of(s, e, OPTION_BYTES) else {
-        return;
-    };
-    list_often(sheet, &s[a..e], &s[from..to], times, words);
-}
-
-// Whether a listing stands at a place.
-fn lists(s: &[u8], at: usize) -> bool {
-    if at < s.len() {
-        return s[at] == OPTIONS_TYPE;
-    }
-    false
-}
-
-// All that stands from a place on, so often.
-fn call_all(s: &[u8], sheet: &[u8], from: usize, times: u32, out: &mut [u8], words: &mut [u32])
-    requires { ⌜ from ≤ length (now s) ⌝ }
-{
-    if lists(s, from) {
-        list_at(s, sheet, from, times, words);
-        return;
-    }
-    answer_all(s, sheet, from, times, out);
+    tell(done, answered, sum ^ mixed_words(words));
 }
 
 // The whole input.
@@ -246,11 +185,13 @@ fn run(s: &[u8], out: &mut [u8], words: &mut [u32]) {
     let Leaf::At { from, to } = field_of(s, 0, SHEET) else {
         return;
     };
-    let Leaf::At { from: n, to: cases } = field_of(s, to, TIMES) else {
+    let Leaf::At { from: n, to: cases } = field_of(s, to, CALLS) else {
         return;
     };
-    if has_size(TIMES, n, cases, 4) {
-        call_all(s, &s[from..to], cases, octets::u32_at(s, n), out, words);
+    if has_size(CALLS, n, cases, 4) {
+        if cases < s.len() {
+            call_all(s, &s[from..to], cases, octets::u32_at(s, n), out, words);
+        }
     }
 }
 
