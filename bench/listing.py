@@ -165,7 +165,7 @@ def most():
 
 
 def text_of(data, times, kind, payload):
-    return (f(0x40, data) + f(0x44, struct.pack(">I", times)) + f(0x46, kind) + f(0x47, payload)).hex().upper().encode()
+    return resolve.text_of(data, times, [resolve.case(resolve.LISTING, kind, payload)]).encode()
 
 
 # ---- figures

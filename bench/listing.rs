@@ -1,9 +1,9 @@
 // The listing in Rust: the same walk over the same bytes as the Rattle code, in two passes, in its order and by its names, with nothing
-// allocated. Reads the same input as the program bench and prints the same line. The sheet is walked as in search.rs, the
-// number of each record is looked up in it anew. With `--cfg memo` the look-ups of numbers are kept in a table, to see what they cost.
+// allocated. Reads the same input as the program bench, of listings alone, and prints the same line. The sheet is walked as in search.rs,
+// the number of each record is looked up in it anew. resolve.rs has this file as a module. With `--cfg memo` the look-ups of numbers are kept in a table, to see what they cost.
 #[allow(dead_code)]
 #[path = "search.rs"]
-mod search;
+pub mod search;
 
 use search::*;
 
@@ -307,24 +307,17 @@ fn list_tested(s: &[u8], options_type: &[u8], bytes: &[u8], out: &mut [u32]) -> 
 }
 
 // ---- the program
-fn main() {
-    let input = read_input();
-    let (sheet, times, at) = heading(&input);
-    let types = leaf_at(&input, at, input.len(), 0x46).unwrap();
-    let bytes = leaf_at(&input, types.to, input.len(), 0x47).unwrap();
-    let mut out = [0u32; 262_144];
-    let (mut answered, mut sum, mut length) = (0u32, 0u32, 0);
-    for _ in 0..times {
-        let listed = list_tested(&input[sheet.from..sheet.to], &input[types.from..types.to], &input[bytes.from..bytes.to], &mut out);
-        let reply = match listed {
-            Err(why) => why as u32,
-            Ok(_) => 0,
-        };
-        answered = answered.wrapping_add((reply == 0) as u32);
-        sum = mixed(sum, reply);
-        length = listed.unwrap_or(0);
+pub fn listed(sheet: &[u8], options_type: &[u8], bytes: &[u8], words: &mut [u32]) -> Case {
+    match list_tested(sheet, options_type, bytes, words) {
+        Err(why) => Case { answered: false, word: why as u32, length: 0 },
+        Ok(n) => Case { answered: true, word: n as u32, length: 0 },
     }
-    // the words are added once, as bench does
-    sum = out[..length].iter().fold(sum, |sum, word| mixed(sum, *word));
-    println!("done {} answered {} sum {}", times, answered, sum);
+}
+
+#[allow(dead_code)]
+fn main() {
+    run(|call, sheet, first, second, _, words| {
+        assert_eq!(call, LIST_TESTED);
+        listed(sheet, first, second, words)
+    });
 }

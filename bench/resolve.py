@@ -6,8 +6,8 @@ usage: resolve.py [ROUNDS] [--program PROGRAM] [--original FOLDER]
        resolve.py input
 
 `input` prints bench's stored input: the sheet, and once 20 of the requests for `resolve`, 20 for `resolve_tested`, one without options for
-either, and 23 look-ups, three of which find nothing: one has a scope and one a path that is none. Its stored output is what resolve.rs
-prints for it.
+either, 23 look-ups, three of which find nothing: one has a scope and one a path that is none, and two listings, one of them refused. Its
+stored output is what resolve.rs prints for it.
 
 The input is a sheet of 200 extensions, some of a message or an enum type, with an options message, and 1,000 requests of one to four
 options from nested scopes. PROGRAM is bench as `rt check` builds it for x86-64, target/bin/bench if none is given; `none` leaves it out,
@@ -35,7 +35,7 @@ import tempfile
 from search import f, instructions, timed
 
 TIMES = 5
-RESOLVE, TESTED, SEARCH = 0, 1, 2
+RESOLVE, TESTED, SEARCH, LISTING = 0x45, 0x46, 0x47, 0x48
 TYPE = b"google.protobuf.FieldOptions"
 BOOL, STRING, DOUBLE, UINT32, INT32, SINT64, MESSAGE, ENUM = 8, 9, 1, 13, 5, 18, 11, 14
 TYPES = [UINT32, INT32, BOOL, MESSAGE, UINT32, STRING, ENUM, DOUBLE, SINT64, UINT32]
@@ -184,24 +184,34 @@ def nesting(elements):
     return data, f(0x18) + f(0x19, b"M") + f(8, f(0x1A, b"n") * 16 + f(0x26, value))
 
 
-def case(call, *fields):
-    return f(0x45, bytes([call])) + b"".join(f(tag, payload) for tag, payload in fields)
+def case(call, first, second=b""):
+    return f(call, first) + f(0x49, second)
 
 
 def text_of(data, times, cases):
-    return (f(0x40, data) + f(0x44, struct.pack(">I", times)) + b"".join(cases)).hex().upper()
+    """All cases so often."""
+    return (f(0x40, data) + f(0x44, struct.pack(">I", times * len(cases))) + b"".join(cases)).hex().upper()
+
+
+def listings():
+    """Option bytes: with every kind of record, and with a last record of another wire type than its number has."""
+    import listing
+
+    known = listing.numbered()
+    good = b"".join(listing.flat_record([x for x in known if x[1] != MESSAGE]) for _ in range(40))
+    good += b"".join(listing.nested_record([x for x in known if x[1] == MESSAGE]) for _ in range(4))
+    return good, good + listing.record(2, STRING, b"\0")
 
 
 def stored(data, where, queries):
     """The stored input: each call, each with answers and with refusals."""
     none = f(0x18, b"plant") + f(0x19, TYPE)
-    cases = [case(RESOLVE, (0x41, q)) for q in queries[:20] + [none]] + [case(TESTED, (0x41, q)) for q in queries[20:40] + [none]]
+    cases = [case(RESOLVE, q) for q in queries[:20] + [none]] + [case(TESTED, q) for q in queries[20:40] + [none]]
     pairs = [(b"plant..", b"set1"), (b"plant", b"9"), (b"plant", b"nothing")]
     for i, (path, name, _) in enumerate(where[::10]):
         pairs.append((path + b".Unit0.Dispatch", b"." + path + b"." + name if i % 5 == 0 else name))
-    for scope, name in pairs:
-        cases.append(case(SEARCH, (0x42, scope), (0x43, name)))
-    return text_of(data, 1, cases)
+    cases += [case(SEARCH, scope, name) for scope, name in pairs]
+    return text_of(data, 1, cases + [case(LISTING, TYPE, payload) for payload in listings()])
 
 
 def built_original(folder, into):
@@ -240,7 +250,7 @@ def show(what, names, table, form):
 
 def compare(names, data, queries, call, times, rounds, counted):
     """Prints time and instructions of a request for each program. All have to print the same line."""
-    cases = [case(call, (0x41, q)) for q in queries]
+    cases = [case(call, q) for q in queries]
     texts = {n: text_of(data, n, cases).encode() for n in {0, 1, times}}
     lines = {timed(p, texts[1])[1] for p in names}
     assert len(lines) == 1, lines
@@ -282,7 +292,7 @@ def main():
         data, query = made[0](total)
         assert len(data) <= 32768 and len(query) <= 8192
         queries = [query]
-    print("sheet %d bytes; requests %d, %d bytes; size %d" % (len(data), len(queries), sum(len(f(0x41, q)) for q in queries), total))
+    print("sheet %d bytes; requests %d, %d bytes; size %d" % (len(data), len(queries), sum(len(q) + 3 for q in queries), total))
     with tempfile.TemporaryDirectory() as folder:
         names = built(args, folder)
         if made:

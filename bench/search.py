@@ -71,7 +71,7 @@ def look_ups(where):
             name = b"." + path + b"." + name
         if i % 10 == 1:
             name = b"nothing"
-        pairs += f(0x45, b"\2") + f(0x42, scope) + f(0x43, name)
+        pairs += f(0x47, scope) + f(0x49, name)
     return pairs
 
 
@@ -94,7 +94,7 @@ def main():
     args = parser.parse_args()
     data, where = sheet()
     pairs = look_ups(where)
-    texts = {n: (f(0x40, data) + f(0x44, struct.pack(">I", n)) + pairs).hex().encode() for n in (0, 1, TIMES)}
+    texts = {n: (f(0x40, data) + f(0x44, struct.pack(">I", n * 1000)) + pairs).hex().encode() for n in (0, 1, TIMES)}
     print("sheet %d bytes, 200 extensions, 1000 look-ups, %d times" % (len(data), TIMES))
     with tempfile.TemporaryDirectory() as folder:
         rust = os.path.join(folder, "search")

@@ -309,60 +309,71 @@ pub fn is_path(s: &[u8]) -> bool {
 }
 
 // ---- the program
-pub fn mixed(sum: u32, n: u32) -> u32 {
-    sum.wrapping_mul(31).wrapping_add(n)
+pub const RESOLVE: u8 = 0x45;
+pub const RESOLVE_TESTED: u8 = 0x46;
+pub const SEARCH: u8 = 0x47;
+pub const LIST_TESTED: u8 = 0x48;
+pub const SECOND: u8 = 0x49;
+
+// What a case came to: whether it was answered, the word of its answer, and how many bytes were written.
+pub struct Case {
+    pub answered: bool,
+    pub word: u32,
+    pub length: usize,
 }
 
-pub fn read_input() -> Vec<u8> {
+pub fn mixed(sum: u32, n: u32) -> u32 {
+    sum.rotate_left(5) ^ n
+}
+
+fn read_input() -> Vec<u8> {
     let mut text = String::new();
     std::io::stdin().read_to_string(&mut text).unwrap();
     let digits: Vec<u8> = text.bytes().filter(|b| b.is_ascii_hexdigit()).collect();
     digits.chunks(2).map(|c| u8::from_str_radix(std::str::from_utf8(c).unwrap(), 16).unwrap()).collect()
 }
 
-// The sheet, how often, and where the cases start.
-pub fn heading(input: &[u8]) -> (Span, u32, usize) {
-    let sheet = leaf_at(input, 0, input.len(), 0x40).unwrap();
-    let times = sized_at(input, sheet.to, input.len(), 0x44, 4).unwrap();
-    (sheet, u32::from_be_bytes(input[times.from..times.to].try_into().unwrap()), times.to)
-}
-
-// What is called in the case at a place, and where that which it takes starts.
-pub fn call_at(input: &[u8], at: usize) -> (u8, usize) {
-    let call = sized_at(input, at, input.len(), 0x45, 1).unwrap();
-    (input[call.from], call.to)
-}
-
-fn number_found(sheet: &[u8], scope: &[u8], path: &[u8]) -> u32 {
+fn number_found(sheet: &[u8], scope: &[u8], path: &[u8]) -> Option<u32> {
     let mut room = [0u8; MOST_CANDIDATE];
     if !(scope.is_empty() || is_rel_path(scope)) || !is_path(path) {
-        return 0;
+        return None;
     }
-    find_extension_by_path(sheet, scope, path, &mut room).map_or(0, |f| f.declaration.shape.number)
+    find_extension_by_path(sheet, scope, path, &mut room).map(|f| f.declaration.shape.number)
 }
 
-// The number that the pair at a place finds, 0 where it finds none, and where the next case starts.
-pub fn look_up_at(input: &[u8], sheet: &[u8], at: usize) -> (u32, usize) {
-    let scope = leaf_at(input, at, input.len(), 0x42).unwrap();
-    let path = leaf_at(input, scope.to, input.len(), 0x43).unwrap();
-    (number_found(sheet, &input[scope.from..scope.to], &input[path.from..path.to]), path.to)
+// Where it finds nothing, the word is that of ExtensionNotFound.
+pub fn searched(sheet: &[u8], scope: &[u8], path: &[u8]) -> Case {
+    let found = number_found(sheet, scope, path);
+    Case { answered: found.is_some(), word: found.unwrap_or(4), length: 0 }
+}
+
+// All cases of the input, called in turn as often as it says, and the line. A call takes a tag, the sheet, two inputs, and the memory for
+// bytes and for words; the words are added once, after the last call, as bench does.
+pub fn run(called: impl Fn(u8, &[u8], &[u8], &[u8], &mut [u8], &mut [u32]) -> Case) {
+    let input = read_input();
+    let sheet = leaf_at(&input, 0, input.len(), 0x40).unwrap();
+    let calls = sized_at(&input, sheet.to, input.len(), 0x44, 4).unwrap();
+    let cases = calls.to;
+    let calls = u32::from_be_bytes(input[calls.from..calls.to].try_into().unwrap());
+    let (mut out, mut words) = (vec![0u8; 65_536], vec![0u32; 262_144]);
+    let (mut answered, mut sum, mut at) = (0u32, 0u32, cases);
+    for _ in 0..calls {
+        let call = input[at];
+        let first = leaf_at(&input, at, input.len(), call).unwrap();
+        let second = leaf_at(&input, first.to, input.len(), SECOND).unwrap();
+        let (one, two) = (&input[first.from..first.to], &input[second.from..second.to]);
+        let case = called(call, &input[sheet.from..sheet.to], one, two, &mut out, &mut words);
+        answered += case.answered as u32;
+        sum = out[..case.length].iter().fold(mixed(sum, case.word), |sum, b| mixed(sum, *b as u32));
+        at = if second.to == input.len() { cases } else { second.to };
+    }
+    sum = words.iter().fold(sum, |sum, word| mixed(sum, *word));
+    println!("done {} answered {} sum {}", calls, answered, sum);
 }
 
 fn main() {
-    let input = read_input();
-    let (sheet, times, cases) = heading(&input);
-    let (mut done, mut answered, mut sum) = (0u32, 0u32, 0u32);
-    for _ in 0..times {
-        let mut at = cases;
-        while at < input.len() {
-            let (call, from) = call_at(&input, at);
-            assert_eq!(call, 2);
-            let (found, next) = look_up_at(&input, &input[sheet.from..sheet.to], from);
-            done = done.wrapping_add(1);
-            answered = answered.wrapping_add((found != 0) as u32);
-            sum = mixed(sum, found);
-            at = next;
-        }
-    }
-    println!("done {} answered {} sum {}", done, answered, sum);
+    run(|call, sheet, scope, path, _, _| {
+        assert_eq!(call, SEARCH);
+        searched(sheet, scope, path)
+    });
 }

@@ -45,24 +45,28 @@ const NOT_FOUND: Answer = Answer {
     length: 0,
 };
 
-// What a case was answered, and where the next one starts.
+// What a case came to: 1 where it was answered, the word of its answer, how many bytes were written, and where the next case starts.
 struct Case {
-    answer: Answer,
+    answered: u32,
+    word: u32,
+    length: usize,
     next: usize,
 }
 
 // Where the input is no case; that has been said.
 const NO_CASE: Case = Case {
-    answer: NOT_FOUND,
+    answered: 0,
+    word: 0,
+    length: 0,
     next: 0,
 };
 
-// The checksum with an answer and then its bytes more: each time it is turned by five bits, and the word or the byte is
+// The checksum with a word and then the first n bytes of a slice more: each time it is turned by five bits, and the word or the byte is
 // added to it bit by bit.
-fn mixed(sum: u32, answer: Answer, bytes: &[u8]) -> u32 {
-    let end = least(answer.length as usize, bytes.len());
+fn mixed(sum: u32, first: u32, bytes: &[u8], n: usize) -> u32 {
+    let end = least(n, bytes.len());
     let mut mix = sum;
-    let mut word = answer.reply ^ answer.second;
+    let mut word = first;
     let mut i = 0;
     loop {
         mix = (mix << 5 | mix >> 27) ^ word;
@@ -74,9 +78,9 @@ fn mixed(sum: u32, answer: Answer, bytes: &[u8]) -> u32 {
     }
 }
 
-// The checksum of all words of a slice, 0 where they are 0.
-fn mixed_words(words: &[u32]) -> u32 {
-    let mut mix = 0;
+// The checksum with all words of a slice more.
+fn mixed_words(sum: u32, words: &[u32]) -> u32 {
+    let mut mix = sum;
     let mut i = 0;
     while i < words.len() {
         mix = (mix << 5 | mix >> 27) ^ words[i];
@@ -129,13 +133,14 @@ fn called(
     resolver::resolve(sheet, first, out)
 }
 
-fn tell(done: u32, answered: u32, sum: u32) {
+// The line, with the words of the last listing in the checksum.
+fn tell(done: u32, answered: u32, sum: u32, words: &[u32]) {
     text(b"done ");
     number(done as u64);
     text(b" answered ");
     number(answered as u64);
     text(b" sum ");
-    number(sum as u64);
+    number(mixed_words(sum, words) as u64);
     text(b"\n");
 }
 
@@ -152,7 +157,12 @@ fn answer_at(s: &[u8], sheet: &[u8], at: usize, out: &mut [u8], words: &mut [u32
         return NO_CASE;
     };
     let answer = called(call, sheet, &s[a..e], &s[from..to], out, words);
-    Case { answer, next: to }
+    Case {
+        answered: (answer.reply == 0) as u32,
+        word: answer.reply ^ answer.second,
+        length: answer.length as usize,
+        next: to,
+    }
 }
 
 // So many calls of the cases from a place on. A case that is none ends the program.
@@ -166,9 +176,8 @@ fn call_all(s: &[u8], sheet: &[u8], from: usize, calls: u32, out: &mut [u8], wor
     while done < calls {
         done += 1;
         let case = answer_at(s, sheet, at, out, words);
-        let answer = case.answer;
-        answered = wrapping_add_u32(answered, (answer.reply == 0) as u32);
-        sum = mixed(sum, answer, out);
+        answered = wrapping_add_u32(answered, case.answered);
+        sum = mixed(sum, case.word, out, case.length);
         at = case.next;
         if at == 0 {
             return;
@@ -177,7 +186,7 @@ fn call_all(s: &[u8], sheet: &[u8], from: usize, calls: u32, out: &mut [u8], wor
             at = from;
         }
     }
-    tell(done, answered, sum ^ mixed_words(words));
+    tell(done, answered, sum, words);
 }
 
 // The whole input.

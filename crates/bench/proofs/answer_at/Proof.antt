@@ -25,4 +25,6 @@ answer-at-spec = tie.close (tie.spec
     (λ c κs. search (needs, input-laws))
     (λ c. search (needs, input-laws))
     (λ c. search (needs, input-laws))
+    (λ c. search (needs, input-laws))
+    (λ c. search (needs, input-laws))
     (λ c. search (needs, input-laws)))

@@ -7,7 +7,7 @@ use Rattle.bench.proofs.call_all.Statement.{statement}
 use Rattle.bench.proofs.call_all.Tie as tie
 
 abbrev Inv-loop : tie.InvT-loop
-Inv-loop s sheet from calls out₀ words₀ answered₀ sum₀ at₀ done₀ out words answered sum at done = 
+Inv-loop s sheet from calls out₀ words₀ answered₀ sum₀ at₀ done₀ out words answered sum at done =
     (length out ≡ length out₀) × ((length words ≡ length words₀) × (at < length s))
 
 abbrev μ-loop : tie.MeasureT-loop
@@ -18,7 +18,6 @@ call-all-spec = tie.close (tie.spec Inv-loop μ-loop
     (λ c. search (needs, input-laws))
     (λ c. search (needs, input-laws))
     (λ c κs. search (needs, input-laws))
-    (λ c. search (needs, input-laws))
     (λ c κs. search (needs, input-laws))
     (λ c κs. search (needs, input-laws))
     (λ c. search (needs, input-laws))
@@ -28,7 +27,6 @@ call-all-spec = tie.close (tie.spec Inv-loop μ-loop
     (λ c. search (needs, input-laws))
     (λ c. search (needs, input-laws))
     (λ c. search (needs, input-laws))
-    (λ c κs. search (needs, input-laws))
     (λ c κs. search (needs, input-laws))
     (λ c. search (needs, input-laws))
     (λ c. search (needs, input-laws))

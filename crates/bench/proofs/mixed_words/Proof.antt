@@ -6,10 +6,10 @@ use Rattle.bench.proofs.mixed_words.Statement.{statement}
 use Rattle.bench.proofs.mixed_words.Tie as tie
 
 abbrev Inv-loop : tie.InvT-loop
-Inv-loop words mix₀ i₀ mix i = Unit
+Inv-loop sum words mix₀ i₀ mix i = Unit
 
 abbrev μ-loop : tie.MeasureT-loop
-μ-loop words mix₀ i₀ mix i = length words - i
+μ-loop sum words mix₀ i₀ mix i = length words - i
 
 pub mixed-words-spec : {M : Type 1} → statement M
 mixed-words-spec = tie.close (tie.spec Inv-loop μ-loop
