@@ -1,6 +1,7 @@
 // The listing in Rust: the same walk over the same bytes as the Rattle code, in two passes, in its order and by its names, with nothing
 // allocated. Reads the same input as the program bench, of listings alone, and prints the same line. The sheet is walked as in search.rs,
-// the number of each record is looked up in it anew. resolve.rs has this file as a module. With `--cfg memo` the look-ups of numbers are kept in a table, to see what they cost.
+// the number of each record is looked up in it anew. With `--cfg memo` the look-ups of numbers are kept in a table, to see what they cost.
+// resolve.rs has this file as a module.
 #[allow(dead_code)]
 #[path = "search.rs"]
 pub mod search;

@@ -309,7 +309,6 @@ pub fn is_path(s: &[u8]) -> bool {
 }
 
 // ---- the program
-pub const RESOLVE: u8 = 0x45;
 pub const RESOLVE_TESTED: u8 = 0x46;
 pub const SEARCH: u8 = 0x47;
 pub const LIST_TESTED: u8 = 0x48;
