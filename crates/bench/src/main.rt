@@ -49,7 +49,7 @@ const NOT_FOUND: Answer = Answer {
 struct Case {
     answered: u32,
     word: u32,
-    length: usize,
+    length: u32,
     next: usize,
 }
 
@@ -63,8 +63,8 @@ const NO_CASE: Case = Case {
 
 // The checksum with a word and then the first n bytes of a slice more: each time it is turned by five bits, and the word or the byte is
 // added to it bit by bit.
-fn mixed(sum: u32, first: u32, bytes: &[u8], n: usize) -> u32 {
-    let end = least(n, bytes.len());
+fn mixed(sum: u32, first: u32, bytes: &[u8], n: u32) -> u32 {
+    let end = least(n as usize, bytes.len());
     let mut mix = sum;
     let mut word = first;
     let mut i = 0;
@@ -160,7 +160,7 @@ fn answer_at(s: &[u8], sheet: &[u8], at: usize, out: &mut [u8], words: &mut [u32
     Case {
         answered: (answer.reply == 0) as u32,
         word: answer.reply ^ answer.second,
-        length: answer.length as usize,
+        length: answer.length,
         next: to,
     }
 }

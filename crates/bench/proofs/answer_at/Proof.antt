@@ -26,5 +26,4 @@ answer-at-spec = tie.close (tie.spec
     (λ c. search (needs, input-laws))
     (λ c. search (needs, input-laws))
     (λ c. search (needs, input-laws))
-    (λ c. search (needs, input-laws))
     (λ c. search (needs, input-laws)))
