@@ -1,7 +1,6 @@
 -- `bench::call_all` meets its contract, by its loop's invariant and laws.
 -- Assumes nothing.
 use Rattle.basis.specs.Kit.{_≡_, _-_, _<_, length}
-use Rattle.bench.proofs.CaseLaws.{input-laws}
 use Rattle.basis.proofs.Kit.{needs}
 use Rattle.bench.proofs.call_all.Statement.{statement}
 use Rattle.bench.proofs.call_all.Tie as tie
@@ -15,19 +14,19 @@ abbrev μ-loop : tie.MeasureT-loop
 
 pub call-all-spec : {M : Type 1} → statement M
 call-all-spec = tie.close (tie.spec Inv-loop μ-loop
-    (λ c. search (needs, input-laws))
-    (λ c. search (needs, input-laws))
-    (λ c κs. search (needs, input-laws))
-    (λ c κs. search (needs, input-laws))
-    (λ c κs. search (needs, input-laws))
-    (λ c. search (needs, input-laws))
-    (λ c. search (needs, input-laws))
-    (λ c. search (needs, input-laws))
-    (λ c. search (needs, input-laws))
-    (λ c. search (needs, input-laws))
-    (λ c. search (needs, input-laws))
-    (λ c. search (needs, input-laws))
-    (λ c κs. search (needs, input-laws))
-    (λ c. search (needs, input-laws))
-    (λ c. search (needs, input-laws))
-    (λ c. search (needs, input-laws)))
+    (λ c. search)
+    (λ c. search needs)
+    (λ c κs. search)
+    (λ c κs. search)
+    (λ c κs. search)
+    (λ c. search)
+    (λ c. search)
+    (λ c. search)
+    (λ c. search needs)
+    (λ c. search needs)
+    (λ c. search needs)
+    (λ c. search needs)
+    (λ c κs. search)
+    (λ c. search)
+    (λ c. search)
+    (λ c. search))

@@ -3,7 +3,6 @@
 use Rattle.basis.specs.Kit.{_-_, _≤_, length}
 use Rattle.basis.proofs.Kit.{needs}
 use Rattle.bench.proofs.mixed.Statement.{statement}
-use Rattle.bench.proofs.CaseLaws.{input-laws}
 use Rattle.bench.proofs.mixed.Tie as tie
 
 abbrev Inv-loop : tie.InvT-loop
@@ -14,11 +13,11 @@ abbrev μ-loop : tie.MeasureT-loop
 
 pub mixed-spec : {M : Type 1} → statement M
 mixed-spec = tie.close (tie.spec Inv-loop μ-loop
-    (λ c κs. search (needs, input-laws))
-    (λ c. search (needs, input-laws))
-    (λ c. search (needs, input-laws))
-    (λ c κs. search (needs, input-laws))
-    (λ c. search (needs, input-laws))
-    (λ c. search (needs, input-laws))
-    (λ c. search (needs, input-laws))
-    (λ c. search (needs, input-laws)))
+    (λ c κs. search)
+    (λ c. search needs)
+    (λ c. search)
+    (λ c κs. search needs)
+    (λ c. search needs)
+    (λ c. search needs)
+    (λ c. search needs)
+    (λ c. search needs))

@@ -13,10 +13,10 @@ abbrev μ-loop : tie.MeasureT-loop
 
 pub mixed-words-spec : {M : Type 1} → statement M
 mixed-words-spec = tie.close (tie.spec Inv-loop μ-loop
+    (λ c. search)
+    (λ c. search needs)
+    (λ c. search)
     (λ c. search needs)
     (λ c. search needs)
-    (λ c. search needs)
-    (λ c. search needs)
-    (λ c. search needs)
-    (λ c. search needs)
-    (λ c. search needs))
+    (λ c. search)
+    (λ c. search))
