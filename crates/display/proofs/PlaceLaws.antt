@@ -1,12 +1,23 @@
 -- What the lines know of places: a field, a leaf and a tested span lie in the sheet, and so do an enum's values; the rows go on.
 -- Assumes nothing.
-use Rattle.field.proofs.FieldLaws.{field-inside, field-place-laws}
-use Rattle.field.proofs.LeafLaws.{leaf-ordered, leaf-within}
+use Rattle.basis.specs.Kit.{_≡_, List, ℕ, _-_, _≤_, _<_}
+use Rattle.basis.proofs.Kit.{arith}
+use Rattle.field.specs.declared.Field.{Field}
+use Rattle.field.specs.declared.Field.the-variants.{Whole}
+use Rattle.field.specs.Field.{fieldAt}
+use Rattle.field.proofs.FieldLaws.{field-bounds, field-inside, field-place-laws}
 use Rattle.field.proofs.PartLaws.{span-ordered, span-within}
 use Rattle.lookups.proofs.LookupLaws.{message-lies, enum-ordered, enum-within}
-use Rattle.payload.proofs.PayloadLaws.{bytes-short}
 use Rattle.levels.proofs.MovesLaws.{next-facts}
 
-pub ruleset place-laws = (field-inside, field-place-laws, leaf-ordered, leaf-within, span-ordered, span-within, enum-ordered, enum-within)
+-- the inside of a field begins at its end's place at most, and further on than the field
+module _ (s : List ℕ) (at end : ℕ) (r : Field) (q : r ≡ fieldAt s at end) (t a e : ℕ) (g : r ≡ Whole t a e) where
+  pub field-starts : a ≤ end
+  field-starts = let b = field-bounds s at end r q t a e g in omega (arith, b .ordered, b .inside)
 
-pub ruleset row-laws = (message-lies, bytes-short, next-facts)
+  pub field-entered : at < end → end - a < end - at
+  field-entered h = let b = field-bounds s at end r q t a e g in omega (arith, b .starts)
+
+pub ruleset place-laws = (field-inside, field-place-laws, field-starts, field-entered, span-ordered, span-within, enum-ordered, enum-within)
+
+pub ruleset row-laws = (message-lies, next-facts)

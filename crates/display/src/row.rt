@@ -1,47 +1,56 @@
 // A record as a line for people.
-use crate::kinds::show_type;
-use crate::kinds::show_wire;
-use crate::name::show_name;
+use crate::name::show_full_name;
+use crate::name::text_at;
 use crate::value::show_value;
+use crate::words::BLANK;
+use crate::words::EQUALS;
+use crate::words::LINE_END;
+use crate::words::UNKNOWN;
+use crate::words::WIRES;
+use crate::words::show_word;
 use console::output::number;
-use console::output::text;
 use entries::Entry;
 use entries::Row;
-use octets::wide;
+use field::Span;
 use sheet::declaration::Declaration;
 use sheet::declaration::Declared;
 use types::TYPE_MESSAGE;
 
-// Two blanks, and two more for each level.
+// Two blanks, and two more for each level: there are 32 at most (MOST_LEVELS).
 fn indent(level: u32) {
-    text(b"  ");
-    let mut i = 0;
-    while i < level {
-        text(b"  ");
-        i += 1;
-    }
-}
-
-fn show_field_number(n: u32) {
-    text(b" ");
-    number(n as u64);
-    text(b" ");
+    text_at(
+        b"                                                                ",
+        Span {
+            from: 0,
+            to: level as usize * 2 + 2,
+        },
+    );
 }
 
 // A record that nothing declares.
-fn show_unknown(entry: Entry) {
-    text(b"?");
-    show_field_number(entry.number);
-    show_wire(entry.wire);
+fn show_unknown(n: u32, wire: u8) {
+    show_word(UNKNOWN);
+    number(n as u64);
+    show_word(BLANK);
+    show_word(WIRES + wire as usize);
 }
 
-// A record that this declares. What a message holds stands on the lines after it.
+// A record that this declares. A type has a path or a word. What a message holds stands on the lines after it.
 fn show_known(sheet: &[u8], bytes: &[u8], d: Declaration, entry: Entry) {
-    show_name(sheet, d);
-    show_field_number(entry.number);
-    show_type(sheet, d.shape);
-    if wide(entry.typ) != TYPE_MESSAGE {
-        text(b" = ");
+    // a field has no extendee
+    if d.extendee.to == 0 {
+        text_at(sheet, d.name);
+    } else {
+        show_full_name(sheet, d.name);
+    }
+    show_word(BLANK);
+    number(entry.number as u64);
+    show_word(BLANK);
+    let typ = d.shape.typ as usize;
+    text_at(sheet, d.shape.path);
+    show_word(typ);
+    if typ != TYPE_MESSAGE {
+        show_word(EQUALS);
         show_value(sheet, bytes, d.shape.path, entry);
     }
 }
@@ -51,8 +60,8 @@ pub fn show_row(sheet: &[u8], bytes: &[u8], row: Row) {
     let entry = row.entry;
     let by = entry.by;
     match by {
-        Declared::NoDeclaration => show_unknown(entry),
+        Declared::NoDeclaration => show_unknown(entry.number, entry.wire),
         Declared::Declares(d) => show_known(sheet, bytes, d, entry),
     }
-    text(b"\n");
+    show_word(LINE_END);
 }

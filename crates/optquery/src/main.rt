@@ -27,7 +27,7 @@ fn answer_over(sheet: &[u8], options_type: &[u8], name: &[u8], bytes: &[u8], wor
     if answer.absent != 0 {
         text(b"absent\n");
     } else if answer.reply == 0 {
-        display::record(words, 0);
+        display::records(words, WORDS);
     }
 }
 

@@ -6,16 +6,21 @@ use Rattle.display.proofs.records.Statement.{statement}
 use Rattle.display.proofs.records.Tie as tie
 
 abbrev Inv-loop : tie.InvT-loop
-Inv-loop words n end at₀ at = at ≤ end
+Inv-loop words n end at₀ t5 at = at ≤ end
 
 abbrev μ-loop : tie.MeasureT-loop
-μ-loop words n end at₀ at = end - at
+μ-loop words n end at₀ t5 at = end - at
 
 pub records-spec : {M : Type 1} → statement M
 records-spec = tie.close (tie.spec Inv-loop μ-loop
     (λ c κs. search)
     (λ c. search needs)
     (λ c. search)
+    (λ c. search)
+    (λ c. search needs)
+    (λ c. search)
+    (λ c. search)
+    (λ c. search needs)
     (λ c κs. search)
     (λ c. search needs)
     (λ c. search needs)

@@ -13,7 +13,6 @@ abbrev μ-loop : tie.MeasureT-loop
 
 pub show-bits-spec : {M : Type 1} → statement M
 show-bits-spec = tie.close (tie.spec Inv-loop μ-loop
-    (λ c. search)
     (λ c κs. search)
     (λ c. search needs)
     (λ c. search)
