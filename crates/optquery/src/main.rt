@@ -1,13 +1,11 @@
 // Asks option bytes for the value of a name. Input: 40 a sheet, 44 an options type, 46 a name (fields 1A and 1B), 45 option bytes; several
 // of these one after the other are several cases, each answered in its turn. On 0 it prints the eight words of the record, or `absent`.
 ghost use Rattle.basis.specs.Kit.{_≤_, length};
-ghost use Rattle.field.specs.Leaf.{Lies};
 use console::input::Input;
 use console::input::MOST_BYTES;
 use console::input::field_of;
 use console::output::text;
 use field::Leaf;
-use field::Span;
 
 const SHEET: u8 = 0x40;
 
@@ -27,24 +25,8 @@ fn answer_over(sheet: &[u8], options_type: &[u8], name: &[u8], bytes: &[u8], wor
     if answer.absent != 0 {
         text(b"absent\n");
     } else if answer.reply == 0 {
-        display::records(words, WORDS);
+        console::output::words(b"record", words, WORDS);
     }
-}
-
-// One case, of spans of the input.
-fn answer_case(s: &[u8], sheet: Span, options_type: Span, name: Span, bytes: Span)
-    requires { ⌜ Lies sheet (now s) × Lies «options_type» (now s) × Lies name (now s) × Lies bytes (now s) ⌝ }
-{
-    let from = sheet.from;
-    let to = sheet.to;
-    let a = options_type.from;
-    let e = options_type.to;
-    let n = name.from;
-    let m = name.to;
-    let b = bytes.from;
-    let f = bytes.to;
-    let mut words = [0u32; WORDS];
-    answer_over(&s[from..to], &s[a..e], &s[n..m], &s[b..f], &mut words);
 }
 
 // One case, and where the next one starts; 0 where the input is no such fields.
@@ -64,37 +46,28 @@ fn query_case(s: &[u8], at: usize) -> usize
     let Leaf::At { from: b, to: f } = field_of(s, m, OPTION_BYTES) else {
         return 0;
     };
-    answer_case(
-        s,
-        Span { from: from, to: to },
-        Span { from: a, to: e },
-        Span { from: n, to: m },
-        Span { from: b, to: f },
-    );
+    let mut words = [0u32; WORDS];
+    answer_over(&s[from..to], &s[a..e], &s[n..m], &s[b..f], &mut words);
     f
 }
 
-// All cases, of which there has to be one.
-fn query_cases(s: &[u8]) {
+// All cases of standard input, of which there has to be one, read into a lent buffer.
+fn run_over(buffer: &mut [u8]) {
+    let Input::Bytes(n) = console::input::read(buffer) else {
+        return;
+    };
+    let s = &buffer[..n];
     let mut at = 0;
     loop {
         let next = query_case(s, at);
         if next <= at {
             return;
         }
-        if next == s.len() {
+        if next == n {
             return;
         }
         at = next;
     }
-}
-
-// Standard input, read into a lent buffer.
-fn run_over(buffer: &mut [u8]) {
-    let Input::Bytes(n) = console::input::read(buffer) else {
-        return;
-    };
-    query_cases(&buffer[..n]);
 }
 
 fn main() {

@@ -23,10 +23,18 @@ query-case-spec = tie.close (tie.spec
     (λ c. search)
     (λ c. search)
     (λ c. search needs)
-    (λ c κs. (
-      (search case-laws, search case-laws),
-      (search case-laws, search case-laws),
-      (search case-laws, search case-laws),
-      (search case-laws, search case-laws),
-    ))
+    (λ c. search case-laws)
+    (λ c. search case-laws)
+    (λ c. search case-laws)
+    (λ c. search case-laws)
+    (λ c. search case-laws)
+    (λ c. search case-laws)
+    (λ c. search case-laws)
+    (λ c. search case-laws)
+    (λ c. search case-laws)
+    (λ c. search case-laws)
+    (λ c. search case-laws)
+    (λ c. search case-laws)
+    (λ c. search)
+    (λ c κs. search)
     (λ c. search case-laws))
