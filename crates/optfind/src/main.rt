@@ -1,14 +1,12 @@
 // Finds extensions. Input: 40 a sheet, 42 a scope, 43 a path; several of these one after the other are several cases, each answered in its
 // turn. On 0 it says which extension the path finds.
-ghost use Rattle.basis.specs.Kit.{_≡_, _≤_, length};
-ghost use Rattle.field.specs.Leaf.{Lies};
+ghost use Rattle.basis.specs.Kit.{_≤_, length};
 use console::input::Input;
 use console::input::MOST_BYTES;
 use console::input::field_of;
 use console::output::number;
 use console::output::text;
 use field::Leaf;
-use field::Span;
 
 const SHEET: u8 = 0x40;
 
@@ -46,52 +44,28 @@ fn part(s: &[u8], at: u32, n: u32) -> &[u8] {
     &s[from..from + size]
 }
 
-// Whose extension it is, and its type.
-fn tell_type(sheet: &[u8], words: &[u32])
-    requires { ⌜ length (now words) ≡ 10 ⌝ }
-{
+// What the words of `find` say of the sheet.
+fn tell(sheet: &[u8], words: &[u32; WORDS]) {
+    line(b"name ", part(sheet, words[1], words[2]));
+    numbered(b"number ", words[5]);
     line(b"extendee ", part(sheet, words[3], words[4]));
     numbered(b"type ", words[6]);
     numbered(b"label ", words[7]);
     if words[9] != 0 {
         line(b"of ", part(sheet, words[8], words[9]));
     }
-}
-
-// What the words of `find` say of the sheet.
-fn tell(sheet: &[u8], words: &[u32])
-    requires { ⌜ length (now words) ≡ 10 ⌝ }
-{
-    line(b"name ", part(sheet, words[1], words[2]));
-    numbered(b"number ", words[5]);
-    tell_type(sheet, words);
     numbered(b"file ", words[0]);
     numbered(b"place ", words[1]);
 }
 
-// The answer for a sheet, a scope and a path, its words in lent room.
-fn answer_over(sheet: &[u8], scope: &[u8], path: &[u8], words: &mut [u32])
-    requires { ⌜ length (now words) ≡ 10 ⌝ }
-{
-    let answer = find::find(sheet, scope, path, words);
+// The answer for a sheet, a scope and a path.
+fn answer(sheet: &[u8], scope: &[u8], path: &[u8]) {
+    let mut words = [0u32; WORDS];
+    let answer = find::find(sheet, scope, path, &mut words);
     console::output::answer(answer);
     if answer.reply == 0 {
-        tell(sheet, words);
+        tell(sheet, &words);
     }
-}
-
-// One case, of spans of the input.
-fn answer_case(s: &[u8], sheet: Span, scope: Span, path: Span)
-    requires { ⌜ Lies sheet (now s) × Lies scope (now s) × Lies path (now s) ⌝ }
-{
-    let from = sheet.from;
-    let to = sheet.to;
-    let a = scope.from;
-    let e = scope.to;
-    let n = path.from;
-    let m = path.to;
-    let mut words = [0u32; WORDS];
-    answer_over(&s[from..to], &s[a..e], &s[n..m], &mut words);
 }
 
 // One case, and where the next one starts; 0 where the input is no such fields.
@@ -108,36 +82,27 @@ fn find_case(s: &[u8], at: usize) -> usize
     let Leaf::At { from: n, to: m } = field_of(s, e, PATH) else {
         return 0;
     };
-    answer_case(
-        s,
-        Span { from: from, to: to },
-        Span { from: a, to: e },
-        Span { from: n, to: m },
-    );
+    answer(&s[from..to], &s[a..e], &s[n..m]);
     m
 }
 
-// All cases, of which there has to be one.
-fn find_cases(s: &[u8]) {
+// All cases of standard input, of which there has to be one, read into a lent buffer.
+fn run_over(buffer: &mut [u8]) {
+    let Input::Bytes(n) = console::input::read(buffer) else {
+        return;
+    };
+    let s = &buffer[..n];
     let mut at = 0;
     loop {
         let next = find_case(s, at);
         if next <= at {
             return;
         }
-        if next == s.len() {
+        if next == n {
             return;
         }
         at = next;
     }
-}
-
-// Standard input, read into a lent buffer.
-fn run_over(buffer: &mut [u8]) {
-    let Input::Bytes(n) = console::input::read(buffer) else {
-        return;
-    };
-    find_cases(&buffer[..n]);
 }
 
 fn main() {

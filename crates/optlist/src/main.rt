@@ -1,12 +1,10 @@
 // Lists option bytes. Input: 40 a sheet, 44 an options type, 45 option bytes; several of these one after the other are several cases, each
 // answered in its turn. On 0 it prints the eight words of each record, and then each record once more for people.
 ghost use Rattle.basis.specs.Kit.{_≤_, length};
-ghost use Rattle.field.specs.Leaf.{Lies};
 use console::input::Input;
 use console::input::MOST_BYTES;
 use console::input::field_of;
 use field::Leaf;
-use field::Span;
 
 const SHEET: u8 = 0x40;
 
@@ -27,19 +25,6 @@ fn answer_over(sheet: &[u8], options_type: &[u8], bytes: &[u8], words: &mut [u32
     }
 }
 
-// One case, of spans of the input.
-fn answer_case(s: &[u8], sheet: Span, options_type: Span, bytes: Span, words: &mut [u32])
-    requires { ⌜ Lies sheet (now s) × Lies «options_type» (now s) × Lies bytes (now s) ⌝ }
-{
-    let from = sheet.from;
-    let to = sheet.to;
-    let a = options_type.from;
-    let e = options_type.to;
-    let n = bytes.from;
-    let m = bytes.to;
-    answer_over(&s[from..to], &s[a..e], &s[n..m], words);
-}
-
 // The case at a place, and where the next one starts; 0 where the input is no such fields.
 fn list_case(s: &[u8], at: usize, words: &mut [u32]) -> usize
     requires { ⌜ at ≤ length (now s) ⌝ }
@@ -54,37 +39,27 @@ fn list_case(s: &[u8], at: usize, words: &mut [u32]) -> usize
     let Leaf::At { from: n, to: m } = field_of(s, e, OPTION_BYTES) else {
         return 0;
     };
-    answer_case(
-        s,
-        Span { from: from, to: to },
-        Span { from: a, to: e },
-        Span { from: n, to: m },
-        words,
-    );
+    answer_over(&s[from..to], &s[a..e], &s[n..m], words);
     m
 }
 
-// All cases, of which there has to be one.
-fn list_cases(s: &[u8], words: &mut [u32]) {
+// All cases of standard input, of which there has to be one, read into a lent buffer.
+fn run_over(buffer: &mut [u8], words: &mut [u32]) {
+    let Input::Bytes(n) = console::input::read(buffer) else {
+        return;
+    };
+    let s = &buffer[..n];
     let mut at = 0;
     loop {
         let next = list_case(s, at, words);
         if next <= at {
             return;
         }
-        if next == s.len() {
+        if next == n {
             return;
         }
         at = next;
     }
-}
-
-// Standard input, read into a lent buffer.
-fn run_over(buffer: &mut [u8], words: &mut [u32]) {
-    let Input::Bytes(n) = console::input::read(buffer) else {
-        return;
-    };
-    list_cases(&buffer[..n], words);
 }
 
 fn main() {

@@ -17,24 +17,18 @@ const REQUEST: u8 = 0x41;
 // The room that is lent for the option bytes of a case.
 const ROOM: usize = 65_536;
 
-// The line `bytes`, with the bytes where there are some.
-fn tell_bytes(bytes: &[u8]) {
-    text(b"bytes");
-    if bytes.len() != 0 {
-        text(b" ");
-        hex(bytes);
-    }
-    text(b"\n");
-}
-
-// What an answer 0 says of the lent memory.
+// What an answer 0 says of the lent memory: the line `bytes`, with the bytes where there are some, or `absent`.
 fn tell(answer: Answer, out: &[u8]) {
+    let n = least(answer.length as usize, out.len());
     if answer.absent != 0 {
         text(b"absent\n");
-        return;
+    } else if n == 0 {
+        text(b"bytes\n");
+    } else {
+        text(b"bytes ");
+        hex(&out[..n]);
+        text(b"\n");
     }
-    let n = least(answer.length as usize, out.len());
-    tell_bytes(&out[..n]);
 }
 
 // One case, its option bytes in lent room.
@@ -61,27 +55,23 @@ fn resolve_case(s: &[u8], at: usize, out: &mut [u8]) -> usize
     e
 }
 
-// All cases, of which there has to be one.
-fn resolve_cases(s: &[u8], out: &mut [u8]) {
+// All cases of standard input, of which there has to be one, read into a lent buffer.
+fn run_over(buffer: &mut [u8], out: &mut [u8]) {
+    let Input::Bytes(n) = console::input::read(buffer) else {
+        return;
+    };
+    let s = &buffer[..n];
     let mut at = 0;
     loop {
         let next = resolve_case(s, at, out);
         if next <= at {
             return;
         }
-        if next == s.len() {
+        if next == n {
             return;
         }
         at = next;
     }
-}
-
-// Standard input, read into a lent buffer.
-fn run_over(buffer: &mut [u8], out: &mut [u8]) {
-    let Input::Bytes(n) = console::input::read(buffer) else {
-        return;
-    };
-    resolve_cases(&buffer[..n], out);
 }
 
 fn main() {

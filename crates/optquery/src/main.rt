@@ -18,14 +18,15 @@ const NAME: u8 = 0x46;
 // The words of an answer of `query`.
 const WORDS: usize = 8;
 
-// The answer for a sheet, an options type, a name and option bytes, its words in lent room.
-fn answer_over(sheet: &[u8], options_type: &[u8], name: &[u8], bytes: &[u8], words: &mut [u32]) {
-    let answer = query::query(sheet, options_type, name, bytes, words);
+// The answer for a sheet, an options type, a name and option bytes.
+fn answer(sheet: &[u8], options_type: &[u8], name: &[u8], bytes: &[u8]) {
+    let mut words = [0u32; WORDS];
+    let answer = query::query(sheet, options_type, name, bytes, &mut words);
     console::output::answer(answer);
     if answer.absent != 0 {
         text(b"absent\n");
     } else if answer.reply == 0 {
-        console::output::words(b"record", words, WORDS);
+        console::output::words(b"record", &words, WORDS);
     }
 }
 
@@ -46,8 +47,7 @@ fn query_case(s: &[u8], at: usize) -> usize
     let Leaf::At { from: b, to: f } = field_of(s, m, OPTION_BYTES) else {
         return 0;
     };
-    let mut words = [0u32; WORDS];
-    answer_over(&s[from..to], &s[a..e], &s[n..m], &s[b..f], &mut words);
+    answer(&s[from..to], &s[a..e], &s[n..m], &s[b..f]);
     f
 }
 

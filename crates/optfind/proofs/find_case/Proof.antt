@@ -1,7 +1,7 @@
 -- `optfind::find_case` meets its contract.
 -- Assumes nothing.
-use Rattle.basis.proofs.Kit.{needs}
 use Rattle.optfind.proofs.CaseLaws.{case-laws}
+use Rattle.basis.proofs.Kit.{needs}
 use Rattle.optfind.proofs.find_case.Statement.{statement}
 use Rattle.optfind.proofs.find_case.Tie as tie
 
@@ -19,5 +19,14 @@ find-case-spec = tie.close (tie.spec
     (λ c. search)
     (λ c. search)
     (λ c. search needs)
-    (λ c κs. search case-laws)
+    (λ c. search case-laws)
+    (λ c. search case-laws)
+    (λ c. search case-laws)
+    (λ c. search case-laws)
+    (λ c. search case-laws)
+    (λ c. search case-laws)
+    (λ c. search case-laws)
+    (λ c. search case-laws)
+    (λ c. search case-laws)
+    (λ c κs. search)
     (λ c. search case-laws))

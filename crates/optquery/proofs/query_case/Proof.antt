@@ -35,6 +35,5 @@ query-case-spec = tie.close (tie.spec
     (λ c. search case-laws)
     (λ c. search case-laws)
     (λ c. search case-laws)
-    (λ c. search)
     (λ c κs. search)
     (λ c. search case-laws))
