@@ -1,17 +1,13 @@
 -- What the program knows of its input: where its fields lie, and that a scope and a path that passed the test have the form they need.
 -- Assumes nothing.
-use Rattle.basis.specs.Kit.{_≡_, sym, _∙_, Bool, true, List, ℕ, _≤_, _<_}
-use Rattle.basis.proofs.Kit.{arith}
+use Rattle.basis.specs.Kit.{_≡_, sym, _∙_, Bool, true, List, ℕ}
 use Rattle.field.proofs.LeafLaws.{leaf-ordered, leaf-inside}
 use Rattle.console.proofs.InputLaws.{payload-holds, input-within}
 use Rattle.console.proofs.OutputLaws.{take-count}
 use Rattle.path.specs.Path.{isRelOrEmpty, isPath}
 
 -- ---- where the fields lie
-pub more-follows : (at end : ℕ) → at ≤ end → (at ≡ end → ⊥) → at < end
-more-follows at end l n = omega (arith, l, n)
-
-pub ruleset place-laws = (leaf-ordered, leaf-inside, more-follows)
+pub ruleset place-laws = (leaf-ordered, leaf-inside)
 
 pub ruleset input-laws = (place-laws, payload-holds, input-within, take-count)
 

@@ -27,6 +27,7 @@ call-all-spec = tie.close (tie.spec Inv-loop μ-loop
     (λ c. search needs)
     (λ c. search needs)
     (λ c κs. search)
+    (λ c κs. search)
     (λ c. search)
     (λ c. search)
     (λ c. search))
