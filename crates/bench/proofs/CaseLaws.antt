@@ -2,14 +2,13 @@
 -- Assumes nothing.
 use Rattle.basis.specs.Kit.{_≡_, sym, _∙_, Bool, true, List, ℕ}
 use Rattle.field.proofs.LeafLaws.{leaf-ordered, leaf-inside}
-use Rattle.console.proofs.InputLaws.{payload-holds, input-within}
-use Rattle.console.proofs.OutputLaws.{take-count}
+use Rattle.console.proofs.InputLaws.{payload-holds}
 use Rattle.path.specs.Path.{isRelOrEmpty, isPath}
 
 -- ---- where the fields lie
 pub ruleset place-laws = (leaf-ordered, leaf-inside)
 
-pub ruleset input-laws = (place-laws, payload-holds, input-within, take-count)
+pub ruleset input-laws = (place-laws, payload-holds)
 
 -- ---- the form of a scope and a path
 pub scope-form : (c : List ℕ) (b : Bool) → b ≡ isRelOrEmpty c → b ≡ true → isRelOrEmpty c ≡ true

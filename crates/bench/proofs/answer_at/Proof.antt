@@ -1,6 +1,6 @@
 -- `bench::answer_at` meets its contract.
 -- Assumes nothing.
-use Rattle.bench.proofs.CaseLaws.{input-laws}
+use Rattle.bench.proofs.CaseLaws.{place-laws}
 use Rattle.basis.proofs.Kit.{needs}
 use Rattle.bench.proofs.answer_at.Statement.{statement}
 use Rattle.bench.proofs.answer_at.Tie as tie
@@ -12,18 +12,18 @@ answer-at-spec = tie.close (tie.spec
     (λ c. search)
     (λ c. search)
     (λ c. search needs)
-    (λ c κs. search input-laws)
+    (λ c κs. search place-laws)
     (λ c. search)
     (λ c. search)
     (λ c. search needs)
-    (λ c. search input-laws)
-    (λ c. search input-laws)
-    (λ c. search input-laws)
-    (λ c. search input-laws)
-    (λ c. search input-laws)
-    (λ c. search input-laws)
+    (λ c. search place-laws)
+    (λ c. search place-laws)
+    (λ c. search place-laws)
+    (λ c. search place-laws)
+    (λ c. search place-laws)
+    (λ c. search place-laws)
     (λ c κs. search)
     (λ c. search)
     (λ c. search)
     (λ c. search)
-    (λ c. search input-laws))
+    (λ c. search place-laws))
