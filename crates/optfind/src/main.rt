@@ -44,16 +44,21 @@ fn part(s: &[u8], at: u32, n: u32) -> &[u8] {
     &s[from..from + size]
 }
 
-// What the words of `find` say of the sheet.
-fn tell(sheet: &[u8], words: &[u32; WORDS]) {
-    line(b"name ", part(sheet, words[1], words[2]));
-    numbered(b"number ", words[5]);
+// Whose extension it is, and its type.
+fn tell_type(sheet: &[u8], words: &[u32; WORDS]) {
     line(b"extendee ", part(sheet, words[3], words[4]));
     numbered(b"type ", words[6]);
     numbered(b"label ", words[7]);
     if words[9] != 0 {
         line(b"of ", part(sheet, words[8], words[9]));
     }
+}
+
+// What the words of `find` say of the sheet.
+fn tell(sheet: &[u8], words: &[u32; WORDS]) {
+    line(b"name ", part(sheet, words[1], words[2]));
+    numbered(b"number ", words[5]);
+    tell_type(sheet, words);
     numbered(b"file ", words[0]);
     numbered(b"place ", words[1]);
 }
@@ -86,23 +91,27 @@ fn find_case(s: &[u8], at: usize) -> usize
     m
 }
 
-// All cases of standard input, of which there has to be one, read into a lent buffer.
-fn run_over(buffer: &mut [u8]) {
-    let Input::Bytes(n) = console::input::read(buffer) else {
-        return;
-    };
-    let s = &buffer[..n];
+// All cases, of which there has to be one.
+fn find_cases(s: &[u8]) {
     let mut at = 0;
     loop {
         let next = find_case(s, at);
         if next <= at {
             return;
         }
-        if next == n {
+        if next == s.len() {
             return;
         }
         at = next;
     }
+}
+
+// Standard input, read into a lent buffer.
+fn run_over(buffer: &mut [u8]) {
+    let Input::Bytes(n) = console::input::read(buffer) else {
+        return;
+    };
+    find_cases(&buffer[..n]);
 }
 
 fn main() {

@@ -43,23 +43,27 @@ fn list_case(s: &[u8], at: usize, words: &mut [u32]) -> usize
     m
 }
 
-// All cases of standard input, of which there has to be one, read into a lent buffer.
-fn run_over(buffer: &mut [u8], words: &mut [u32]) {
-    let Input::Bytes(n) = console::input::read(buffer) else {
-        return;
-    };
-    let s = &buffer[..n];
+// All cases, of which there has to be one.
+fn list_cases(s: &[u8], words: &mut [u32]) {
     let mut at = 0;
     loop {
         let next = list_case(s, at, words);
         if next <= at {
             return;
         }
-        if next == n {
+        if next == s.len() {
             return;
         }
         at = next;
     }
+}
+
+// Standard input, read into a lent buffer.
+fn run_over(buffer: &mut [u8], words: &mut [u32]) {
+    let Input::Bytes(n) = console::input::read(buffer) else {
+        return;
+    };
+    list_cases(&buffer[..n], words);
 }
 
 fn main() {

@@ -55,23 +55,27 @@ fn resolve_case(s: &[u8], at: usize, out: &mut [u8]) -> usize
     e
 }
 
-// All cases of standard input, of which there has to be one, read into a lent buffer.
-fn run_over(buffer: &mut [u8], out: &mut [u8]) {
-    let Input::Bytes(n) = console::input::read(buffer) else {
-        return;
-    };
-    let s = &buffer[..n];
+// All cases, of which there has to be one.
+fn resolve_cases(s: &[u8], out: &mut [u8]) {
     let mut at = 0;
     loop {
         let next = resolve_case(s, at, out);
         if next <= at {
             return;
         }
-        if next == n {
+        if next == s.len() {
             return;
         }
         at = next;
     }
+}
+
+// Standard input, read into a lent buffer.
+fn run_over(buffer: &mut [u8], out: &mut [u8]) {
+    let Input::Bytes(n) = console::input::read(buffer) else {
+        return;
+    };
+    resolve_cases(&buffer[..n], out);
 }
 
 fn main() {

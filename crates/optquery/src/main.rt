@@ -51,23 +51,27 @@ fn query_case(s: &[u8], at: usize) -> usize
     f
 }
 
-// All cases of standard input, of which there has to be one, read into a lent buffer.
-fn run_over(buffer: &mut [u8]) {
-    let Input::Bytes(n) = console::input::read(buffer) else {
-        return;
-    };
-    let s = &buffer[..n];
+// All cases, of which there has to be one.
+fn query_cases(s: &[u8]) {
     let mut at = 0;
     loop {
         let next = query_case(s, at);
         if next <= at {
             return;
         }
-        if next == n {
+        if next == s.len() {
             return;
         }
         at = next;
     }
+}
+
+// Standard input, read into a lent buffer.
+fn run_over(buffer: &mut [u8]) {
+    let Input::Bytes(n) = console::input::read(buffer) else {
+        return;
+    };
+    query_cases(&buffer[..n]);
 }
 
 fn main() {

@@ -1,19 +1,11 @@
--- `optfind::run_over` meets its contract, by its loop's invariant and laws.
+-- `optfind::run_over` meets its contract.
 -- Assumes nothing.
-use Rattle.basis.specs.Kit.{_-_, _≤_, length}
 use Rattle.optfind.proofs.CaseLaws.{case-laws}
-use Rattle.basis.proofs.Kit.{needs}
 use Rattle.optfind.proofs.run_over.Statement.{statement}
 use Rattle.optfind.proofs.run_over.Tie as tie
 
-abbrev Inv-loop : tie.InvT-loop
-Inv-loop n s at₀ at = at ≤ length s
-
-abbrev μ-loop : tie.MeasureT-loop
-μ-loop n s at₀ at = length s - at
-
 pub run-over-spec : {M : Type 1} → statement M
-run-over-spec = tie.close (tie.spec Inv-loop μ-loop
+run-over-spec = tie.close (tie.spec
     (λ c κs. search)
     (λ c. search)
     (λ c. search)
@@ -21,11 +13,6 @@ run-over-spec = tie.close (tie.spec Inv-loop μ-loop
     (λ c. search)
     (λ c. search case-laws)
     (λ c. search case-laws)
-    (λ c. search needs)
     (λ c κs. search)
     (λ c. search)
-    (λ c. search)
-    (λ c. search)
-    (λ c. search)
-    (λ c. search needs)
     (λ c. search))
