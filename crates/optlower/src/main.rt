@@ -17,18 +17,24 @@ const REQUEST: u8 = 0x41;
 // The room that is lent for the option bytes of a case.
 const ROOM: usize = 65_536;
 
-// What an answer 0 says of the lent memory: the line `bytes`, with the bytes where there are some, or `absent`.
+// The line `bytes`, with the bytes where there are some.
+fn tell_bytes(bytes: &[u8]) {
+    text(b"bytes");
+    if bytes.len() != 0 {
+        text(b" ");
+        hex(bytes);
+    }
+    text(b"\n");
+}
+
+// What an answer 0 says of the lent memory.
 fn tell(answer: Answer, out: &[u8]) {
-    let n = least(answer.length as usize, out.len());
     if answer.absent != 0 {
         text(b"absent\n");
-    } else if n == 0 {
-        text(b"bytes\n");
-    } else {
-        text(b"bytes ");
-        hex(&out[..n]);
-        text(b"\n");
+        return;
     }
+    let n = least(answer.length as usize, out.len());
+    tell_bytes(&out[..n]);
 }
 
 // One case, its option bytes in lent room.
