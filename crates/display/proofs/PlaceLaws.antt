@@ -1,4 +1,4 @@
--- What the lines know of places: a field, a leaf and a tested span lie in the sheet, and so do an enum's values; the rows go on.
+-- What the lines know of places: a field and a tested span lie in the sheet, and so do an enum's values; the rows go on.
 -- Assumes nothing.
 use Rattle.basis.specs.Kit.{_≡_, List, ℕ, _-_, _≤_, _<_}
 use Rattle.basis.proofs.Kit.{arith}
@@ -10,7 +10,7 @@ use Rattle.field.proofs.PartLaws.{span-ordered, span-within}
 use Rattle.lookups.proofs.LookupLaws.{message-lies, enum-ordered, enum-within}
 use Rattle.levels.proofs.MovesLaws.{next-facts}
 
--- the inside of a field begins at its end's place at most, and further on than the field
+-- where the inside of a field begins: before the end, and further on than the field
 module _ (s : List ℕ) (at end : ℕ) (r : Field) (q : r ≡ fieldAt s at end) (t a e : ℕ) (g : r ≡ Whole t a e) where
   pub field-starts : a ≤ end
   field-starts = let b = field-bounds s at end r q t a e g in omega (arith, b .ordered, b .inside)
