@@ -37,27 +37,29 @@ const ROOM: usize = 65_536;
 // The room that is lent for the words of a listing: eight a record, of which 65,536 bytes hold at most 32,768.
 const WORDS: usize = 262_144;
 
-// Where the search finds nothing: ExtensionNotFound.
-const NOT_FOUND: Answer = Answer {
-    reply: 4,
-    second: 0,
-    absent: 0,
-    length: 0,
-};
-
-// What a case came to: 1 where it was answered, the word of its answer, how many bytes were written, and where the next case starts.
-struct Case {
+// What a call came to: 1 where it was answered, the word of its answer, and how many bytes were written.
+struct Outcome {
     answered: u32,
     word: u32,
     length: u32,
+}
+
+// Where the search finds nothing; the word is the number of ExtensionNotFound.
+const NOT_FOUND: Outcome = Outcome {
+    answered: 0,
+    word: 4,
+    length: 0,
+};
+
+// What a case came to, and where the next one starts.
+struct Case {
+    outcome: Outcome,
     next: usize,
 }
 
 // Where the input is no case; that has been said.
 const NO_CASE: Case = Case {
-    answered: 0,
-    word: 0,
-    length: 0,
+    outcome: NOT_FOUND,
     next: 0,
 };
 
@@ -89,21 +91,29 @@ fn mixed_words(sum: u32, words: &[u32]) -> u32 {
     mix
 }
 
-// The search, which does not take what is no scope or no path. The number that it finds is the second word of its answer.
-fn searched(sheet: &[u8], scope: &[u8], path: &[u8]) -> Answer {
+// The search, which does not take what is no scope or no path. The word is the number that it finds.
+fn searched(sheet: &[u8], scope: &[u8], path: &[u8]) -> Outcome {
     if is_rel_or_empty(scope) {
         if is_path(path) {
             if let Resolved::Field(found) = lookups::extension_named(sheet, scope, path) {
-                return Answer {
-                    reply: 0,
-                    second: found.declaration.shape.number,
-                    absent: 0,
+                return Outcome {
+                    answered: 1,
+                    word: found.declaration.shape.number,
                     length: 0,
                 };
             }
         }
     }
     NOT_FOUND
+}
+
+// What an answer says, with a second word and so many bytes.
+fn told(answer: Answer, second: u32, length: u32) -> Outcome {
+    Outcome {
+        answered: (answer.reply == 0) as u32,
+        word: answer.reply ^ second,
+        length: length,
+    }
 }
 
 // The call that a tag stands for. Of a listing the second word is how many words there are, and no bytes are written.
@@ -114,23 +124,20 @@ fn called(
     second: &[u8],
     out: &mut [u8],
     words: &mut [u32],
-) -> Answer {
+) -> Outcome {
     if call == SEARCH {
         return searched(sheet, first, second);
     }
     if call == LIST_TESTED {
         let listed = listing::list_tested(sheet, first, second, words);
-        return Answer {
-            reply: listed.reply,
-            second: listed.length,
-            absent: 0,
-            length: 0,
-        };
+        return told(listed, listed.length, 0);
     }
     if call == RESOLVE_TESTED {
-        return resolver::resolve_tested(sheet, first, out);
+        let tested = resolver::resolve_tested(sheet, first, out);
+        return told(tested, tested.second, tested.length);
     }
-    resolver::resolve(sheet, first, out)
+    let answer = resolver::resolve(sheet, first, out);
+    told(answer, answer.second, answer.length)
 }
 
 fn tell(done: u32, answered: u32, sum: u32) {
@@ -155,11 +162,9 @@ fn answer_at(s: &[u8], sheet: &[u8], at: usize, out: &mut [u8], words: &mut [u32
     let Leaf::At { from, to } = field_of(s, e, SECOND) else {
         return NO_CASE;
     };
-    let answer = called(call, sheet, &s[a..e], &s[from..to], out, words);
+    let outcome = called(call, sheet, &s[a..e], &s[from..to], out, words);
     Case {
-        answered: (answer.reply == 0) as u32,
-        word: answer.reply ^ answer.second,
-        length: answer.length,
+        outcome: outcome,
         next: to,
     }
 }
@@ -175,8 +180,8 @@ fn call_all(s: &[u8], sheet: &[u8], from: usize, calls: u32, out: &mut [u8], wor
     while done < calls {
         done += 1;
         let case = answer_at(s, sheet, at, out, words);
-        answered = wrapping_add_u32(answered, case.answered);
-        sum = mixed(sum, case.word, out, case.length);
+        answered = wrapping_add_u32(answered, case.outcome.answered);
+        sum = mixed(sum, case.outcome.word, out, case.outcome.length);
         at = case.next;
         if at == 0 {
             return;
