@@ -44,9 +44,7 @@ use Rattle.payload.specs.Payload.{judgeBytes}
 use Rattle.following.specs.Reached.{never}
 use Rattle.query.specs.Query.{queryOf, judgeInputs, queryBy, query}
 
--- ---- in the package o: a message F of the fields n = 1, a string, and b = 3, a bool; a message M of v = 1, an int32, and i = 2, an M; the
--- extensions m = 10 of F, an M, k = 14, an int32, n = 1, a string, g = 21, a group, l = 11 and t = 22, whose type paths name nothing and
--- two messages, and x = 4 of M, an M
+-- ---- the sheets, small ones, since every look-up walks over all of its sheet
 abbrev typed : (number typ : ℕ) → List ℕ
 typed k t = tagged numberTag (four k) ++ tagged typeTag (t ∷ []) ++ tagged labelTag (1 ∷ [])
 
@@ -59,13 +57,31 @@ extension n m k t path = tagged extensionTag (tagged nameTag (ascii n) ++ tagged
 abbrev to : String → List ℕ
 to path = tagged typePathTag (ascii path)
 
-abbrev sheet : List ℕ
-sheet =
+-- in the package o: a message F of the fields n = 1, a string, and b = 3, a bool; a message M of v = 1, an int32, and i = 2, an M; the
+-- extensions m = 10 of F, an M, k = 14, an int32, n = 1, a string, g = 21, a group, and x = 4 of M, an M
+abbrev held : List ℕ
+held =
     file "o" (message "F" (field "n" 1 9 [] ++ field "b" 3 8 []) ++ message "M" (field "v" 1 5 [] ++ field "i" 2 11 (to "o.M"))
     ++ extension "m" "o.F" 10 11 (to "o.M") ++ extension "k" "o.F" 14 5 [] ++ extension "n" "o.F" 1 9 []
-    ++ extension "g" "o.F" 21 10 (to "o.M") ++ extension "l" "o.F" 11 11 (to "o.N") ++ extension "t" "o.F" 22 11 (to "o.T")
+    ++ extension "g" "o.F" 21 10 (to "o.M") ++ extension "x" "o.M" 4 11 (to "o.M"))
+
+-- two messages T
+abbrev twins : List ℕ
+twins = file "o" (message "T" []) ++ file "o" (message "T" [])
+
+-- likewise, and the extensions l = 11 and t = 22, whose type paths name nothing and two messages
+abbrev lacking : List ℕ
+lacking =
+    file "o" (message "F" (field "b" 3 8 []) ++ message "M" (field "v" 1 5 []) ++ extension "m" "o.F" 10 11 (to "o.M")
+    ++ extension "k" "o.F" 14 5 [] ++ extension "l" "o.F" 11 11 (to "o.N") ++ extension "t" "o.F" 22 11 (to "o.T")
     ++ extension "x" "o.M" 4 11 (to "o.M"))
-    ++ file "o" (message "T" []) ++ file "o" (message "T" [])
+    ++ twins
+
+abbrev flags : List ℕ
+flags = file "o" (message "F" (field "b" 3 8 [])) ++ twins
+
+abbrev nesting : List ℕ
+nesting = file "o" (message "F" [] ++ message "M" (field "i" 2 11 (to "o.M")) ++ extension "m" "o.F" 10 11 (to "o.M"))
 
 -- ---- a name as in 08
 abbrev direct : String → List ℕ
@@ -97,12 +113,12 @@ abbrev asks : List ℕ → List ℕ → Says → Case
 asks q bs a = record { name = q; bytes = bs; says = a }
 
 -- under the options type o.F, the forms of the inputs not being judged
-answerOf : Case → Says
+answerOf : List ℕ → Case → Says
 unfolding queryOf recordsOf reading recordsFrom item payloadAt said valueOf declarationOf readVarint readWithin tagGood low32Of widen32Of
     wireOf sameBytes treeOf fileIn itemsIn itemIn valueIn extensionAt messageFieldAt valueAt shapeAt typePathAt hasTypePath leafAt walkBy
     fieldAt bigAt components split onFirst spell isAbs rootless parent last ancestors candidates messagesAt scopes foundAt tried
     extResolveField stepOf partOf
-answerOf c = saysOf (queryOf never (walking sheet) sheet (ascii "o.F") (c .name) (c .bytes))
+answerOf s c = saysOf (queryOf never (walking s) s (ascii "o.F") (c .name) (c .bytes))
 
 -- [QUERY-4, QUERY-5, QUERY-6]
 abbrev followed : List Case
@@ -125,7 +141,7 @@ followed =
     ∷ asks (ext "o.g") (0x18 ∷ 1 ∷ []) absent
     ∷ []
 
-followed-are : map answerOf followed ≡ map (λ c. c .says) followed
+followed-are : map (answerOf held) followed ≡ map (λ c. c .says) followed
 unfolding answerOf
 followed-are = refl
 
@@ -148,7 +164,7 @@ named =
     ∷ asks (direct "b") (0x18 ∷ 1 ∷ 0x5A ∷ 0 ∷ []) (refused 7)
     ∷ []
 
-named-are : map answerOf named ≡ map (λ c. c .says) named
+named-are : map (answerOf lacking) named ≡ map (λ c. c .says) named
 unfolding answerOf
 named-are = refl
 
@@ -184,14 +200,14 @@ inner (suc k) = direct "i" ++ inner k
 -- that is not found, and one that is found twice; bytes that cannot be read; the name
 faults :
     map (λ c. saysOf (outcomeOf c))
-    (calls (sheet ++ 1 ∷ []) "o..F" [] (replicate 65537 0)
-    ∷ calls sheet "o..F" [] (replicate 65537 0)
-    ∷ calls sheet "o.G" [] (replicate 65537 0)
-    ∷ calls sheet "o.G" (direct "q") (replicate 65537 0)
-    ∷ calls sheet "o.G" (direct "q") (replicate 65536 0)
-    ∷ calls sheet "o.T" (direct "q") (255 ∷ [])
-    ∷ calls sheet "o.F" (direct "q") (255 ∷ [])
-    ∷ calls sheet "o.F" (direct "q") (0x18 ∷ 1 ∷ [])
+    (calls (flags ++ 1 ∷ []) "o..F" [] (replicate 65537 0)
+    ∷ calls flags "o..F" [] (replicate 65537 0)
+    ∷ calls flags "o.G" [] (replicate 65537 0)
+    ∷ calls flags "o.G" (direct "q") (replicate 65537 0)
+    ∷ calls flags "o.G" (direct "q") (replicate 65536 0)
+    ∷ calls flags "o.T" (direct "q") (255 ∷ [])
+    ∷ calls flags "o.F" (direct "q") (255 ∷ [])
+    ∷ calls flags "o.F" (direct "q") (0x18 ∷ 1 ∷ [])
     ∷ [])
     ≡ refused 1 ∷ refused 2 ∷ refused 2 ∷ refused 3 ∷ refused 7 ∷ refused 8 ∷ refused 18 ∷ refused 9 ∷ []
 unfolding outcomeOf
@@ -200,7 +216,7 @@ faults = refl
 -- 16 parts are taken, and 17 are not
 parts-limit :
     map (λ c. saysOf (outcomeOf c))
-    (calls sheet "o.F" (ext "o.m" ++ inner 15) (0x52 ∷ 30 ∷ nest 15) ∷ calls sheet "o.F" (ext "o.m" ++ inner 16) (0x52 ∷ 32 ∷ nest 16) ∷ [])
+    (calls nesting "o.F" (ext "o.m" ++ inner 15) (0x52 ∷ 30 ∷ nest 15) ∷ calls nesting "o.F" (ext "o.m" ++ inner 16) (0x52 ∷ 32 ∷ nest 16) ∷ [])
     ≡ r 15 2 11 2 32 0 0 0 ∷ refused 3 ∷ []
 unfolding outcomeOf
 parts-limit = refl
@@ -209,7 +225,7 @@ parts-limit = refl
 abbrev eight : List ℕ
 eight = 0 ∷ 3 ∷ 8 ∷ 0 ∷ 1 ∷ 1 ∷ 1 ∷ 0 ∷ []
 
-in-room : map (λ (room : ℕ). within room (outcomeOf (calls sheet "o.F" (direct "b") (0x18 ∷ 1 ∷ [])))) (8 ∷ 7 ∷ [])
+in-room : map (λ (room : ℕ). within room (outcomeOf (calls flags "o.F" (direct "b") (0x18 ∷ 1 ∷ [])))) (8 ∷ 7 ∷ [])
     ≡ give eight ∷ refuse NoRoom ∷ []
 unfolding outcomeOf
 in-room = refl
