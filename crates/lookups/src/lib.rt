@@ -49,7 +49,7 @@ pub fn extension(sheet: &[u8], scope: &[u8], message: &[u8], name: &[u8]) -> Com
     ensures { λ r. ⌜ r ≡ walking (now (sheet .entry)) .extension (now (scope .entry)) (now (message .entry)) (now (name .entry)) ⌝ }
 {
     let mut room = [0u8; MOST_CANDIDATE];
-    search::extension::ext_resolve_field_ext(sheet, scope, message, name, &mut room)
+    extensions::ext_resolve_field_ext(sheet, scope, message, name, &mut room)
 }
 
 // The extension that a name finds in a scope, whatever it extends.
@@ -58,7 +58,7 @@ pub fn extension_named(sheet: &[u8], scope: &[u8], name: &[u8]) -> Resolved
     ensures { λ r. ⌜ r ≡ findExtensionByPath (now (sheet .entry)) (now (scope .entry)) (now (name .entry)) ⌝ }
 {
     let mut room = [0u8; MOST_CANDIDATE];
-    search::extension::find_extension_by_path(sheet, scope, name, &mut room)
+    extensions::find_extension_by_path(sheet, scope, name, &mut room)
 }
 
 // The field of that name in a message.

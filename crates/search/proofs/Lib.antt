@@ -1,6 +1,5 @@
 pub mod TriedLaws
 pub mod LiesLaws
-pub mod ExtensionLaws
 pub mod CandidateOrder
 pub mod FoundLaws
 pub mod ScopeOrder

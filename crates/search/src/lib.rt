@@ -1,3 +1,2 @@
-// The search of 01, as protobuf-parse's option_resolver has it: innermost path first, found first and tested second. Everything is a walk
-// over the lent sheet, and code equals definition on every sheet, well-formed or not.
+// The search rule of 01, its theorems and 01's examples: innermost path first, found first and tested second. `extensions` has the code.
 pub mod extension;

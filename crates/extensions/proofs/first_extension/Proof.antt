@@ -1,11 +1,11 @@
--- `search::extension::first_extension` meets its contract.
+-- `extensions::first_extension` meets its contract.
 -- Assumes nothing.
 use Rattle.basis.specs.Kit.{length}
 use Rattle.scopes.specs.inner.Cursor.{ahead}
 use Rattle.scopes.proofs.Left.{Left}
-use Rattle.search.proofs.ExtensionLaws.{namedIn, first-extension-laws}
-use Rattle.search.proofs.extension.first_extension.Statement.{statement}
-use Rattle.search.proofs.extension.first_extension.Tie as tie
+use Rattle.extensions.proofs.ExtensionLaws.{namedIn, first-extension-laws}
+use Rattle.extensions.proofs.first_extension.Statement.{statement}
+use Rattle.extensions.proofs.first_extension.Tie as tie
 
 abbrev Inv-loop : tie.InvT-loop
 Inv-loop s names name c₀ c = Left (namedIn s name (ahead s names c₀)) (namedIn s name) s names c

@@ -1,12 +1,12 @@
--- `search::extension::try_candidates` meets its contract.
+-- `extensions::try_candidates` meets its contract.
 -- Assumes nothing.
 use Rattle.basis.specs.Kit.{_-_}
 use Rattle.basis.proofs.Kit.{needs}
 use Rattle.candidates.specs.Candidates.{candidates}
 use Rattle.search.specs.Lookup.{tried}
-use Rattle.search.proofs.ExtensionLaws.{Trying, try-candidates-laws}
-use Rattle.search.proofs.extension.try_candidates.Statement.{statement}
-use Rattle.search.proofs.extension.try_candidates.Tie as tie
+use Rattle.extensions.proofs.ExtensionLaws.{Trying, try-candidates-laws}
+use Rattle.extensions.proofs.try_candidates.Statement.{statement}
+use Rattle.extensions.proofs.try_candidates.Tie as tie
 
 abbrev Inv-loop : tie.InvT-loop
 Inv-loop s scope path room₀ count i₀ room i = Trying (tried s scope path) s (candidates scope path) room₀ room i
