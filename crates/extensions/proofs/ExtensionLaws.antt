@@ -28,9 +28,9 @@ use Rattle.sheet.specs.declared.declaration.Declaration.{Declaration}
 use Rattle.sheet.specs.declared.declaration.Declared.{Declared}
 use Rattle.sheet.specs.declared.declaration.Declared.the-variants.{Declares, NoDeclaration}
 use Rattle.scope.specs.declared.lookup.LookupScope.{LookupScope}
-use Rattle.scopes.specs.declared.Cursor.{Cursor}
-use Rattle.scopes.specs.declared.Next.{Next}
-use Rattle.scopes.specs.declared.Next.the-variants.{At, NoMore}
+use Rattle.cursor.specs.declared.Cursor.{Cursor}
+use Rattle.cursor.specs.declared.Next.{Next}
+use Rattle.cursor.specs.declared.Next.the-variants.{At, NoMore}
 use Rattle.search.specs.declared.extension.Found.{Found}
 use Rattle.search.specs.declared.extension.Candidate.{Candidate}
 use Rattle.search.specs.declared.extension.Tried.{Tried}
@@ -43,15 +43,15 @@ use Rattle.basis.specs.First.{firstSome}
 use Rattle.scope.specs.Scope.{Scope, holding, declarationNamed}
 use Rattle.scope.specs.inner.Answers.{declared}
 use Rattle.scopes.specs.Scopes.{scopes}
-use Rattle.scopes.specs.inner.Cursor.{ahead, startOf, Nexts}
+use Rattle.cursor.specs.inner.Cursor.{ahead, startOf, Nexts}
 use Rattle.search.specs.Lookup.{foundIn, foundAt, foundAmong, orNotFound, findExtensionByAbsPath, tried}
 use Rattle.search.specs.Lookup.{findExtensionByPath, extResolveField}
 use Rattle.scope.proofs.Answers.{declared-none, declared-some}
 use Rattle.search.proofs.TriedLaws.{resolved-none, resolved-some}
 use Rattle.named.proofs.DeclaredPlaces.{places-laws}
 use Rattle.search.proofs.LiesLaws.{tried-ordered, tried-places}
-use Rattle.scopes.proofs.Left.{Left, left-end, left-step, left-next, left-laws}
-use Rattle.scopes.proofs.StartLaws.{components-some, last-text, start-before, start-before-stands}
+use Rattle.cursor.proofs.Left.{Left, left-end, left-step, left-next, left-laws}
+use Rattle.cursor.proofs.StartLaws.{components-some, last-text, start-before, start-before-stands}
 
 -- ---- first_extension
 abbrev pub namedIn : (s : List ℕ) (n : Name) (cs : List Scope) → Resolved

@@ -14,9 +14,9 @@ use Rattle.path.specs.inner.Last.{LastStarts}
 use Rattle.path.proofs.PathLaws.{components-nil}
 use Rattle.sheet.specs.Members.{Enumeration}
 use Rattle.scope.specs.declared.lookup.LookupScope.{LookupScope}
-use Rattle.scopes.specs.declared.Cursor.{Cursor}
-use Rattle.scopes.specs.declared.Next.{Next}
-use Rattle.scopes.specs.declared.Next.the-variants.{At, NoMore}
+use Rattle.cursor.specs.declared.Cursor.{Cursor}
+use Rattle.cursor.specs.declared.Next.{Next}
+use Rattle.cursor.specs.declared.Next.the-variants.{At, NoMore}
 use Rattle.fullname.specs.declared.LookedUp.the-variants.{Message, NoMessage}
 use Rattle.fullname.specs.declared.LookedUpEnum.{LookedUpEnum}
 use Rattle.fullname.specs.declared.LookedUpEnum.the-variants.{Values, NoEnum}
@@ -24,13 +24,13 @@ use Rattle.basis.specs.First.{onlyIf, told, onto, collect}
 use Rattle.scope.specs.Scope.{Scope, holding, enumNamed}
 use Rattle.scope.specs.inner.Answers.{bodied}
 use Rattle.scopes.specs.Scopes.{scopes}
-use Rattle.scopes.specs.inner.Cursor.{ahead, startOf, Nexts}
+use Rattle.cursor.specs.inner.Cursor.{ahead, startOf, Nexts}
 use Rattle.fullname.specs.FullName.{messagesAt, enumsAt, lookedUp, lookedUpEnum}
 use Rattle.fullname.specs.inner.Ahead.{kept, passing, isMessage, declaresEnum}
 use Rattle.scope.proofs.Held.{enum-at, enum-not}
-use Rattle.scopes.proofs.CursorLaws.{nexts-no-more, nexts-at, nexts-stands, nexts-lies}
-use Rattle.scopes.proofs.Left.{Left, left-end, left-some, left-none, left-laws}
-use Rattle.scopes.proofs.StartLaws.{components-some, last-text, start-ahead, start-stands, start-before, start-before-stands}
+use Rattle.cursor.proofs.CursorLaws.{nexts-no-more, nexts-at, nexts-stands, nexts-lies}
+use Rattle.cursor.proofs.Left.{Left, left-end, left-some, left-none, left-laws}
+use Rattle.cursor.proofs.StartLaws.{components-some, last-text, start-ahead, start-stands, start-before, start-before-stands}
 
 -- ---- next_message and next_enum: the next of the scopes to come that passes a test
 module _ (good : Scope → Bool) (s t : List ℕ) (c₀ c : Cursor) (k : Left (passing good s t c₀) (collect (kept good)) s t c)

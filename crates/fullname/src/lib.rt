@@ -5,9 +5,13 @@ ghost use Rattle.basis.specs.First.{collect};
 ghost use Rattle.path.specs.Path.{components};
 ghost use Rattle.scope.specs.Scope.{holding, enumNamed};
 ghost use Rattle.scope.specs.inner.Answers.{InSheet};
-ghost use Rattle.scopes.specs.inner.Cursor.{ahead, Stands, Nexts};
+ghost use Rattle.cursor.specs.inner.Cursor.{ahead, Stands, Nexts};
 ghost use Rattle.fullname.specs.FullName.{messagesAt, enumsAt, lookedUp, lookedUpEnum};
 ghost use Rattle.fullname.specs.inner.Ahead.{passing, isMessage, declaresEnum};
+use cursor::Cursor;
+use cursor::Next;
+use cursor::next_scope;
+use cursor::start;
 use field::Leaf;
 use field::Span;
 use path::protobuf_rel_path::before;
@@ -15,10 +19,6 @@ use path::protobuf_rel_path::last_at;
 use reply::Refusal;
 use scope::lookup::LookupScope;
 use scope::lookup::enum_named;
-use scopes::Cursor;
-use scopes::Next;
-use scopes::next_scope;
-use scopes::start;
 
 // What looking up a message comes to.
 pub enum LookedUp {

@@ -1,7 +1,4 @@
-pub mod ScopesLaws
-pub mod CursorLaws
-pub mod StartLaws
-pub mod Left
+pub mod PlacedLaws
 pub mod ScopeFiles
 pub mod Standing
 pub mod Sheets

@@ -14,7 +14,7 @@ use Rattle.scope.specs.inner.Answers.{InSheet}
 use Rattle.scopes.specs.Scopes.{scopeIn, scopesIn, scopesFrom, scopes}
 use Rattle.basis.proofs.FirstLaws.{Every, none-of, every-append, every-onto}
 use Rattle.scopes.proofs.ScopeFiles.{follows, index}
-use Rattle.scopes.proofs.ScopesLaws.{Placed, followed-placed}
+use Rattle.scopes.proofs.PlacedLaws.{Placed, followed-placed}
 
 pub record Standing (s : List ℕ) (c : Scope) : Type 0 where
   pub held : c ≡ holding s (c .place)

@@ -1,2 +1,1 @@
 pub mod Scopes
-pub mod inner

@@ -1,8 +1,8 @@
 -- `extensions::first_extension` meets its contract.
 -- Assumes nothing.
 use Rattle.basis.specs.Kit.{length}
-use Rattle.scopes.specs.inner.Cursor.{ahead}
-use Rattle.scopes.proofs.Left.{Left}
+use Rattle.cursor.specs.inner.Cursor.{ahead}
+use Rattle.cursor.proofs.Left.{Left}
 use Rattle.extensions.proofs.ExtensionLaws.{namedIn, first-extension-laws}
 use Rattle.extensions.proofs.first_extension.Statement.{statement}
 use Rattle.extensions.proofs.first_extension.Tie as tie

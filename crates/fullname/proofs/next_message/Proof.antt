@@ -2,9 +2,9 @@
 -- Assumes nothing.
 use Rattle.basis.specs.Kit.{length}
 use Rattle.basis.specs.First.{collect}
-use Rattle.scopes.specs.inner.Cursor.{ahead}
+use Rattle.cursor.specs.inner.Cursor.{ahead}
 use Rattle.fullname.specs.inner.Ahead.{kept, passing, isMessage}
-use Rattle.scopes.proofs.Left.{Left}
+use Rattle.cursor.proofs.Left.{Left}
 use Rattle.fullname.proofs.FullNameLaws.{next-message-laws}
 use Rattle.fullname.proofs.next_message.Statement.{statement}
 use Rattle.fullname.proofs.next_message.Tie as tie

@@ -10,8 +10,8 @@ use Rattle.basis.specs.Kit.{Bool, true, false, List, Option, none, some, ℕ}
 use Rattle.path.specs.Path.{Name}
 use Rattle.basis.specs.First.{onlyIf, told, collect}
 use Rattle.scope.specs.Scope.{Scope, enumNamed}
-use Rattle.scopes.specs.declared.Cursor.{Cursor}
-use Rattle.scopes.specs.inner.Cursor.{ahead}
+use Rattle.cursor.specs.declared.Cursor.{Cursor}
+use Rattle.cursor.specs.inner.Cursor.{ahead}
 
 abbrev pub kept : (good : Scope → Bool) (c : Scope) → Option Scope
 kept good c = onlyIf (good c) (some c) none

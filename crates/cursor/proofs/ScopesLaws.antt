@@ -1,7 +1,6 @@
 -- The laws of the scopes that the files of a sheet give: the ways through `start`, `package_at`, `follow` and
 -- `scope_at`, what one field of the sheet adds to the scopes at a path, and that a scope that was found is what stands at its place.
 --
---            Placed s c <-> the scope c holds what stands at its place, which is one of the sheet
 --  Following v s t at p <-> v is the scope that the names of t from the place `at` on lead to from the one at p
 --       filePlace i m e ==  the place of the i-th file, whose body is from m up to e
 --
@@ -26,15 +25,15 @@ use Rattle.sheet.specs.Tree.{File, fileWith, itemsIn, fileIn}
 use Rattle.scope.specs.declared.lookup.LookupScope.{LookupScope}
 use Rattle.scope.specs.declared.lookup.Reached.{Reached}
 use Rattle.scope.specs.declared.lookup.Reached.the-variants.{To, Nowhere}
-use Rattle.scopes.specs.declared.Cursor.{Cursor}
+use Rattle.cursor.specs.declared.Cursor.{Cursor}
 use Rattle.basis.specs.First.{onlyIf, onto}
 use Rattle.scope.specs.Scope.{Scope, holding, down}
 use Rattle.scope.specs.inner.Answers.{InSheet, placed}
 use Rattle.scopes.specs.Scopes.{follow, scopesIn}
-use Rattle.scopes.specs.inner.Cursor.{startOf, packageAt, scopeAt, Within}
-use Rattle.basis.proofs.FirstLaws.{given-holds}
+use Rattle.cursor.specs.inner.Cursor.{startOf, packageAt, scopeAt, Within}
+use Rattle.scopes.proofs.PlacedLaws.{Placed, followed-placed}
 use Rattle.scope.proofs.Answers.{placed-nowhere}
-use Rattle.scope.proofs.Held.{down-held, down-lies, down-nowhere, down-to, down-to-lies}
+use Rattle.scope.proofs.Held.{down-nowhere, down-to, down-to-lies}
 
 -- ---- start
 pub start-bare : (b : Bool) → b ≡ true → _≡_ {A = Cursor} (record { next = 1; at = 0; file = 0 }) (startOf b)
@@ -96,21 +95,7 @@ scopes-step s t next i tag a e rest l q = rw (file-package s tag a e rest, ← q
     go (At n m) = refl
 
 -- ---- a scope that names lead to
-pub record Placed (s : List ℕ) (c : Scope) : Type 0 where
-  pub held : c ≡ holding s (c .place)
-  pub lies : InSheet s (c .place)
-
 module _ (s : List ℕ) where
-  down-placed : (n : List ℕ) (c : Scope) → Placed s c → (d : Scope) → down s n c ≡ some d → Placed s d
-  down-placed n c k d q =
-      let f : down s n (holding s (c .place)) ≡ some d = ap (down s n) (sym (k .held)) ∙ q in
-      record { held = down-held s n (c .place) d f; lies = down-lies s n (c .place) d f (k .lies) }
-
-  pub followed-placed : (ns : Path) (c : Scope) → Placed s c → (d : Scope) → follow s ns c ≡ some d → Placed s d
-  followed-placed [] c k d q = let u : d ≡ c = cc in rw u k
-  followed-placed (n ∷ ns) c k d q =
-      given-holds (down s n c) (follow s ns) d (Placed s d) (λ x f g. followed-placed ns x (down-placed n c k x f) d g) q
-
   -- so it is the scope at the place that a look-up answers
   placed-to : (o : Option Scope) → ((c : Scope) → o ≡ some c → Placed s c) → (r : Reached) → r ≡ placed o
       → (p : LookupScope) → r ≡ To p → o ≡ some (holding s p)

@@ -2,14 +2,14 @@
 -- Assumes nothing.
 use Rattle.basis.specs.Kit.{_≡_, refl, ap, _∙_, List, [], _∷_, Option, none, some, ℕ, _<_, length}
 use Rattle.scope.specs.declared.lookup.LookupScope.{LookupScope}
-use Rattle.scopes.specs.declared.Cursor.{Cursor}
-use Rattle.scopes.specs.declared.Next.{Next}
-use Rattle.scopes.specs.declared.Next.the-variants.{At, NoMore}
+use Rattle.cursor.specs.declared.Cursor.{Cursor}
+use Rattle.cursor.specs.declared.Next.{Next}
+use Rattle.cursor.specs.declared.Next.the-variants.{At, NoMore}
 use Rattle.basis.specs.First.{collect}
 use Rattle.scope.specs.Scope.{Scope, holding}
-use Rattle.scopes.specs.inner.Cursor.{ahead, Stands, Nexts}
+use Rattle.cursor.specs.inner.Cursor.{ahead, Stands, Nexts}
 use Rattle.basis.proofs.FirstLaws.{collect-none, collect-some}
-use Rattle.scopes.proofs.CursorLaws.{nexts-less, nexts-lies}
+use Rattle.cursor.proofs.CursorLaws.{nexts-less, nexts-lies}
 
 pub record Left {A : Type 0} (v : A) (F : List Scope → A) (s t : List ℕ) (c : Cursor) : Type 0 where
   pub stands : Stands s t c

@@ -1,11 +1,11 @@
--- `scopes::next_scope` meets its contract.
+-- `cursor::next_scope` meets its contract.
 -- Assumes nothing.
 use Rattle.basis.specs.Kit.{suc, _-_, length}
 use Rattle.basis.proofs.Kit.{needs}
-use Rattle.scopes.specs.inner.Cursor.{ahead}
-use Rattle.scopes.proofs.CursorLaws.{Onward, scopes-laws}
-use Rattle.scopes.proofs.next_scope.Statement.{statement}
-use Rattle.scopes.proofs.next_scope.Tie as tie
+use Rattle.cursor.specs.inner.Cursor.{ahead}
+use Rattle.cursor.proofs.CursorLaws.{Onward, scopes-laws}
+use Rattle.cursor.proofs.next_scope.Statement.{statement}
+use Rattle.cursor.proofs.next_scope.Tie as tie
 
 abbrev Inv-loop : tie.InvT-loop
 Inv-loop s names c₀ c = Onward (ahead s names) s names c₀ c

@@ -1,13 +1,13 @@
--- `scopes::follow` meets its contract.
+-- `cursor::follow` meets its contract.
 -- Assumes nothing.
 use Rattle.basis.specs.Kit.{suc, _-_, length}
 use Rattle.basis.proofs.Kit.{needs}
 use Rattle.path.specs.inner.Places.{namesFrom}
 use Rattle.scope.specs.Scope.{holding}
 use Rattle.scopes.specs.Scopes.{follow}
-use Rattle.scopes.proofs.ScopesLaws.{Following, follow-laws}
-use Rattle.scopes.proofs.follow.Statement.{statement}
-use Rattle.scopes.proofs.follow.Tie as tie
+use Rattle.cursor.proofs.ScopesLaws.{Following, follow-laws}
+use Rattle.cursor.proofs.follow.Statement.{statement}
+use Rattle.cursor.proofs.follow.Tie as tie
 
 abbrev Inv-loop : tie.InvT-loop
 Inv-loop s names next reached₀ at₀ reached at = Following (follow s (namesFrom names next) (holding s reached₀)) s names at reached

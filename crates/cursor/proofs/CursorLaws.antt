@@ -28,16 +28,16 @@ use Rattle.sheet.proofs.TreeLaws.{tree-files, files-end, files-cut, files-step}
 use Rattle.scope.specs.declared.lookup.LookupScope.{LookupScope}
 use Rattle.scope.specs.declared.lookup.Reached.{Reached}
 use Rattle.scope.specs.declared.lookup.Reached.the-variants.{To, Nowhere}
-use Rattle.scopes.specs.declared.Cursor.{Cursor}
-use Rattle.scopes.specs.declared.Next.{Next}
-use Rattle.scopes.specs.declared.Next.the-variants.{At, NoMore}
+use Rattle.cursor.specs.declared.Cursor.{Cursor}
+use Rattle.cursor.specs.declared.Next.{Next}
+use Rattle.cursor.specs.declared.Next.the-variants.{At, NoMore}
 use Rattle.basis.specs.First.{onto}
 use Rattle.scope.specs.Scope.{Scope, holding}
 use Rattle.scope.specs.inner.Answers.{InSheet, placed}
 use Rattle.scopes.specs.Scopes.{scopesIn, scopesFrom, scopes}
-use Rattle.scopes.specs.inner.Cursor.{frontAt, wider, here, ahead, startOf, packageAt, scopeAt, Within, Stands, Steps, Nexts}
+use Rattle.cursor.specs.inner.Cursor.{frontAt, wider, here, ahead, startOf, packageAt, scopeAt, Within, Stands, Steps, Nexts}
 use Rattle.basis.proofs.FirstLaws.{onto-none, onto-some}
-use Rattle.scopes.proofs.ScopesLaws.{end-fits, package-within, scopes-step, scope-nowhere, scope-to, scope-lies}
+use Rattle.cursor.proofs.ScopesLaws.{end-fits, package-within, scopes-step, scope-nowhere, scope-to, scope-lies}
 
 -- ---- what a step tells
 module _ (L : Cursor → List Scope) (s t : List ℕ) (c : Cursor) (r : Next) (n : Nexts L s t c r) where

@@ -1,8 +1,8 @@
--- `scopes::scope_at` meets its contract.
+-- `cursor::scope_at` meets its contract.
 -- Assumes nothing.
-use Rattle.scopes.proofs.ScopesLaws.{scope-laws}
-use Rattle.scopes.proofs.scope_at.Statement.{statement}
-use Rattle.scopes.proofs.scope_at.Tie as tie
+use Rattle.cursor.proofs.ScopesLaws.{scope-laws}
+use Rattle.cursor.proofs.scope_at.Statement.{statement}
+use Rattle.cursor.proofs.scope_at.Tie as tie
 
 pub scope-at-spec : {M : Type 1} → statement M
 scope-at-spec = tie.close (tie.spec

@@ -1,11 +1,11 @@
--- `scopes::next_here` meets its contract.
+-- `cursor::next_here` meets its contract.
 -- Assumes nothing.
 use Rattle.basis.specs.Kit.{_-_}
 use Rattle.basis.proofs.Kit.{needs}
-use Rattle.scopes.specs.inner.Cursor.{here}
-use Rattle.scopes.proofs.CursorLaws.{Onward, here-laws}
-use Rattle.scopes.proofs.next_here.Statement.{statement}
-use Rattle.scopes.proofs.next_here.Tie as tie
+use Rattle.cursor.specs.inner.Cursor.{here}
+use Rattle.cursor.proofs.CursorLaws.{Onward, here-laws}
+use Rattle.cursor.proofs.next_here.Statement.{statement}
+use Rattle.cursor.proofs.next_here.Tie as tie
 
 abbrev Inv-loop : tie.InvT-loop
 Inv-loop s names cursor end at₀ file₀ at file = Onward (here s names) s names cursor (record { next = cursor .next; at = at; file = file })

@@ -11,10 +11,10 @@ use Rattle.path.specs.inner.Places.{namesFrom}
 use Rattle.path.specs.inner.Last.{LastStarts}
 use Rattle.path.proofs.PathLaws.{spell-components}
 use Rattle.path.proofs.Names.{names-start, names-empty}
-use Rattle.scopes.specs.declared.Cursor.{Cursor}
+use Rattle.cursor.specs.declared.Cursor.{Cursor}
 use Rattle.scopes.specs.Scopes.{scopes}
-use Rattle.scopes.specs.inner.Cursor.{ahead, startOf, Stands}
-use Rattle.scopes.proofs.CursorLaws.{stands-start, ahead-start}
+use Rattle.cursor.specs.inner.Cursor.{ahead, startOf, Stands}
+use Rattle.cursor.proofs.CursorLaws.{stands-start, ahead-start}
 
 -- ---- at a path
 names-all : (t : List ℕ) → namesFrom t (1 - length t) ≡ components t

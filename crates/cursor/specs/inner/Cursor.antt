@@ -26,10 +26,10 @@ use Rattle.sheet.specs.Tree.{fileWith, itemsIn, filesIn}
 use Rattle.scope.specs.declared.lookup.LookupScope.{LookupScope}
 use Rattle.scope.specs.Scope.{Scope, holding}
 use Rattle.scope.specs.inner.Answers.{InSheet}
-use Rattle.scopes.specs.declared.Cursor.{Cursor}
-use Rattle.scopes.specs.declared.Next.{Next}
-use Rattle.scopes.specs.declared.Next.the-variants.{At, NoMore}
+use Rattle.cursor.specs.declared.Cursor.{Cursor}
+use Rattle.cursor.specs.declared.Next.{Next}
+use Rattle.cursor.specs.declared.Next.the-variants.{At, NoMore}
 use Rattle.scopes.specs.Scopes.{scopeIn, scopesIn, scopesFrom}
 
 unfoldable pub frontAt : (t : List ℕ) (at : ℕ) → Path
 frontAt t at = elim (eqb at 0) [ true ↦ [] | false ↦ split (take (at - 1) t) ]

@@ -1,0 +1,4 @@
+pub mod ScopesLaws
+pub mod CursorLaws
+pub mod StartLaws
+pub mod Left
