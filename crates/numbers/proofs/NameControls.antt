@@ -49,22 +49,26 @@ unfolding declarationOf scopes components split onFirst spell sameBytes treeOf f
     messageFieldAt valueAt shapeAt typePathAt hasTypePath walkBy leafAt fieldAt bigAt
 declaring x = knownIn (x .sheet) (x .path) (x .number) (messages (scopes (x .sheet) (components (ascii (x .path)))))
 
--- p.M has the fields f = 1, g = 1 and h = 2, and in it N has n = 3; extensions of it stand before and after it, one of them in p.L.K, and
--- in the second file
+-- p.M has the fields f = 1, g = 1 and h = 2, and in it N has n = 3; an extension of it stands before it, and one in the second file
+abbrev fielded : List ℕ
+fielded =
+    file "p" (extension "early" "p.M" 1 ++ message "L" (field "l" 9)
+    ++ message "M" (field "f" 1 ++ field "g" 1 ++ field "h" 2 ++ message "N" (field "n" 3)))
+    ++ file "q" (extension "far" "p.M" 2 ++ message "M" (field "m" 10))
+
+-- extensions of p.M stand before and after it, one of them in p.L.K, and in the second file
 abbrev extended : List ℕ
 extended =
-    file "p" (extension "early" "p.M" 1 ++ message "L" (field "l" 9 ++ message "K" (extension "deep" "p.M" 5))
-    ++ message "M" (field "f" 1 ++ field "g" 1 ++ field "h" 2 ++ message "N" (field "n" 3))
+    file "p" (message "L" (message "K" (extension "deep" "p.M" 5)) ++ message "M" (message "N" [])
     ++ extension "other" "p.L" 4 ++ extension "plain" "p.M" 7 ++ extension "twin" "p.M" 7)
-    ++ file "q" (extension "shallow" "p.M" 5 ++ extension "late" "p.M" 4 ++ extension "far" "p.M" 2
-    ++ extension "relative" "M" 8 ++ message "M" (field "m" 10) ++ extension "plain" "p.M" 7
-    ++ extension "most" "p.M" 536870911)
+    ++ file "q" (extension "shallow" "p.M" 5 ++ extension "late" "p.M" 4 ++ extension "relative" "M" 8 ++ message "M" []
+    ++ extension "plain" "p.M" 7 ++ extension "most" "p.M" 536870911)
 
 numbers : List Numbered
 numbers =
     -- a field before an extension of the number, which stands before it or after it; of two fields the first
-    declares extended "p.M" 1 (is (ascii "f"))
-    ∷ declares extended "p.M" 2 (is (ascii "h"))
+    declares fielded "p.M" 1 (is (ascii "f"))
+    ∷ declares fielded "p.M" 2 (is (ascii "h"))
     -- an extension in the second file, where no field has the number; that of another message, though earlier, is passed over
     ∷ declares extended "p.M" 4 (is (ascii "late"))
     ∷ declares extended "p.L" 4 (is (ascii "other"))
@@ -75,11 +79,11 @@ numbers =
     -- the extendee is a full name as it is written
     ∷ declares extended "p.M" 8 unknown
     -- a field of a message inside, of another message, and of another message of that name
-    ∷ declares extended "p.M" 3 unknown
-    ∷ declares extended "p.M.N" 3 (is (ascii "n"))
-    ∷ declares extended "p.M" 9 unknown
-    ∷ declares extended "p.M" 10 unknown
-    ∷ declares extended "q.M" 10 (is (ascii "m"))
+    ∷ declares fielded "p.M" 3 unknown
+    ∷ declares fielded "p.M.N" 3 (is (ascii "n"))
+    ∷ declares fielded "p.M" 9 unknown
+    ∷ declares fielded "p.M" 10 unknown
+    ∷ declares fielded "q.M" 10 (is (ascii "m"))
     -- extensions of p.M are none of q.M, nor of p.M.N
     ∷ declares extended "q.M" 7 unknown
     ∷ declares extended "p.M.N" 7 unknown
