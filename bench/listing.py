@@ -1,20 +1,21 @@
 #!/usr/bin/env python3
 """Times the listing beside the same walk in Rust, in one run, and prints ratios.
 
-usage: listing.py [ROUNDS] [--program PROGRAM]
-       listing.py most [--program PROGRAM]
+usage: listing.py [ROUNDS] [--library FOLDER]
+       listing.py most [--library FOLDER]
 
 The sheet is that of resolve.py, 200 extensions of eight types. Listed are 64 KB of option bytes, of which each record has the number of
 one of these extensions, now and then of a field of the options type or of nothing: flat, with scalars and strings alone; nested, where
 each is a message of one to 31 levels; and shallow, scalars of an options type whose five fields are all that the sheet has, so that a
-look-up of a number is short. PROGRAM is bench as `rt check` builds it for x86-64, target/bin/bench if none is given; on another
-machine it has to be one that was compiled for that (docs/SPEED.md); `none` leaves it out. listing.rs is built here by rustc at level 3, as
-bench is by its compiler. Both read the same input and have to print the same line.
+look-up of a number is short. FOLDER holds libbench.a as `rt staticlib bench` writes it for x86-64, target/staticlib if none is given; on
+another machine it has to be one that was compiled for that (docs/SPEED.md); `none` leaves it out. ours.rs, which is linked with it, and
+listing.rs are built here by rustc at level 3, as the library is by its compiler. Both read the same input by the same code and have to
+print the same line.
 
 Time is processor time, the least of ROUNDS runs of each program, taken in turn, less that of a run that lists nothing; where valgrind is
 there, instructions are counted as well. What the look-ups of numbers take: in Rust what a listing takes less where they are kept in a
-table; in PROGRAM the functions that only they call, by callgrind, which leaves out what the compiler put in line elsewhere. Run it from
-the root of the repository.
+table; in the library the functions that only they call, by callgrind, which leaves out what the compiler put in line elsewhere. Run it
+from the root of the repository.
 
 `most` measures listings that are made to cost much, once: as many records as 64 KB hold, of a number that a full sheet does not declare,
 and of one that its last extension declares, an empty message whose type stands behind all else.
@@ -31,7 +32,7 @@ import tempfile
 
 import resolve
 from resolve import BOOL, DOUBLE, ENUM, INT32, MESSAGE, SINT64, STRING, TYPE, UINT32, member
-from search import f, instructions, timed
+from search import built, built_ours, f, instructions
 
 # how often a listing is timed in one run
 TIMES = {"flat": 10, "nested": 60, "shallow": 150}
@@ -217,10 +218,9 @@ def show(what, names, table, form):
 
 def compare(name, names, memo, data, kind, payload, rounds):
     texts = {n: text_of(data, n, kind, payload) for n in {0, 1, TIMES[name]}}
-    lines = {timed(p, texts[1])[1] for p in list(names) + [memo]}
-    assert len(lines) == 1, lines
+    line = resolve.agreed(list(names) + [memo], texts[1])
     many = records(payload, {number for number, kind in numbered() if kind == MESSAGE})
-    print("%s: sheet %d bytes, option bytes %d, records %d; %s" % (name, len(data), len(payload), many, lines.pop().decode().strip()))
+    print("%s: sheet %d bytes, option bytes %d, records %d; %s" % (name, len(data), len(payload), many, line))
     show("time of a listing", names, {p: t * 1e3 for p, t in seconds(names, texts, TIMES[name], rounds).items()}, "%.2f ms")
     if not shutil.which("valgrind"):
         return
@@ -239,30 +239,23 @@ def compare(name, names, memo, data, kind, payload, rounds):
                 inside / counts[p], ", ".join("%s %.3f" % (name, n / counts[p]) for name, n in top)))
 
 
-def built(folder, *flags):
-    rust = os.path.join(folder, "listing" + "".join(flags).replace("--cfg", "-"))
-    subprocess.run(["rustc", "-C", "opt-level=3", "--edition", "2021", *flags, "-o", rust, "bench/listing.rs"], check=True)
-    return rust
-
-
 def main():
     parser = argparse.ArgumentParser()
     parser.add_argument("what", nargs="?", default="20")
-    parser.add_argument("--program", default="target/bin/bench")
+    parser.add_argument("--library", default="target/staticlib")
     args = parser.parse_args()
     with tempfile.TemporaryDirectory() as folder:
-        names = {built(folder): "Rust"}
-        if args.program != "none":
-            names = {os.path.abspath(args.program): "here", **names}
+        names = {built("listing", os.path.join(folder, "listing")): "Rust"}
+        if args.library != "none":
+            names = {built_ours(args.library, folder): "here", **names}
         if args.what == "most":
             for name, data, kind, payload in most():
                 texts = {n: text_of(data, n, kind, payload) for n in (0, 1)}
-                lines = {timed(p, texts[1])[1] for p in names}
-                assert len(lines) == 1, lines
-                print("%s: sheet %d bytes, option bytes %d; %s" % (name, len(data), len(payload), lines.pop().decode().strip()))
+                line = resolve.agreed(names, texts[1])
+                print("%s: sheet %d bytes, option bytes %d; %s" % (name, len(data), len(payload), line))
                 show("time of a listing", names, seconds(names, texts, 1, 1), "%.2f s")
             return
-        memo = built(folder, "--cfg", "memo")
+        memo = built("listing", os.path.join(folder, "memo"), "--cfg", "memo")
         for name, data, kind, payload in workloads():
             compare(name, names, memo, data, kind, payload, int(args.what))
 

@@ -1,5 +1,5 @@
 // The listing in Rust: the same walk over the same bytes as the Rattle code, in two passes, in its order and by its names, with nothing
-// allocated. Reads the same input as the program bench, of listings alone, and prints the same line. The sheet is walked as in search.rs,
+// allocated. Reads an input of the bench, of listings alone, and prints its line (`run` in search.rs). The sheet is walked as in search.rs,
 // the number of each record is looked up in it anew. With `--cfg memo` the look-ups of numbers are kept in a table, to see what they cost.
 // resolve.rs has this file as a module.
 #[allow(dead_code)]

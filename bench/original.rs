@@ -1,4 +1,4 @@
-//! The original's own resolver on the requests of the bench: reads an input of the program bench that has requests alone, and prints its line.
+//! The original's own resolver on the requests of the bench: reads an input of the bench that has requests alone, and prints its line.
 //!
 //! It is a module of a program that runs the published source of protobuf-parse 3.7.2, byte for byte, over a stand-in for its runtime: a
 //! child of that program's `pure::oracle`, whose functions read a sheet and a request into the crate's model and load the descriptors.
@@ -8,7 +8,7 @@
 //! The sheet is loaded once, and each request is read into the crate's model once, before the rounds. A round is, for each request, the
 //! options type by the crate's `find_message_by_abs_name`, the options by its `custom_options`, and the bytes of what that gives by the
 //! stand-in's `write_to_bytes`: the crate's own resolver code over the stand-in's descriptors, strings and maps. So nothing is read and no
-//! form is tested in a round, where bench reads and tests each request, and the sheet too where its tag is 45. A refusal's
+//! form is tested in a round, where ours.rs reads and tests each request, and the sheet too where its tag is 45. A refusal's
 //! number is told before the rounds: telling it is no work of the crate's. It is added without its second word, which none of the bench's
 //! requests has.
 use std::io::Read;
@@ -48,6 +48,6 @@ pub fn main() {
             sum = bytes.iter().fold(sum, |sum, b| mixed(sum, *b as u32));
         }
     }
-    // the 262,144 words that bench adds are 0 without a listing, and turn the sum by a multiple of 32 bits
+    // the 262,144 words that `run` in search.rs adds are 0 without a listing, and turn the sum by a multiple of 32 bits
     println!("done {} answered {} sum {}", calls, answered, sum);
 }

@@ -1,21 +1,21 @@
 #!/usr/bin/env python3
 """Times the resolver beside the same steps in Rust, and beside the original's own code, in one run, and prints ratios.
 
-usage: resolve.py [ROUNDS] [--program PROGRAM] [--original FOLDER]
-       resolve.py search|nesting [SIZE] [--program PROGRAM] [--original FOLDER]
-       resolve.py input
-
-`input` prints bench's stored input: the sheet, and once 20 of the requests for `resolve`, 20 for `resolve_tested`, one without options for
-either, 23 look-ups, three of which find nothing: one has a scope and one a path that is none, and two listings, one of them refused. Its
-stored output is what resolve.rs prints for it.
+usage: resolve.py [ROUNDS] [--library FOLDER] [--original FOLDER]
+       resolve.py search|nesting [SIZE] [--library FOLDER] [--original FOLDER]
 
 The input is a sheet of 200 extensions, some of a message or an enum type, with an options message, and 1,000 requests of one to four
-options from nested scopes. PROGRAM is bench as `rt check` builds it for x86-64, target/bin/bench if none is given; `none` leaves it out,
-and on another machine it has to be one that was compiled for that (docs/SPEED.md). resolve.rs is built here by rustc at level 3, as bench
-is by its compiler. All programs read the same input and have to print the same line.
+options from nested scopes. The library's folder holds libbench.a as `rt staticlib bench` writes it for x86-64, target/staticlib if none is
+given; `none` leaves it out, and on another machine it has to be one that was compiled for that (docs/SPEED.md). ours.rs, which is linked
+with it, and resolve.rs are built here by rustc at level 3, as the library is by its compiler. All programs read the same input and have to
+print the same line.
 
-FOLDER is a workspace in which cargo builds the published source of protobuf-parse 3.7.2 over a stand-in for its runtime. It is copied, and
-bench/original.rs is built there as one more binary, in release mode; that file says what it does in a round.
+Before that the two are held against each other on all four calls of the bench, once: 20 of the requests for `resolve`, 20 for
+`resolve_tested`, one without options for either, 23 look-ups, three of which find nothing: one has a scope and one a path that is none, and
+two listings, one of them refused.
+
+The original's folder is a workspace in which cargo builds the published source of protobuf-parse 3.7.2 over a stand-in for its runtime. It
+is copied, and bench/original.rs is built there as one more binary, in release mode; that file says what it does in a round.
 
 Time is the least of ROUNDS runs of each program, taken in turn, less that of a run that resolves nothing; where valgrind is there,
 instructions are counted as well. Run it from the root of the repository.
@@ -29,10 +29,9 @@ import random
 import shutil
 import struct
 import subprocess
-import sys
 import tempfile
 
-from search import f, instructions, timed
+from search import built, built_ours, f, instructions, timed
 
 TIMES = 5
 RESOLVE, TESTED, SEARCH, LISTING = 0x45, 0x46, 0x47, 0x48
@@ -203,8 +202,8 @@ def listings():
     return good, good + listing.record(2, STRING, b"\0")
 
 
-def stored(data, where, queries):
-    """The stored input: each call, each with answers and with refusals."""
+def all_calls(data, where, queries):
+    """Each call, each with answers and with refusals."""
     none = f(0x18, b"plant") + f(0x19, TYPE)
     cases = [case(RESOLVE, q) for q in queries[:20] + [none]] + [case(TESTED, q) for q in queries[20:40] + [none]]
     pairs = [(b"plant..", b"set1"), (b"plant", b"9"), (b"plant", b"nothing")]
@@ -232,6 +231,13 @@ def built_original(folder, into):
     return os.path.join(copy, "target", "release", "original")
 
 
+def agreed(programs, text):
+    """The line that all programs print."""
+    lines = {timed(p, text)[1] for p in programs}
+    assert len(lines) == 1, lines
+    return lines.pop().decode().strip()
+
+
 def seconds(programs, texts, times, rounds):
     """Of each program the least time of resolving all requests once."""
     best = {}
@@ -252,9 +258,7 @@ def compare(names, data, queries, call, times, rounds, counted):
     """Prints time and instructions of a request for each program. All have to print the same line."""
     cases = [case(call, q) for q in queries]
     texts = {n: text_of(data, n, cases).encode() for n in {0, 1, times}}
-    lines = {timed(p, texts[1])[1] for p in names}
-    assert len(lines) == 1, lines
-    print("%s: %s" % ("resolve_tested" if call == TESTED else "resolve", lines.pop().decode().strip()))
+    print("%s: %s" % ("resolve_tested" if call == TESTED else "resolve", agreed(names, texts[1])))
     spent = seconds(names, texts, times, rounds)
     show("time", names, {p: t / len(queries) * 1e6 for p, t in spent.items()}, "%.2f us")
     if counted and shutil.which("valgrind"):
@@ -262,13 +266,11 @@ def compare(names, data, queries, call, times, rounds, counted):
         show("instructions", names, {p: n / len(queries) for p, n in counts.items()}, "%.0f")
 
 
-def built(args, folder):
+def all_programs(args, folder):
     """The programs and what they are called."""
-    rust = os.path.join(folder, "resolve")
-    subprocess.run(["rustc", "-C", "opt-level=3", "--edition", "2021", "-o", rust, "bench/resolve.rs"], check=True)
-    names = {rust: "Rust"}
-    if args.program != "none":
-        names = {os.path.abspath(args.program): "here", **names}
+    names = {built("resolve", os.path.join(folder, "resolve")): "Rust"}
+    if args.library != "none":
+        names = {built_ours(args.library, folder): "here", **names}
     if args.original:
         names[built_original(args.original, folder)] = "original"
     return names
@@ -277,13 +279,9 @@ def built(args, folder):
 def main():
     data, where = sheet()
     queries, total = requests(where)
-    if sys.argv[1:] == ["input"]:
-        text = stored(data, where, queries)
-        print("\n".join(text[i : i + 120] for i in range(0, len(text), 120)))
-        return
     parser = argparse.ArgumentParser()
     parser.add_argument("what", nargs="*", default=["20"])
-    parser.add_argument("--program", default="target/bin/bench")
+    parser.add_argument("--library", default="target/staticlib")
     parser.add_argument("--original")
     args = parser.parse_args()
     made = {"search": (search, 113), "nesting": (nesting, 2004)}.get(args.what[0])
@@ -294,12 +292,13 @@ def main():
         queries = [query]
     print("sheet %d bytes; requests %d, %d bytes; size %d" % (len(data), len(queries), sum(len(q) + 3 for q in queries), total))
     with tempfile.TemporaryDirectory() as folder:
-        names = built(args, folder)
+        names = all_programs(args, folder)
         if made:
             compare(names, data, queries, TESTED, 1, 1, total == 1)
             return
-        compare(names, data, queries, TESTED, TIMES, int(args.what[0]), True)
         ours = {p: n for p, n in names.items() if n != "original"}
+        print("all calls: %s" % agreed(ours, all_calls(data, where, queries).encode()))
+        compare(names, data, queries, TESTED, TIMES, int(args.what[0]), True)
         compare(ours, data, queries, RESOLVE, TIMES, int(args.what[0]), True)
 
 

@@ -1,13 +1,13 @@
 #!/usr/bin/env python3
 """Times the search beside the same walk in Rust, in one run, and prints the ratio.
 
-usage: search.py [ROUNDS] [--program PROGRAM]
+usage: search.py [ROUNDS] [--library FOLDER]
 
-The input is a sheet of 200 extensions and 1,000 look-ups from nested scopes. PROGRAM is bench as `rt check` builds it for x86-64,
-target/bin/bench if none is given; on another machine it has to be one that was compiled for that (docs/SPEED.md). search.rs is built here
-by rustc at level 3, as bench is by its compiler. Both read the same input and have to print the same line. Time is the least of ROUNDS runs
-of either program, taken in turn, less that of a run that looks nothing up; where valgrind is there, instructions are counted as well. Run
-it from the root of the repository.
+The input is a sheet of 200 extensions and 1,000 look-ups from nested scopes. FOLDER holds libbench.a as `rt staticlib bench` writes it for
+x86-64, target/staticlib if none is given; on another machine it has to be one that was compiled for that (docs/SPEED.md). ours.rs, which is
+linked with it, and search.rs are built here by rustc at level 3, as the library is by its compiler. Both read the same input by the same
+code and have to print the same line. Time is the least of ROUNDS runs of either program, taken in turn, less that of a run that looks
+nothing up; where valgrind is there, instructions are counted as well. Run it from the root of the repository.
 """
 import argparse
 import os
@@ -75,6 +75,17 @@ def look_ups(where):
     return pairs
 
 
+def built(source, program, *flags):
+    """A program of this folder."""
+    subprocess.run(["rustc", "-C", "opt-level=3", "--edition", "2021", *flags, "-o", program, "bench/%s.rs" % source], check=True)
+    return program
+
+
+def built_ours(library, folder):
+    """The program that calls libbench.a."""
+    return built("ours", os.path.join(folder, "ours"), "-L", "native=" + library, "-l", "static=bench")
+
+
 def timed(program, text):
     start = time.perf_counter()
     out = subprocess.run([program], input=text, stdout=subprocess.PIPE, check=True).stdout
@@ -90,16 +101,14 @@ def instructions(program, text):
 def main():
     parser = argparse.ArgumentParser()
     parser.add_argument("rounds", nargs="?", type=int, default=20)
-    parser.add_argument("--program", default="target/bin/bench")
+    parser.add_argument("--library", default="target/staticlib")
     args = parser.parse_args()
     data, where = sheet()
     pairs = look_ups(where)
     texts = {n: (f(0x40, data) + f(0x44, struct.pack(">I", n * 1000)) + pairs).hex().encode() for n in (0, 1, TIMES)}
     print("sheet %d bytes, 200 extensions, 1000 look-ups, %d times" % (len(data), TIMES))
     with tempfile.TemporaryDirectory() as folder:
-        rust = os.path.join(folder, "search")
-        subprocess.run(["rustc", "-C", "opt-level=3", "--edition", "2021", "-o", rust, "bench/search.rs"], check=True)
-        programs = [os.path.abspath(args.program), rust]
+        programs = [built_ours(args.library, folder), built("search", os.path.join(folder, "search"))]
         lines = [timed(p, texts[TIMES])[1] for p in programs]
         assert lines[0] == lines[1], lines
         print(lines[0].decode().strip())

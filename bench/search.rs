@@ -1,6 +1,6 @@
-// The search in Rust: the same walk over the same bytes, function by function, in the order of the Rattle code and by its names. Reads the
-// same input as the program bench, of look-ups alone, and prints the same line. Bytes are compared and copied by the standard library's
-// functions. resolve.rs has this file as a module.
+// The search in Rust: the same walk over the same bytes, function by function, in the order of the Rattle code and by its names. Reads an
+// input of the bench, of look-ups alone, and prints its line: `run`, at the end, which the other programs of the bench have from here.
+// Bytes are compared and copied by the standard library's functions. listing.rs and ours.rs have this file as a module.
 use std::io::Read;
 
 pub const FILE: u8 = 0x01;
@@ -295,7 +295,7 @@ pub fn find_extension_by_path(s: &[u8], scope: &[u8], path: &[u8], room: &mut [u
     None
 }
 
-// ---- the same tests of form as bench makes
+// ---- the same tests of form as `bench_search` makes
 pub fn is_ident(s: &[u8]) -> bool {
     !s.is_empty() && s.len() <= 64 && !s[0].is_ascii_digit() && s.iter().all(|b| b.is_ascii_alphanumeric() || *b == b'_')
 }
@@ -346,8 +346,12 @@ pub fn searched(sheet: &[u8], scope: &[u8], path: &[u8]) -> Case {
     Case { answered: found.is_some(), word: found.unwrap_or(4), length: 0 }
 }
 
-// All cases of the input, called in turn as often as it says, and the line. A call takes a tag, the sheet, two inputs, and the memory for
-// bytes and for words; the words are added once, after the last call, as bench does.
+// The input, in hexadecimal digits: 40 a sheet, 44 how many calls (4 bytes), then the cases, each a first input under the tag of what is
+// called, and 49 a second input: 45 `resolve` and 46 `resolve_tested` take a request and nothing, 47 the search takes a scope and a path,
+// 48 `list_tested` an options type and option bytes. The cases are called in turn, after the last the first again, with no test of the
+// sheet before. A call takes a tag, the sheet, the two inputs, and the memory for bytes and for words: eight words a record, of which
+// 65,536 bytes hold at most 32,768. The line says how many calls there were, how many were answered 0 or found a number, and a checksum of
+// the answers with their bytes. The words of a listing are added once, after the last call, or the bench would time that.
 pub fn run(called: impl Fn(u8, &[u8], &[u8], &[u8], &mut [u8], &mut [u32]) -> Case) {
     let input = read_input();
     let sheet = leaf_at(&input, 0, input.len(), 0x40).unwrap();

@@ -1,1 +1,1 @@
-pub mod CaseLaws
+pub mod FormLaws

@@ -1,16 +1,8 @@
--- What the program knows of its input: where its fields lie, and that a scope and a path that passed the test have the form they need.
+-- A scope and a path that passed the test have the form that the search needs.
 -- Assumes nothing.
 use Rattle.basis.specs.Kit.{_≡_, sym, _∙_, Bool, true, List, ℕ}
-use Rattle.field.proofs.LeafLaws.{leaf-ordered, leaf-inside}
-use Rattle.console.proofs.InputLaws.{payload-holds}
 use Rattle.path.specs.Path.{isRelOrEmpty, isPath}
 
--- ---- where the fields lie
-pub ruleset place-laws = (leaf-ordered, leaf-inside)
-
-pub ruleset input-laws = (place-laws, payload-holds)
-
--- ---- the form of a scope and a path
 pub scope-form : (c : List ℕ) (b : Bool) → b ≡ isRelOrEmpty c → b ≡ true → isRelOrEmpty c ≡ true
 scope-form c b q g = sym q ∙ g
 
