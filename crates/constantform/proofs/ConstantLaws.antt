@@ -14,12 +14,13 @@ use Rattle.form.specs.Each.{each}
 use Rattle.field.proofs.FieldLaws.{field-ordered}
 use Rattle.field.proofs.Rest.{Rest, rest-start, rest-end}
 use Rattle.form.proofs.EachLaws.{each-laws}
-use Rattle.request.specs.declared.constant.Pair.{Pair}
-use Rattle.request.specs.declared.constant.Paired.{Paired}
-use Rattle.request.specs.declared.constant.Paired.the-variants.{Pairs, NoPair}
 use Rattle.request.specs.Table.{messageConstantTag, listTag, pairFieldTag, pairExtensionTag, pairUrlTag}
-use Rattle.request.specs.Constant.{isPairName, pairAt}
-use Rattle.request.proofs.PairLaws.{Pairless, broken, unnamed, alone, cut-short, rest-pairless, rest-pair, rest-pair-next, pair-places}
+use Rattle.request.specs.Constant.{isPairName}
+use Rattle.pair.specs.declared.Pair.{Pair}
+use Rattle.pair.specs.declared.Paired.{Paired}
+use Rattle.pair.specs.declared.Paired.the-variants.{Pairs, NoPair}
+use Rattle.pair.specs.Pair.{pairAt}
+use Rattle.pair.proofs.PairLaws.{Pairless, broken, unnamed, alone, cut-short, rest-pairless, rest-pair, rest-pair-next, pair-places}
 use Rattle.constantform.specs.Leaves.{isConstant, goodScalar, goodPairName}
 use Rattle.reply.specs.Verdicts.{beyond}
 use Rattle.constantform.specs.Form.{badRequest, pairsOf, constantWith, judgeConstant, judgeElements, judgePairs}

@@ -12,13 +12,13 @@ use Rattle.field.specs.Field.{fieldAt}
 use Rattle.field.specs.Walk.{walk, tagsIn}
 use Rattle.form.specs.Each.{each}
 use Rattle.field.proofs.WalkLaws.{walk-step}
-use Rattle.request.specs.declared.constant.Pair.{Pair}
-use Rattle.request.specs.declared.constant.Paired.{Paired}
-use Rattle.request.specs.declared.constant.Paired.the-variants.{Pairs}
 use Rattle.request.specs.Table.{messageConstantTag, listTag}
-use Rattle.request.specs.Constant.{pairAt}
 use Rattle.request.specs.Tree.{PairName, Constants, elementsIn, pairsIn, constantIn}
-use Rattle.request.proofs.PairLaws.{pair-steps}
+use Rattle.pair.specs.declared.Pair.{Pair}
+use Rattle.pair.specs.declared.Paired.{Paired}
+use Rattle.pair.specs.declared.Paired.the-variants.{Pairs}
+use Rattle.pair.specs.Pair.{pairAt}
+use Rattle.pair.proofs.PairLaws.{pair-steps}
 use Rattle.constantform.specs.Leaves.{isConstant, goodPairName}
 use Rattle.constantform.specs.Form.{pairsOf, judgeConstant, judgeElements, judgePairs}
 use Rattle.constantform.specs.Fine.{goodName, goodConstants, countOf, kindOf, withName, constantTags}

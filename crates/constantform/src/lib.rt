@@ -7,10 +7,10 @@ use crate::leaves::good_pair_name;
 use crate::leaves::good_scalar;
 use crate::leaves::is_constant;
 use field::Field;
+use pair::Paired;
+use pair::pair_at;
 use reply::Refusal;
 use reply::Verdict;
-use request::constant::Paired;
-use request::constant::pair_at;
 use request::table;
 
 // A constant's field, with `left` levels of constants left.

@@ -1,5 +1,4 @@
 pub mod PartLaws
-pub mod PairLaws
 pub mod ConstantLaws
 pub mod RequestLaws
 pub mod ConstantControls

@@ -1,4 +1,4 @@
--- Constants and pairs as they are written, from 01's "Sheet and request".
+-- Constants as they are written, and the tags of a pair's name, from 01's "Sheet and request".
 --
 --          integerOf b ==  the integer that 64 bits are in two's complement
 --            floatOf b ==  the double that 64 bits are, a NaN by its bits
@@ -7,25 +7,17 @@
 --    numericOf s t a e ==  the number of the tag t whose payload is from a to e
 --   constantOf s t a e ==  the constant of the tag t whose payload is from a to e
 --         isPairName t <=> t is the tag of a pair's name
---     pairWith t a e f ==  the pair of a name of the tag t from a to e and the constant's field f
---     pairFrom s end f ==  the pair that begins with the field f
---        pairAt s at e ==  the pair at a place
 --
 -- Assumes nothing.
 use Rattle.basis.specs.Kit.{Bool, true, false, _&&_, List, ℕ, _-_, _^_, eqb, ltb, leb, getD}
 use lib.Ieee.{binary64, ofBits, nanBits}
 use Rattle.octets.specs.Octets.{bigAt}
-use Rattle.field.specs.declared.Field.{Field}
-use Rattle.field.specs.declared.Field.the-variants.{Whole, Cut}
-use Rattle.field.specs.Field.{fieldAt}
 use Rattle.field.specs.Leaf.{span}
 use Rattle.request.specs.declared.constant.Constant.{Constant}
 use Rattle.request.specs.declared.constant.Constant.the-variants.{Bool as BoolOf, Integer, Float, NotANumber}
 use Rattle.request.specs.declared.constant.Constant.the-variants.{Text, Ident, Message, List as ListOf}
 use Rattle.request.specs.declared.constant.Held.{Held}
 use Rattle.request.specs.declared.constant.Held.the-variants.{Holds, NoConstant}
-use Rattle.request.specs.declared.constant.Paired.{Paired}
-use Rattle.request.specs.declared.constant.Paired.the-variants.{Pairs, NoPair}
 use Rattle.request.specs.Table.{boolTag, unsignedTag, signedTag, floatTag, stringTag, identTag}
 use Rattle.request.specs.Table.{messageConstantTag, pairFieldTag, pairUrlTag, listTag}
 
@@ -76,14 +68,3 @@ constantOf s t a e = elim (eqb t boolTag) [
 -- "pairs of a name (27 field, 28 extension path, 29 type URL ..) and a constant" [FORM-4]
 unfoldable pub isPairName : (tag : ℕ) → Bool
 isPairName t = leb pairFieldTag t && leb t pairUrlTag
-
-abbrev pub pairWith : (tag from to : ℕ) (constant : Field) → Paired
-pairWith t a e Cut = NoPair
-pairWith t a e (Whole k b f) = Pairs (record { by = t; name = span a e; tag = k; constant = span b f })
-
-abbrev pub pairFrom : (s : List ℕ) (end : ℕ) (name : Field) → Paired
-pairFrom s end Cut = NoPair
-pairFrom s end (Whole t a e) = elim (isPairName t) [ true ↦ pairWith t a e (fieldAt s e end) | false ↦ NoPair ]
-
-unfoldable pub pairAt : (s : List ℕ) (at end : ℕ) → Paired
-pairAt s at end = pairFrom s end (fieldAt s at end)

@@ -1,10 +1,8 @@
-// Constants, and the pairs of a message constant.
+// Constants.
 ghost use Rattle.basis.specs.Kit.{_≡_, _≤_, length};
-ghost use Rattle.request.specs.Constant.{integerOf, floatOf, boolOf, numericOf, constantOf, isPairName, pairAt};
+ghost use Rattle.request.specs.Constant.{integerOf, floatOf, boolOf, numericOf, constantOf};
 use crate::table;
-use field::Field;
 use field::Span;
-use field::field_at;
 
 // A constant. 21 and 22 are both integers, a sign and a size. A NaN stands apart from the floats, since an f64 does not keep its bits.
 pub enum Constant {
@@ -112,52 +110,4 @@ pub fn constant_of(s: &[u8], tag: u8, from: usize, to: usize) -> Held
         return Held::Holds(Constant::List(place));
     }
     numeric_of(s, tag, from, to)
-}
-
-// A pair of a message constant: its name, by a field (27), an extension path (28) or a type URL (29), and the field of its constant.
-pub struct Pair {
-    pub by: u8,
-    pub name: Span,
-    pub tag: u8,
-    pub constant: Span,
-}
-
-// What a reader of pairs answers.
-pub enum Paired {
-    Pairs(Pair),
-    NoPair,
-}
-
-// Whether the tag is that of a pair's name.
-fn is_pair_name(tag: u8) -> bool
-    ensures { λ r. ⌜ r ≡ isPairName tag ⌝ }
-{
-    (table::PAIR_FIELD <= tag) & (tag <= table::PAIR_URL)
-}
-
-// The pair at a place; the next one starts where its constant ends.
-pub fn pair_at(s: &[u8], at: usize, end: usize) -> Paired
-    requires { ⌜ (at ≤ end) × (end ≤ length (now s)) ⌝ }
-    ensures { λ r. ⌜ r ≡ pairAt (now (s .entry)) at end ⌝ }
-{
-    let Field::Whole { tag: by, from, to } = field_at(s, at, end) else {
-        return Paired::NoPair;
-    };
-    if !is_pair_name(by) {
-        return Paired::NoPair;
-    }
-    let Field::Whole {
-        tag,
-        from: a,
-        to: e,
-    } = field_at(s, to, end)
-    else {
-        return Paired::NoPair;
-    };
-    Paired::Pairs(Pair {
-        by: by,
-        name: Span { from: from, to: to },
-        tag: tag,
-        constant: Span { from: a, to: e },
-    })
 }

@@ -28,15 +28,16 @@ use Rattle.request.specs.declared.constant.Constant.the-variants.{Bool as BoolO
 use Rattle.request.specs.declared.constant.Constant.the-variants.{Text, Ident, Message as MessageOf, List as ListOf}
 use Rattle.request.specs.declared.constant.Held.{Held}
 use Rattle.request.specs.declared.constant.Held.the-variants.{Holds, NoConstant}
-use Rattle.request.specs.declared.constant.Pair.{Pair}
-use Rattle.request.specs.declared.constant.Paired.{Paired}
-use Rattle.request.specs.declared.constant.Paired.the-variants.{Pairs, NoPair}
 use Rattle.request.specs.Table.{pairFieldTag, pairExtensionTag}
-use Rattle.request.specs.Constant.{constantOf, isPairName, pairAt}
+use Rattle.request.specs.Constant.{constantOf, isPairName}
 use Rattle.request.specs.Tree.{PairName, unnamed, byField, byExtension, byUrl, pairNameOf, none, ConstantReader, pairsIn, grown, ifHeld}
 use Rattle.request.specs.Tree.{constantIn}
-use Rattle.request.proofs.PairLaws.{Pairless, broken, alone, cut-short, unnamed as misnamed, rest-pairless, rest-pair}
-use Rattle.request.proofs.PairLaws.{pair-fields, pair-places, pair-constant-inside}
+use Rattle.pair.specs.declared.Pair.{Pair}
+use Rattle.pair.specs.declared.Paired.{Paired}
+use Rattle.pair.specs.declared.Paired.the-variants.{Pairs, NoPair}
+use Rattle.pair.specs.Pair.{pairAt}
+use Rattle.pair.proofs.PairLaws.{Pairless, broken, alone, cut-short, unnamed as misnamed, rest-pairless, rest-pair}
+use Rattle.pair.proofs.PairLaws.{pair-fields, pair-places, pair-constant-inside}
 use Rattle.records.specs.declared.Wrote.{Wrote}
 use Rattle.records.specs.declared.Wrote.the-variants.{Next, Refused}
 use Rattle.records.specs.Records.{nil}

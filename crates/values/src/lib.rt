@@ -11,15 +11,15 @@ ghost use Rattle.values.specs.inner.Writers.{mostScalar, kindOf, heldAt,
 ghost use Rattle.values.specs.inner.Writers.{messageMade};
 use field::Field;
 use fullname::LookedUp;
+use pair::Pair;
+use pair::Paired;
+use pair::pair_at;
 use records::Wrote;
 use records::put_head;
 use records::put_record;
 use reply::Refusal;
 use request::constant::Constant;
 use request::constant::Held;
-use request::constant::Pair;
-use request::constant::Paired;
-use request::constant::pair_at;
 use request::table;
 use scalars::Scalar;
 use scalars::scalar_on;

@@ -19,7 +19,7 @@ use Rattle.constantform.proofs.check_pairs.Reads as check-pairs
 use Rattle.constantform.proofs.check_pairs.Kinds as check-pairs-kinds
 use Rattle.constantform.proofs.+check_constant+check_elements+check_pairs.Lts-check_pairs as check-pairs-lts
 use Rattle.field.proofs.field_at.Reads as field-at-reads
-use Rattle.request.proofs.constant.pair_at.Reads as pair-at-reads
+use Rattle.pair.proofs.pair_at.Reads as pair-at-reads
 use Rattle.constantform.proofs.leaves.good_pair_name.Reads as good-pair-name-reads
 use Rattle.constantform.proofs.leaves.good_scalar.Reads as good-scalar-reads
 use Rattle.constantform.proofs.leaves.is_constant.Reads as is-constant-reads

@@ -34,7 +34,7 @@ use Rattle.field.proofs.field_at.Reads as field-at-reads
 use Rattle.lookups.proofs.message_at.Reads as message-at-reads
 use Rattle.octets.proofs.wide.Reads as wide-reads
 use Rattle.records.proofs.put_head.Reads as put-head-reads
-use Rattle.request.proofs.constant.pair_at.Reads as pair-at-reads
+use Rattle.pair.proofs.pair_at.Reads as pair-at-reads
 use Rattle.values.proofs.held_at.Reads as held-at-reads
 use Rattle.values.proofs.kind_of.Reads as kind-of-reads
 use Rattle.values.proofs.put_scalar.Reads as put-scalar-reads

@@ -26,10 +26,10 @@ use Rattle.request.specs.declared.constant.Constant.the-variants.{Bool as BoolO
 use Rattle.request.specs.declared.constant.Constant.the-variants.{Text, Ident, Message as MessageOf, List as ListOf}
 use Rattle.request.specs.declared.constant.Held.{Held}
 use Rattle.request.specs.declared.constant.Held.the-variants.{Holds, NoConstant}
-use Rattle.request.specs.declared.constant.Pair.{Pair}
 use Rattle.request.specs.Table.{pairFieldTag}
 use Rattle.request.specs.Constant.{constantOf}
 use Rattle.request.specs.Tree.{none, unnamed, pairNameOf, elementsIn, pairsIn, constantIn}
+use Rattle.pair.specs.declared.Pair.{Pair}
 use Rattle.records.specs.Made.{Made}
 use Rattle.lookups.specs.Lookups.{Lookups, fieldNamed}
 use Rattle.values.specs.declared.Kind.{Kind}

@@ -13,11 +13,12 @@ use Rattle.field.specs.Walk.{Walk, done, cut, step, walk}
 use Rattle.field.proofs.FieldLaws.{Bounds, field-bounds, field-inside}
 use Rattle.field.proofs.WalkLaws.{walk-done, walk-cut, walk-step}
 use Rattle.field.proofs.Rest.{Rest}
-use Rattle.request.specs.declared.constant.Pair.{Pair}
-use Rattle.request.specs.declared.constant.Paired.{Paired}
-use Rattle.request.specs.declared.constant.Paired.the-variants.{Pairs, NoPair}
 use Rattle.request.specs.Table.{pairFieldTag, pairUrlTag}
-use Rattle.request.specs.Constant.{isPairName, pairWith, pairFrom, pairAt}
+use Rattle.request.specs.Constant.{isPairName}
+use Rattle.pair.specs.declared.Pair.{Pair}
+use Rattle.pair.specs.declared.Paired.{Paired}
+use Rattle.pair.specs.declared.Paired.the-variants.{Pairs, NoPair}
+use Rattle.pair.specs.Pair.{pairWith, pairFrom, pairAt}
 
 abbrev pub paired : ℕ → ℕ → ℕ → ℕ → ℕ → ℕ → Pair
 paired t a e k b f = record { by = t; name = span a e; tag = k; constant = span b f }
