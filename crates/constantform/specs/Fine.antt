@@ -11,7 +11,7 @@
 --
 -- Assumes nothing.
 use Rattle.basis.specs.Kit.{Bool, true, false, _&&_, List, [], _∷_, ℕ, _+_, eqb}
-use Rattle.path.specs.Ident.{isIdent}
+use Rattle.ident.specs.Ident.{isIdent}
 use Rattle.path.specs.Path.{isRelPath}
 use Rattle.field.specs.Leaf.{text}
 use Rattle.request.specs.declared.constant.Constant.{Constant}

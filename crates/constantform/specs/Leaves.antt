@@ -11,7 +11,7 @@
 -- Assumes nothing.
 use Rattle.basis.specs.Kit.{Bool, true, false, _&&_, _||_, List, ℕ, eqb, leb, length, getD}
 use Rattle.limits.specs.Figures.{mostUrl}
-use Rattle.path.specs.Ident.{isIdent}
+use Rattle.ident.specs.Ident.{isIdent}
 use Rattle.path.specs.Path.{isRelPath, isPath}
 use Rattle.request.specs.Table.{boolTag, unsignedTag, signedTag, floatTag, stringTag, identTag, messageConstantTag}
 use Rattle.request.specs.Table.{pairFieldTag, pairExtensionTag, pairUrlTag, listTag}

@@ -1,8 +1,8 @@
 // What the leaves of a request may hold, by their tags.
 ghost use Rattle.basis.specs.Kit.{_≡_};
 ghost use Rattle.constantform.specs.Leaves.{isConstant, isBool, isUrl, goodScalar, goodPairName, goodPart};
+use ident::protobuf_ident::is_ident;
 use limits::MOST_URL;
-use path::protobuf_ident::is_ident;
 use path::protobuf_path::is_path;
 use path::protobuf_rel_path::is_rel_path;
 use request::table;

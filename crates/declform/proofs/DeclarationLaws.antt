@@ -5,7 +5,7 @@ use Rattle.basis.specs.Kit.{_≡_, Bool, true, false, _&&_, List, ℕ}
 use Rattle.basis.proofs.Kit.{not-true, not-false}
 use Rattle.limits.specs.Figures.{mostNumber, mostType, mostLabel}
 use Rattle.octets.specs.Octets.{part}
-use Rattle.path.specs.Ident.{isIdent}
+use Rattle.ident.specs.Ident.{isIdent}
 use Rattle.path.specs.Path.{isRelPath}
 use Rattle.sheet.specs.declared.declaration.Shape.{Shape}
 use Rattle.sheet.specs.declared.declaration.Declaration.{Declaration}

@@ -12,7 +12,7 @@
 -- Assumes nothing.
 use Rattle.basis.specs.Kit.{Bool, true, false, _&&_, List, ℕ, leb}
 use Rattle.limits.specs.Figures.{mostNumber, mostType, mostLabel}
-use Rattle.path.specs.Ident.{isIdent}
+use Rattle.ident.specs.Ident.{isIdent}
 use Rattle.path.specs.Path.{isRelPath}
 use Rattle.field.specs.Leaf.{text}
 use Rattle.sheet.specs.declared.declaration.Shape.{Shape}

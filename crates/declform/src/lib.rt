@@ -2,10 +2,10 @@
 ghost use Rattle.basis.specs.Kit.{_≡_, _≤_, length};
 ghost use Rattle.field.specs.Leaf.{Lies};
 ghost use Rattle.declform.specs.Declarations.{inRange, goodTypePath, goodShape, goodField, isExtension, isField, isValue};
+use ident::protobuf_ident::is_ident;
 use limits::MOST_LABEL;
 use limits::MOST_NUMBER;
 use limits::MOST_TYPE;
-use path::protobuf_ident::is_ident;
 use path::protobuf_rel_path::is_rel_path;
 use sheet::declaration::Declaration;
 use sheet::declaration::Declared;

@@ -1,7 +1,7 @@
 // Fields that hold one name: of one tag, with an identifier or a path as their payload.
 ghost use Rattle.basis.specs.Kit.{_≡_, _≤_, length};
 ghost use Rattle.field.specs.Leaf.{leafAt};
-ghost use Rattle.path.specs.Ident.{isIdent};
+ghost use Rattle.ident.specs.Ident.{isIdent};
 ghost use Rattle.path.specs.Path.{isRelPath, isRelOrEmpty};
 use field::Leaf;
 use field::leaf_at;
@@ -14,7 +14,7 @@ pub fn ident_at(s: &[u8], at: usize, end: usize, tag: u8) -> Leaf
     let Leaf::At { from, to } = leaf_at(s, at, end, tag) else {
         return Leaf::Not;
     };
-    if !path::protobuf_ident::is_ident(&s[from..to]) {
+    if !ident::protobuf_ident::is_ident(&s[from..to]) {
         return Leaf::Not;
     }
     Leaf::At { from: from, to: to }

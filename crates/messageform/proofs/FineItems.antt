@@ -4,7 +4,7 @@ use Rattle.basis.specs.Kit.{_≡_, refl, sym, ap, _∙_, Bool, true, false, _&&
 use mathlib.Core.Bool.{false≢true}
 use native.Mathlib.Decide.{ℕ-discrete}
 use Rattle.octets.specs.Octets.{part}
-use Rattle.path.specs.Ident.{isIdent}
+use Rattle.ident.specs.Ident.{isIdent}
 use Rattle.path.specs.Path.{isRelPath}
 use Rattle.reply.specs.declared.Refusal.the-variants.{BadSheet, BeyondLimit}
 use Rattle.reply.specs.declared.Verdict.{Verdict}

@@ -2,7 +2,7 @@
 -- is left out.
 -- Assumes nothing.
 use Rattle.basis.specs.Kit.{_≡_, sym, ap, _∙_, Bool, true, List, ℕ, suc, _<_, length}
-use Rattle.path.specs.Ident.{isIdent}
+use Rattle.ident.specs.Ident.{isIdent}
 use Rattle.reply.specs.declared.Refusal.the-variants.{BadSheet}
 use Rattle.reply.specs.declared.Verdict.the-variants.{Fine}
 use Rattle.reply.proofs.VerdictLaws.{first-fine-front, first-fine-rest}

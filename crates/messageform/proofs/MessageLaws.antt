@@ -2,7 +2,7 @@
 -- Assumes nothing.
 use Rattle.basis.specs.Kit.{_≡_, refl, sym, _∙_, Bool, true, false, List, ℕ, zero, suc, _-_, _≤_, length}
 use Rattle.basis.proofs.Kit.{arith, eq-eqb, ne-eqb, not-true, not-false}
-use Rattle.path.specs.Ident.{isIdent}
+use Rattle.ident.specs.Ident.{isIdent}
 use Rattle.reply.specs.declared.Refusal.the-variants.{BadSheet}
 use Rattle.reply.specs.declared.Verdict.{Verdict}
 use Rattle.reply.specs.Verdicts.{judged}

@@ -6,7 +6,7 @@
 --
 -- Assumes nothing.
 use Rattle.basis.specs.Kit.{Bool, true, _&&_, List, [], _∷_, ℕ}
-use Rattle.path.specs.Ident.{isIdent}
+use Rattle.ident.specs.Ident.{isIdent}
 use Rattle.path.specs.Path.{isRelPath}
 use Rattle.field.specs.Leaf.{text}
 use Rattle.sheet.specs.declared.declaration.Value.{Value}

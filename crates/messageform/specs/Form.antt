@@ -10,7 +10,7 @@
 --
 -- Assumes nothing.
 use Rattle.basis.specs.Kit.{Bool, true, false, List, ℕ, zero, suc, eqb}
-use Rattle.path.specs.Ident.{isIdent}
+use Rattle.ident.specs.Ident.{isIdent}
 use Rattle.reply.specs.declared.Refusal.the-variants.{BadSheet}
 use Rattle.reply.specs.declared.Verdict.{Verdict}
 use Rattle.reply.specs.declared.Verdict.the-variants.{Refused}

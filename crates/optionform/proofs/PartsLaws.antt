@@ -5,7 +5,7 @@ use Rattle.basis.specs.Kit.{_≡_, sym, ap, _∙_, true, false, List, ℕ, _≤
 use Rattle.basis.proofs.Kit.{arith}
 use mathlib.Core.Path.{subst}
 use mathlib.Core.Bool.{and-eq-true-iff}
-use Rattle.path.specs.Ident.{isIdent}
+use Rattle.ident.specs.Ident.{isIdent}
 use Rattle.path.specs.Path.{isPath}
 use Rattle.field.specs.Leaf.{text}
 use Rattle.field.specs.Walk.{walk}

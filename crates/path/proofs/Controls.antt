@@ -2,7 +2,7 @@
 -- Assumes nothing.
 use Rattle.basis.specs.Kit.{_≡_, refl, true, false, List, [], _∷_, _++_, map, ℕ, length}
 use lib.ListN.{replicate}
-use Rattle.path.specs.Ident.{isLetter, isDigit, allWord, isIdent}
+use Rattle.ident.specs.Ident.{isLetter, isDigit, allWord, isIdent}
 use Rattle.path.specs.Path.{Name, dot, onFirst, split, components, spell, allIdent, isRelPath, isRelOrEmpty}
 use Rattle.path.specs.Path.{rootless, isPath, parent, last}
 use Rattle.path.specs.inner.Places.{namesFrom}
@@ -16,29 +16,6 @@ b = 98 ∷ []
 -- a name of n bytes
 abbrev wide : ℕ → Name
 wide n = replicate n 97
-
--- ---- bytes: `A` `Z` `a` `z` `_` and their neighbours `@` `[` `` ` `` `{` `^`, `0` `9` and their neighbours `/` `:`
-letters : map isLetter (65 ∷ 90 ∷ 97 ∷ 122 ∷ 95 ∷ []) ≡ replicate 5 true
-unfolding isLetter
-letters = refl
-
-no-letters : map isLetter (64 ∷ 91 ∷ 96 ∷ 123 ∷ 94 ∷ 48 ∷ dot ∷ []) ≡ replicate 7 false
-unfolding isLetter
-no-letters = refl
-
-digits : map isDigit (47 ∷ 48 ∷ 57 ∷ 58 ∷ []) ≡ false ∷ true ∷ true ∷ false ∷ []
-unfolding isDigit
-digits = refl
-
--- ---- identifiers: `a`, `_`, `a9`, and 64 bytes
-idents : map isIdent (a ∷ (95 ∷ []) ∷ (97 ∷ 57 ∷ []) ∷ wide 64 ∷ []) ≡ replicate 4 true
-unfolding isIdent isLetter isDigit allWord
-idents = refl
-
--- the empty name, `9a`, `a.` and 65 bytes
-no-idents : map isIdent ([] ∷ (57 ∷ 97 ∷ []) ∷ (97 ∷ dot ∷ []) ∷ wide 65 ∷ []) ≡ replicate 4 false
-unfolding isIdent isLetter isDigit allWord
-no-idents = refl
 
 -- ---- texts of paths
 abbrev a·b : List ℕ

@@ -7,11 +7,12 @@ use mathlib.Core.Bool.{and-eq-true-iff}
 use borrow.Author.Tests.{leb-true}
 use lib.ListN.{length-append}
 use Rattle.limits.specs.Figures.{mostPath}
-use Rattle.path.specs.Ident.{isIdent}
+use Rattle.ident.specs.Ident.{isIdent}
 use Rattle.path.specs.Path.{Name, Path, dot, split, components, spell, allIdent, isRelOrEmpty}
 use Rattle.path.specs.inner.Places.{untilDot}
 use Rattle.path.specs.Path.{rootless, isPath, parent, last}
-pub use Rattle.path.proofs.IdentLaws.{ident-dotless, ident-some}
+pub use Rattle.ident.proofs.IdentLaws.{ident-some}
+pub use Rattle.path.proofs.IdentLaws.{ident-dotless}
 use Rattle.path.proofs.Pieces.{text, piece-length-le, piece-take, piece-dotless, piece-dot, piece-last, piece-more}
 use Rattle.path.proofs.Pieces.{pieces-append, pieces-length-le, pieces-spell, pieces-dotless, Dotless, none, more}
 

@@ -5,7 +5,7 @@ use Rattle.basis.specs.Kit.{take, drop}
 use Rattle.basis.proofs.Kit.{arith, add-one, not-true, not-false}
 use lib.ListN.{drop-of-length-le, take-append-drop}
 use lib.Seq.{drop-cons, drop-length, take-take, take-length, length-take-le}
-use Rattle.path.specs.Ident.{isIdent}
+use Rattle.ident.specs.Ident.{isIdent}
 use Rattle.path.specs.Path.{dot, split, components, spell, allIdent, parent}
 use Rattle.path.specs.inner.Places.{untilDot}
 use Rattle.path.specs.inner.Last.{LastStarts}

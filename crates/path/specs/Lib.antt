@@ -1,3 +1,2 @@
-pub mod Ident
 pub mod Path
 pub mod inner

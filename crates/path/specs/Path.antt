@@ -18,7 +18,7 @@
 -- Assumes nothing.
 use Rattle.basis.specs.Kit.{Bool, true, false, _&&_, List, [], _∷_, _++_, ℕ, eqb, leb, length}
 use Rattle.limits.specs.Figures.{mostPath}
-use Rattle.path.specs.Ident.{isIdent}
+use Rattle.ident.specs.Ident.{isIdent}
 
 abbrev pub Name : Type 0
 Name = List ℕ

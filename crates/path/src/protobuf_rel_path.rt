@@ -4,7 +4,7 @@ ghost use Rattle.octets.specs.inner.Laid.{Laid};
 ghost use Rattle.path.specs.inner.Places.{untilDot};
 ghost use Rattle.path.specs.Path.{split, components, spell, allIdent, isRelPath, isRelOrEmpty, parent};
 ghost use Rattle.path.specs.inner.Last.{LastStarts};
-use crate::protobuf_ident::is_ident;
+use ident::protobuf_ident::is_ident;
 use limits::MOST_PATH;
 
 // Where the component that starts at a place ends: the next dot, or the end.

@@ -9,7 +9,7 @@ use Rattle.octets.specs.Octets.{sameBytes, bigAt}
 use Rattle.field.specs.Field.{fieldAt}
 use Rattle.field.specs.Leaf.{leafAt}
 use Rattle.field.specs.Walk.{walkBy}
-use Rattle.path.specs.Ident.{isLetter, isDigit, allWord, isIdent}
+use Rattle.ident.specs.Ident.{isLetter, isDigit, allWord, isIdent}
 use Rattle.path.specs.Path.{onFirst, split, components, spell, allIdent, isRelPath, isRelOrEmpty, isAbs, rootless, isPath}
 use Rattle.path.specs.Path.{parent, last}
 use Rattle.candidates.specs.Candidates.{ancestors, candidates}

@@ -16,7 +16,7 @@ use borrow.Author.Tests.{leb-true}
 use Rattle.limits.specs.Figures.{mostNumber, mostType, mostLabel}
 use Rattle.reply.specs.declared.Verdict.the-variants.{Fine}
 use Rattle.octets.proofs.Bytes.{Bytes}
-use Rattle.path.specs.Ident.{isIdent}
+use Rattle.ident.specs.Ident.{isIdent}
 use Rattle.path.specs.Path.{Path, parent, spell, components, isRelPath, isRelOrEmpty}
 use Rattle.field.specs.declared.Span.{Span}
 use Rattle.field.specs.Leaf.{text, isText}

@@ -3,7 +3,7 @@
 use Rattle.basis.specs.Kit.{_≡_, refl, true, false, List, [], _∷_, _++_, map, ℕ, zero, suc, length}
 use lib.ListN.{replicate}
 use Rattle.octets.specs.Octets.{bigAt}
-use Rattle.path.specs.Ident.{isLetter, isDigit, allWord, isIdent}
+use Rattle.ident.specs.Ident.{isLetter, isDigit, allWord, isIdent}
 use Rattle.path.specs.Path.{dot, onFirst, split, components, allIdent, isRelPath, isRelOrEmpty, rootless, isPath}
 use Rattle.reply.specs.declared.Verdict.the-variants.{Fine}
 use Rattle.field.specs.Field.{fieldAt}

@@ -2,7 +2,7 @@
 -- Assumes nothing.
 use Rattle.basis.specs.Kit.{_≡_, refl, List, [], _∷_, _++_, map, ℕ, zero, suc, length}
 use Rattle.octets.specs.Octets.{bigAt}
-use Rattle.path.specs.Ident.{isLetter, isDigit, allWord, isIdent}
+use Rattle.ident.specs.Ident.{isLetter, isDigit, allWord, isIdent}
 use Rattle.path.specs.Path.{onFirst, split, components, allIdent, isRelPath, isRelOrEmpty}
 use Rattle.reply.specs.declared.Verdict.{Verdict}
 use Rattle.reply.specs.declared.Verdict.the-variants.{Fine}
