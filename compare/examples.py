@@ -1,5 +1,5 @@
-"""Examples of the resolver, each with its answer worked out by hand from 01 and the readings in docs/DECISIONS.md: the first cases of
-optlower's stored test. `compare/resolve.py list` compares them with the second implementation.
+"""Examples of the resolver, each with its answer worked out by hand from 01, the readings in docs/DECISIONS.md or the document that is
+named above it: the first cases of optlower's stored test. `compare/resolve.py list` compares them with the second implementation.
 
 An example is a sentence, a sheet, a request and the answer: a number, a number and 1, "absent", or the bytes in hexadecimal.
 """
@@ -122,6 +122,10 @@ def x(constant, kind, path=None, **more):
     return one(kind, path, **more), asked(opt("(x)", constant))
 
 
+def numbered(number, constant, kind):
+    return file("p", ext("x", number, kind)) + F, asked(opt("(x)", constant))
+
+
 def builtin(constant, *fields, more=()):
     return own(*fields, more=more), asked(*[opt("b", c) for c in (constant if isinstance(constant, list) else [constant])])
 
@@ -147,6 +151,15 @@ CASES = [
     ("P8: only `default`", plant(RANK), asked(opt("default", u(7)), **DISPATCH), ""),
     ("P9: the greatest uint32", plant(RANK), asked(opt("(.plant.rank)", u(4294967295)), **DISPATCH), "88B518FFFFFFFF0F"),
     ("P9: one more", plant(RANK), asked(opt("(.plant.rank)", u(4294967296)), **DISPATCH), 14),
+    # ---- Encoding's examples of records
+    # Encoding, "A Simple Message": 150 in field 1 is 08 96 01
+    ("150 in field 1", *numbered(1, u(150), 5), "089601"),
+    # Encoding, "Length-Delimited Records": `testing` in field 2 is 12 07 and 74 65 73 74 69 6e 67
+    ("`testing` in field 2", *numbered(2, s("testing"), 9), "120774657374696E67"),
+    # Encoding, "Submessages": that simple message in field 3 is 1a 03 and 08 96 01, and so are its bytes
+    ("a message in field 3", file("p", ext("x", 3, 11, "p.M"), message("M", field("a", 1, 5))) + F, asked(opt("(x)", pairs("a", u(150)))),
+     "1A03089601"),
+    ("its bytes in field 3", *numbered(3, s(b"\x08\x96\x01"), 12), "1A03089601"),
     # ---- the order of inputs
     ("the sheet is answered first", b"\1", b"\1", 1),
     ("then the request", b"", b"\1", 2),
@@ -310,6 +323,7 @@ CASES = [
     ("sfixed64, -2", *x(i(-2), 16), "29FEFFFFFFFFFFFFFF"),
     ("sfixed64, one more than the most", *x(u(9223372036854775808), 16), 14),
     # ---- 27: floats
+    # IEEE 754, round to nearest, ties to even: 2^24 + 1 goes down to 2^24, 2^24 + 3 up to 2^24 + 4
     ("2^24 + 1 on float, a tie, goes to 2^24", *x(u(16777217), 2), "2D0000804B"),
     ("2^24 + 3 on float, a tie, goes to 2^24 + 4", *x(u(16777219), 2), "2D0200804B"),
     ("2^60 + 2^36 + 1 on float rounds once: by way of a double it would go down", *x(u(2**60 + 2**36 + 1), 2), "2D0100805D"),
@@ -322,6 +336,7 @@ CASES = [
     ("0.1 on float", *x(bits("3FB999999999999A"), 2), "2DCDCCCC3D"),
     ("minus zero on float", *x(bits("8000000000000000"), 2), "2D00000080"),
     ("minus zero on double", *x(bits("8000000000000000"), 1), "290000000000000080"),
+    # IEEE 754: 1e39 is past the largest float
     ("1e39 on float is infinity", *x(bits("48078287F49C4A1D"), 2), "2D0000807F"),
     ("the middle above the greatest float is infinity", *x(bits("47EFFFFFF0000000"), 2), "2D0000807F"),
     ("just below that middle is the greatest float", *x(bits("47EFFFFFEFFFFFFF"), 2), "2DFFFF7F7F"),
@@ -337,7 +352,13 @@ CASES = [
     ("U+10FFFF", *x(s("\U0010ffff"), 9), "2A04F48FBFBF"),
     ("above it", *x(s(b"\xf4\x90\x80\x80"), 9), 15),
     ("a surrogate", *x(s(b"\xed\xa0\x80"), 9), 15),
+    # RFC 3629, section 3: an overlong form of U+0000, and a pair of surrogates; section 10: a path `/../` with an overlong dot
     ("an overlong zero", *x(s(b"\xc0\x80"), 9), 15),
+    ("a pair of surrogates", *x(s(b"\xed\xa1\x8c\xed\xbe\xb4"), 9), 15),
+    ("a path with an overlong dot", *x(s(b"\x2f\xc0\xae\x2e\x2f"), 9), 15),
+    # RFC 3629, section 7: U+0041 U+2262 U+0391 U+002E, and U+233B4 after a byte order mark
+    ("characters of one, two and three bytes", *numbered(1, s(b"\x41\xe2\x89\xa2\xce\x91\x2e"), 9), "0A0741E289A2CE912E"),
+    ("one of four bytes after a byte order mark", *numbered(1, s(b"\xef\xbb\xbf\xf0\xa3\x8e\xb4"), 9), "0A07EFBBBFF0A38EB4"),
     ("a character that is cut", *x(s(b"\xe2\x82"), 9), 15),
     ("bytes take what string does not", *x(s(b"\xc0\x80\xff"), 12), "2A03C080FF"),
     # ---- 29: order

@@ -2,10 +2,15 @@
 """Runs optranges and optoneofs beside the original's own code on the same words, and compares every answer.
 
 usage: lowering.py ORACLE [CASES]
+       lowering.py list [write]
 
-ORACLE is a program over protobuf-parse 3.7.2 that reads lines `ranges KIND start end ..` and `fields word ..` in its mode `lower`
-and prints `answer 0 words ..` for each. The two programs are those that `rt check` builds under target/bin.
+Run it from the root of the repository. ORACLE is a program over protobuf-parse 3.7.2 that reads lines `ranges KIND start end ..` and
+`fields word ..` in its mode `lower` and prints `answer 0 words ..` for each. The two programs are those that `rt check` builds under
+target/bin.
 Words are drawn so that every end has a successor and every 3 follows a 2 or a 3: on those lists both sides answer 0.
+
+`list` says whether the stored tests of the two programs are the cases below, whose answers are written by hand, or writes them. The first
+of each is laid out to try the reader of digits: blanks, a tab, both line ends and both cases.
 """
 import random
 import struct
@@ -18,6 +23,47 @@ EDGES = [-2147483648, -2147483647, -2, -1, 0, 1, 2, 18999, 19000, 536870910, 536
 def field(tag, words):
     payload = b"".join(struct.pack(">I", w % 2**32) for w in words)
     return bytes([tag]) + struct.pack(">H", len(payload)) + payload
+
+
+def ranges(kind, *words):
+    return (field(0x47, [kind]) + field(0x48, words)).hex() + "\n"
+
+
+def fields(*words):
+    return field(0x49, words).hex() + "\n"
+
+
+EXTENSION, ENUM_RESERVED = 0, 2  # 01, "Listing and lowering"
+
+STORED = {
+    "optranges": [
+        ("47 0004 00000001\n48 0018\n  00000064 000000c7\n  FFFFFFFB FFFFFFFF   00000009 00000003\n", "answer 0\nwords 100 200 -5 0 9 4\n"),
+        # 01, example 10: "Extension 100 to 199: 100, 200; end 2147483647: 16, but kept for an enum."
+        (ranges(EXTENSION, 100, 199), "answer 0\nwords 100 200\n"),
+        (ranges(EXTENSION, 1, 2147483647), "answer 16\nRangeEnd\n"),
+        (ranges(ENUM_RESERVED, 1, 2147483647), "answer 0\nwords 1 2147483647\n"),
+    ],
+    "optoneofs": [
+        ("49001400000000\n\t00000002 0000 0003 00000003 00000001\r\n", "answer 0\nwords 0 1 1 2\n"),
+        # 01, "Listing and lowering": a field, an optional one, a oneof of two members, an optional one; a 3 that follows no 2 or 3
+        (fields(0, 1, 2, 3, 3, 1), "answer 0\nwords 0 1 2 2 3\n"),
+        (fields(3), "answer 2\nBadRequest\n"),
+    ],
+}
+
+
+def stored(write):
+    """Whether a stored test is another one."""
+    other = False
+    for program, cases in STORED.items():
+        for name, texts in zip(("stdin", "stdout"), zip(*cases)):
+            path = "crates/%s/%s" % (program, name)
+            if write:
+                open(path, "w", newline="").write("".join(texts))
+            same = open(path, newline="").read() == "".join(texts)
+            other = other or not same
+            print("%s: %s" % (path, "these cases" if same else "OTHER CASES"))
+    return other
 
 
 def ours(program, *fields):
@@ -39,6 +85,8 @@ def some_fields():
 
 
 def main():
+    if sys.argv[1] == "list":
+        sys.exit(1 if stored(sys.argv[2:] == ["write"]) else 0)
     oracle, cases = sys.argv[1], int(sys.argv[2]) if len(sys.argv) > 2 else 2000
     random.seed(1)
     lines, answers = [], []

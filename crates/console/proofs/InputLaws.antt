@@ -16,7 +16,7 @@ use Rattle.console.specs.declared.input.Input.the-variants as input
 use Rattle.console.specs.Input.{Fills}
 use Rattle.console.proofs.OutputLaws.{front-laws}
 
--- ---- the ways through `has_size`, `has_words` and `ends`
+-- ---- the ways through `has_size` and `has_words`
 pub size-yes : (n size : ℕ) → n ≡ size → true ≡ eqb n size
 size-yes n size e = sym (eq-eqb n size e)
 

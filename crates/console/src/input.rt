@@ -113,17 +113,6 @@ fn is_due(place: &[u8], tag: u8) {
     text(b" is due\n");
 }
 
-// Whether the input ends at a place.
-pub fn ends(s: &[u8], at: usize) -> bool
-    ensures { λ r. ⌜ r ≡ eqb at (length (now (s .entry))) ⌝ }
-{
-    if at == s.len() {
-        return true;
-    }
-    about(at, b": more after the last field\n");
-    false
-}
-
 // Whether a payload has this length; if not, that is said.
 pub fn has_size(tag: u8, from: usize, to: usize, size: usize) -> bool
     requires { ⌜ from ≤ to ⌝ }

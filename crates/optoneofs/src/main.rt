@@ -1,6 +1,9 @@
-// Gives each field of a message the oneof it belongs to. Input: 49 the words (4 bytes each).
+// Gives each field of a message the oneof it belongs to. Input: 49 the words (4 bytes each); several of these one after the other are
+// several cases, each answered in its turn.
+ghost use Rattle.basis.specs.Kit.{_≤_, length};
 use console::input::Input;
 use console::input::MOST_BYTES;
+use console::input::field_of;
 use field::Leaf;
 use inputs::words::MOST_PAYLOAD_WORDS;
 use limits::MOST_WORDS;
@@ -18,17 +21,34 @@ fn lower(payload: &[u8]) {
     }
 }
 
-fn run(s: &[u8]) {
-    let Leaf::At { from, to } = console::input::field_of(s, 0, WORDS) else {
-        return;
+// The case at a place, and where the next one starts; 0 where the input is no such field.
+fn lower_case(s: &[u8], at: usize) -> usize
+    requires { ⌜ at ≤ length (now s) ⌝ }
+    ensures { λ r. ⌜ r ≤ length (now (s .entry)) ⌝ }
+{
+    let Leaf::At { from, to } = field_of(s, at, WORDS) else {
+        return 0;
     };
     if !console::input::has_words(WORDS, from, to) {
-        return;
-    }
-    if !console::input::ends(s, to) {
-        return;
+        return 0;
     }
     lower(&s[from..to]);
+    to
+}
+
+// All cases, of which there has to be one.
+fn lower_cases(s: &[u8]) {
+    let mut at = 0;
+    loop {
+        let next = lower_case(s, at);
+        if next <= at {
+            return;
+        }
+        if next == s.len() {
+            return;
+        }
+        at = next;
+    }
 }
 
 // Standard input, read into a lent buffer.
@@ -36,7 +56,7 @@ fn run_over(buffer: &mut [u8]) {
     let Input::Bytes(n) = console::input::read(buffer) else {
         return;
     };
-    run(&buffer[..n]);
+    lower_cases(&buffer[..n]);
 }
 
 fn main() {

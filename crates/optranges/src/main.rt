@@ -1,6 +1,9 @@
-// Lowers ranges. Input: 47 the kind (4 bytes), 48 the words, starts and ends in turn (4 bytes each).
+// Lowers ranges. Input: 47 the kind (4 bytes), 48 the words, starts and ends in turn (4 bytes each); several of these one after the other
+// are several cases, each answered in its turn.
+ghost use Rattle.basis.specs.Kit.{_≤_, length};
 use console::input::Input;
 use console::input::MOST_BYTES;
+use console::input::field_of;
 use field::Leaf;
 use inputs::words::MOST_PAYLOAD_WORDS;
 use limits::MOST_WORDS;
@@ -20,23 +23,40 @@ fn lower(kind: u32, payload: &[u8]) {
     }
 }
 
-fn run(s: &[u8]) {
-    let Leaf::At { from: k, to: next } = console::input::field_of(s, 0, KIND) else {
-        return;
+// The case at a place, and where the next one starts; 0 where the input is no such fields.
+fn lower_case(s: &[u8], at: usize) -> usize
+    requires { ⌜ at ≤ length (now s) ⌝ }
+    ensures { λ r. ⌜ r ≤ length (now (s .entry)) ⌝ }
+{
+    let Leaf::At { from: k, to: next } = field_of(s, at, KIND) else {
+        return 0;
     };
     if !console::input::has_size(KIND, k, next, 4) {
-        return;
+        return 0;
     }
-    let Leaf::At { from, to } = console::input::field_of(s, next, WORDS) else {
-        return;
+    let Leaf::At { from, to } = field_of(s, next, WORDS) else {
+        return 0;
     };
     if !console::input::has_words(WORDS, from, to) {
-        return;
-    }
-    if !console::input::ends(s, to) {
-        return;
+        return 0;
     }
     lower(octets::u32_at(s, k), &s[from..to]);
+    to
+}
+
+// All cases, of which there has to be one.
+fn lower_cases(s: &[u8]) {
+    let mut at = 0;
+    loop {
+        let next = lower_case(s, at);
+        if next <= at {
+            return;
+        }
+        if next == s.len() {
+            return;
+        }
+        at = next;
+    }
 }
 
 // Standard input, read into a lent buffer.
@@ -44,7 +64,7 @@ fn run_over(buffer: &mut [u8]) {
     let Input::Bytes(n) = console::input::read(buffer) else {
         return;
     };
-    run(&buffer[..n]);
+    lower_cases(&buffer[..n]);
 }
 
 fn main() {

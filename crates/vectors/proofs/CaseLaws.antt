@@ -1,8 +1,7 @@
--- What the program knows of an example: where its fields lie, and that words were read from them; no more examples hold than there are.
+-- What the program knows of an example: where its fields lie; no more examples hold than there are.
 -- Assumes nothing.
 use Rattle.basis.specs.Kit.{_≡_, Bool, List, ℕ, _+_, _-_, _≤_, _<_, length}
 use Rattle.basis.proofs.Kit.{arith}
-use Rattle.records.specs.inner.Emits.{Roomy}
 use Rattle.field.specs.declared.Leaf.{Leaf}
 use Rattle.field.specs.declared.Leaf.the-variants.{At}
 use Rattle.field.specs.Leaf.{leafAt}
@@ -11,12 +10,6 @@ use Rattle.field.proofs.LeafLaws.{leaf-bounds, leaf-within}
 use Rattle.console.proofs.InputLaws.{input-laws}
 
 pub ruleset case-laws = (field-ordered, field-within, field-less, leaf-within, input-laws)
-
--- ---- an example is short, so that its record has room
-pub example-room : (s : List ℕ) (a e : ℕ) → length s ≤ 64 → e ≤ length s → Roomy 0 (3 + (e - a)) s
-example-room s a e h g = record { room = omega (arith, h, g) }
-
-pub ruleset put-laws = (example-room, case-laws)
 
 -- ---- the loop over the examples
 module _ (k : ℕ) (good : List ℕ → Bool) (s : List ℕ) (at end : ℕ) (r : Leaf) (q : r ≡ leafAt k good s at end) (a e : ℕ)

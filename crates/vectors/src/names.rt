@@ -5,16 +5,13 @@ use candidates::protobuf_path::candidate;
 use candidates::protobuf_path::candidates;
 use limits::MOST_CANDIDATE;
 
-// Whether the i-th candidate is this one; it is put together in a lent buffer.
-fn spelled(name: &[u8], scope: &[u8], i: usize, out: &mut [u8], want: &[u8]) -> bool {
-    if i < candidates(scope, name) {
-        let n = candidate(scope, name, i, out);
-        return begins(out, n, want);
-    }
-    false
-}
-
+// Whether the i-th candidate is this one.
 pub fn is_candidate(name: &[u8], scope: &[u8], place: &[u8], want: &[u8]) -> bool {
+    let i = word_of(place) as usize;
+    if candidates(scope, name) <= i {
+        return false;
+    }
     let mut out = [0u8; MOST_CANDIDATE];
-    spelled(name, scope, word_of(place) as usize, &mut out, want)
+    let n = candidate(scope, name, i, &mut out);
+    begins(&out, n, want)
 }

@@ -1,6 +1,6 @@
 // 01's table of replies: the number, the second word and the name of each refusal.
 use crate::case::begins;
-use crate::case::word_at;
+use crate::case::number_of;
 use crate::case::word_of;
 use reply::Refusal;
 
@@ -30,13 +30,12 @@ fn refusal_at(place: u32) -> Refusal {
     }
 }
 
-// Whether a refusal has this row, writes nothing, and is named so by its numbers.
+// Whether a refusal has this row, a number and a second word, writes nothing, and is named so by these two.
 pub fn is_row(place: &[u8], want: &[u8], name: &[u8]) -> bool {
     let a = reply::refused(refusal_at(word_of(place)));
-    let number = word_at(want, 0);
-    let second = word_at(want, 4);
-    let found = reply::name_of(number, second);
+    let row = a.reply as u64 * 0x1_0000_0000 + a.second as u64;
+    let found = reply::name_of(a.reply, a.second);
     let bytes = found.bytes;
     let named = begins(&bytes, found.length, name);
-    (a.reply == number) & (a.second == second) & (a.absent == 0) & (a.length == 0) & named
+    (row == number_of(want)) & (a.absent == 0) & (a.length == 0) & named
 }
