@@ -1,3 +1,4 @@
 pub mod FullNameLaws
+pub mod ValueLaws
 pub mod LiesLaws
 pub mod Controls

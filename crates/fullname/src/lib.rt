@@ -1,10 +1,14 @@
-// Messages and enums by full name: there has to be exactly one. Everything is a walk over the lent sheet, and code equals definition on
-// every sheet, well-formed or not.
-ghost use Rattle.basis.specs.Kit.{_≡_, [], _∷_};
+// Messages and enums by full name: there has to be exactly one; and the first value of a name in an enum, where names are compared before
+// the rest is read. Everything is a walk over the lent sheet, and code equals definition on every sheet, well-formed or not.
+ghost use Rattle.basis.specs.Kit.{_≡_, [], _∷_, _≤_, length};
 ghost use Rattle.basis.specs.First.{collect};
+ghost use Rattle.field.specs.Leaf.{Lies};
+ghost use Rattle.field.specs.Walk.{walk};
 ghost use Rattle.path.specs.Path.{components};
-ghost use Rattle.scope.specs.Scope.{holding, enumNamed};
-ghost use Rattle.scope.specs.inner.Answers.{InSheet};
+ghost use Rattle.sheet.specs.Tree.{valuesIn};
+ghost use Rattle.scope.specs.Scope.{holding, enumNamed, valueNamed};
+ghost use Rattle.scope.specs.inner.Answers.{InSheet, valued};
+ghost use Rattle.scope.specs.inner.Steps.{valueNamedAt};
 ghost use Rattle.cursor.specs.inner.Cursor.{ahead, Stands, Nexts};
 ghost use Rattle.fullname.specs.FullName.{messagesAt, enumsAt, lookedUp, lookedUpEnum};
 ghost use Rattle.fullname.specs.inner.Ahead.{passing, isMessage, declaresEnum};
@@ -12,6 +16,7 @@ use cursor::Cursor;
 use cursor::Next;
 use cursor::next_scope;
 use cursor::start;
+use field::Field;
 use field::Leaf;
 use field::Span;
 use path::protobuf_rel_path::before;
@@ -19,6 +24,9 @@ use path::protobuf_rel_path::last_at;
 use reply::Refusal;
 use scope::lookup::LookupScope;
 use scope::lookup::enum_named;
+use scope::lookup::named_at;
+use sheet::declaration::Valued;
+use sheet::table;
 
 // What looking up a message comes to.
 pub enum LookedUp {
@@ -121,4 +129,38 @@ pub fn find_enum_by_abs_name(s: &[u8], path: &[u8]) -> LookedUpEnum
     }
     let last = last_at(path);
     only_enum(s, before(path, last), start(last == 0), &path[last..])
+}
+
+// The value that a field of an enum is, where it is of this name.
+fn value_named_at(s: &[u8], tag: u8, from: usize, to: usize, name: &[u8]) -> Valued
+    requires { ⌜ (from ≤ to) × (to ≤ length (now s)) ⌝ }
+    ensures { λ r. ⌜ r ≡ valueNamedAt (now (name .entry)) (now (s .entry)) tag from to ⌝ }
+{
+    if tag != table::VALUE {
+        return Valued::NoValue;
+    }
+    let Leaf::At { from: _, to: _ } = named_at(s, from, to, name) else {
+        return Valued::NoValue;
+    };
+    sheet::declaration::value_at(s, from, to)
+}
+
+// The first value of that name among those of an enum.
+pub fn value_named(s: &[u8], values: Span, name: &[u8]) -> Valued
+    requires { ⌜ Lies values (now s) ⌝ }
+    ensures { λ r. ⌜ r ≡ valued (valueNamed (now (s .entry)) (now (name .entry))
+        (valuesIn (now (s .entry)) (walk (now (s .entry)) (values .from) (values .to)))) ⌝ }
+{
+    let end = values.to;
+    let mut at = values.from;
+    while at < end {
+        let Field::Whole { tag, from, to } = field::field_at(s, at, end) else {
+            return Valued::NoValue;
+        };
+        if let Valued::Values(v) = value_named_at(s, tag, from, to, name) {
+            return Valued::Values(v);
+        }
+        at = to;
+    }
+    Valued::NoValue
 }

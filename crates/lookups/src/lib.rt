@@ -74,5 +74,5 @@ pub fn value_named(sheet: &[u8], values: Span, name: &[u8]) -> Valued
     requires { ⌜ Lies values (now sheet) ⌝ }
     ensures { λ r. ⌜ r ≡ valued (valueIn (now (sheet .entry)) (now (name .entry)) values) ⌝ }
 {
-    named::value_named(sheet, values, name)
+    fullname::value_named(sheet, values, name)
 }

@@ -1,6 +1,6 @@
--- The laws of declarations and values by their names, and of the ways through `declaration_at`, `declaration_named_at`,
--- `declaration_named`, `value_named_at` and `value_named`. Names are compared before the rest is read, since a declaration's name is the
--- first leaf of its payload.
+-- The laws of declarations by their names, and of the ways through `declaration_at`, `declaration_named_at` and `declaration_named`. Names
+-- are compared before the rest is read, since a declaration's name is the first leaf of its payload; what follows from that is for values
+-- too.
 --
 --                    Named s a e p <-> the span p is the name that the payload from a to e begins with
 --   declarationWhere good k s t a e ==  the declaration that a field of a scope is, where it passes the test
@@ -10,11 +10,11 @@ use Rattle.basis.specs.Kit.{_≡_, refl, sym, _∙_, Bool, true, false, List, [
 use Rattle.basis.proofs.Kit.{eq-eqb, ne-eqb}
 use borrow.Author.Tests.{eqb-true, eqb-false}
 use Rattle.basis.proofs.Never.{never}
-use Rattle.octets.specs.Octets.{sameBytes, bigAt}
+use Rattle.octets.specs.Octets.{sameBytes}
 use Rattle.field.specs.declared.Leaf.{Leaf}
 use Rattle.field.specs.declared.Leaf.the-variants.{At, Not}
 use Rattle.field.specs.declared.Span.{Span}
-use Rattle.field.specs.Leaf.{span, text, isText, anyBytes, ofSize, leafAt}
+use Rattle.field.specs.Leaf.{span, text, isText, anyBytes, leafAt}
 use Rattle.field.specs.Walk.{Walk, walk}
 use Rattle.field.proofs.LeafLaws.{leaf-good, leaf-tested, leaf-untested, on-leaf-some}
 use Rattle.field.proofs.Seek.{seek, seek-is, seek-laws}
@@ -23,20 +23,17 @@ use Rattle.sheet.specs.declared.declaration.Declared.{Declared}
 use Rattle.sheet.specs.declared.declaration.Declared.the-variants.{Declares, NoDeclaration}
 use Rattle.sheet.specs.declared.declaration.Shaped.{Shaped}
 use Rattle.sheet.specs.declared.declaration.Shaped.the-variants.{Shapes, NoShape}
-use Rattle.sheet.specs.declared.declaration.Value.{Value}
-use Rattle.sheet.specs.declared.declaration.Valued.{Valued}
-use Rattle.sheet.specs.declared.declaration.Valued.the-variants.{Values, NoValue}
-use Rattle.sheet.specs.Table.{nameTag, extendeeTag, extensionTag, fieldTag, valueTag, signedNumberTag}
-use Rattle.sheet.specs.Declaration.{lastAt, shapeAt, declaredWith, extensionAt, messageFieldAt, valueAt}
-use Rattle.sheet.specs.Tree.{Items, valueOnto as valuedWith, valueIn, valuesIn, itemIn, messageIn, itemsIn}
+use Rattle.sheet.specs.Table.{nameTag, extendeeTag, extensionTag, fieldTag}
+use Rattle.sheet.specs.Declaration.{shapeAt, declaredWith, extensionAt, messageFieldAt}
+use Rattle.sheet.specs.Tree.{Items, itemIn, messageIn, itemsIn}
 use Rattle.sheet.specs.Tree as items
 use Rattle.sheet.specs.Members.{declarationsOf}
 use Rattle.sheet.proofs.MemberLaws.{listed, extensions-item, fields-item}
 use Rattle.scope.specs.declared.lookup.LookupScope.{LookupScope}
 use Rattle.basis.specs.First.{onlyIf, told, first}
-use Rattle.scope.specs.Scope.{holding, declarationNamed, valueNamed}
-use Rattle.scope.specs.inner.Answers.{declared, valued}
-use Rattle.scope.specs.inner.Steps.{tellsDeclared, tellsValued, firstOf, whose, declarationAt, valueNamedAt}
+use Rattle.scope.specs.Scope.{holding, declarationNamed}
+use Rattle.scope.specs.inner.Answers.{declared}
+use Rattle.scope.specs.inner.Steps.{tellsDeclared, firstOf, whose, declarationAt}
 use Rattle.scope.proofs.Answers.{declared-append, declared-listed}
 
 -- ---- declaration_at
@@ -61,7 +58,7 @@ module _ (k : ℕ) (s : List ℕ) (t a e : ℕ) where
 pub ruleset declaration-at-laws = (declaration-other, declaration-extension, declaration-field, declaration-neither)
 
 -- ---- the name of a declaration and of a value is the leaf that its payload starts with
-abbrev Named : List ℕ → ℕ → ℕ → Span → Type 0
+abbrev pub Named : List ℕ → ℕ → ℕ → Span → Type 0
 Named s a e p = leafAt nameTag anyBytes s a e ≡ At (p .from) (p .to)
 
 module _ (s : List ℕ) (a e : ℕ) (d : Declaration) where
@@ -106,19 +103,6 @@ module _ (s : List ℕ) (a e : ℕ) (d : Declaration) where
   declaration-name : (k t : ℕ) → Declares d ≡ declarationAt k s t a e → Named s a e (d .name)
   declaration-name k t = declaration-cases (Named s a e (d .name)) k t extension-name field-name
 
-module _ (s : List ℕ) (a e : ℕ) (v : Value) where
-  none-valued : Values v ≡ NoValue → ⊥
-  none-valued p = never cc
-
-  value-name : Values v ≡ valueAt s a e → Named s a e (v .name)
-  unfolding valueAt
-  value-name =
-      on-leaf-some NoValue (Values v) (leafAt nameTag anyBytes s a e) _ (Named s a e (v .name)) none-valued λ n numbers y.
-      on-leaf-some NoValue (Values v) (lastAt e (leafAt signedNumberTag (ofSize 4) s numbers e)) _ (Named s a e (v .name)) none-valued
-      λ k end _ p.
-      let u : v ≡ record { name = span n numbers; number = bigAt 4 s k } = cc in
-      rw u y
-
 -- so the leaf whose payload passes a test tells whether the name does
 module _ (s : List ℕ) (a e : ℕ) (p : Span) (g : Named s a e p) (test : List ℕ → Bool) (l : Leaf) (q : l ≡ leafAt nameTag test s a e) where
   name-no : l ≡ Not → test (text s p) ≡ false
@@ -143,7 +127,7 @@ module _ {A R : Type 0} (nothing : R) (tells : R → Option A) (name : A → Spa
     (starts : (v : A) → tells x ≡ some v → Named s a e (name v))
     (good : A → Bool) (same : (v : A) → good v ≡ isText s n (name v))
     (l : Leaf) (q : l ≡ leafAt nameTag (sameBytes n) s a e) where
-  other-name : l ≡ Not → nothing ≡ whose nothing tells good x
+  pub other-name : l ≡ Not → nothing ≡ whose nothing tells good x
   unfolding whose
   other-name w = go (tells x) refl
     where
@@ -151,7 +135,7 @@ module _ {A R : Type 0} (nothing : R) (tells : R → Option A) (name : A → Spa
       go none p = refl
       go (some v) p = rw (same v, name-no s a e (name v) (starts v p) (sameBytes n) l q w)
 
-  same-name : (y z : ℕ) → l ≡ At y z → (tells x ≡ none → x ≡ nothing) → x ≡ whose nothing tells good x
+  pub same-name : (y z : ℕ) → l ≡ At y z → (tells x ≡ none → x ≡ nothing) → x ≡ whose nothing tells good x
   unfolding whose
   same-name y z w bare = go (tells x) refl
     where
@@ -166,14 +150,6 @@ declares-some (Declares x) d p = let u : x ≡ d = cc in rw u
 declares-none : (r : Declared) → tellsDeclared r ≡ none → r ≡ NoDeclaration
 declares-none NoDeclaration p = refl
 declares-none (Declares d) p = never cc
-
-values-some : (r : Valued) (v : Value) → tellsValued r ≡ some v → Values v ≡ r
-values-some NoValue v p = never cc
-values-some (Values x) v p = let u : x ≡ v = cc in rw u
-
-values-none : (r : Valued) → tellsValued r ≡ none → r ≡ NoValue
-values-none NoValue p = refl
-values-none (Values v) p = never cc
 
 -- ---- declaration_named_at
 abbrev pub declarationWhere : (good : Declaration → Bool) (want : ℕ) (s : List ℕ) (tag from to : ℕ) → Declared
@@ -237,55 +213,3 @@ declaration-named-is k s n p r q =
     q ∙ sym (declarations-seek (λ d. isText s n (d .name)) k (p .left) s (walk s (p .body .from) (p .body .to)))
 
 pub ruleset declaration-named-laws = (declaration-named-is, seek-laws)
-
--- ---- value_named_at
-module _ (n s : List ℕ) (t a e : ℕ) where
-  pub value-other-tag : (t ≡ valueTag → ⊥) → NoValue ≡ valueNamedAt n s t a e
-  unfolding valueNamedAt
-  value-other-tag o = simp (valueNamedAt, ne-eqb t valueTag o)
-
-  module _ (h : t ≡ valueTag) (l : Leaf) (q : l ≡ leafAt nameTag (sameBytes n) s a e) where
-    starts-value : (v : Value) → tellsValued (valueAt s a e) ≡ some v → Named s a e (v .name)
-    starts-value v p = value-name s a e v (values-some (valueAt s a e) v p)
-
-    pub value-other-name : l ≡ Not → NoValue ≡ valueNamedAt n s t a e
-    unfolding valueNamedAt
-    value-other-name w =
-        rw h (other-name NoValue tellsValued (λ v. v .name) s n a e (valueAt s a e) starts-value _ (λ v. refl) l q w)
-
-    pub value-same-name : (y z : ℕ) → l ≡ At y z → (r : Valued) → r ≡ valueAt s a e → r ≡ valueNamedAt n s t a e
-    unfolding valueNamedAt
-    value-same-name y z w r p =
-        p ∙ rw h (same-name NoValue tellsValued (λ v. v .name) s n a e (valueAt s a e) starts-value _ (λ v. refl) l q y z w
-        (values-none (valueAt s a e)))
-
-pub ruleset value-named-at-laws = (value-other-tag, value-other-name, value-same-name)
-
--- ---- value_named
-module _ (s n : List ℕ) where
-  value-step : (t a e : ℕ) (rest : List Value)
-      → valued (valueNamed s n (valueIn s t a e rest)) ≡ firstOf tellsValued (valueNamedAt n s t a e) (valued (valueNamed s n rest))
-  unfolding valueIn valueNamedAt whose
-  value-step t a e rest = go (eqb t valueTag) (valueAt s a e)
-    where
-      named-go : (b : Bool) (v : Value)
-          → valued (onlyIf b (some v) (valueNamed s n rest))
-          ≡ firstOf tellsValued (onlyIf b (Values v) NoValue) (valued (valueNamed s n rest))
-      named-go true v = refl
-      named-go false v = refl
-
-      go : (b : Bool) (r : Valued)
-          → valued (valueNamed s n (elim b [ true ↦ valuedWith r rest | false ↦ rest ]))
-          ≡ firstOf tellsValued (elim b [ true ↦ whose NoValue tellsValued (λ v. isText s n (v .name)) r | false ↦ NoValue ])
-          (valued (valueNamed s n rest))
-      go false r = refl
-      go true NoValue = refl
-      go true (Values v) = named-go (isText s n (v .name)) v
-
-  pub value-named-is : (w : Walk) (r : Valued) → r ≡ seek NoValue (firstOf tellsValued) (valueNamedAt n s) w
-      → r ≡ valued (valueNamed s n (valuesIn s w))
-  value-named-is w r q =
-      q ∙ sym (seek-is NoValue (firstOf tellsValued) (valueNamedAt n s) (λ w. valued (valueNamed s n (valuesIn s w))) refl refl
-      (λ t a e w. value-step t a e (valuesIn s w)) w)
-
-pub ruleset value-named-laws = (value-named-is, seek-laws)

@@ -1,21 +1,16 @@
-// The first declaration of a name in a scope, whose extension it is, and the first value of a name in an enum. Names are compared before
-// the rest is read.
+// The first declaration of a name in a scope, and whose extension it is. Names are compared before the rest is read.
 ghost use Rattle.basis.specs.Kit.{_≡_, _≤_, length};
 ghost use Rattle.field.specs.Leaf.{isText, Lies};
-ghost use Rattle.field.specs.Walk.{walk};
-ghost use Rattle.sheet.specs.Tree.{valuesIn};
 ghost use Rattle.sheet.specs.declared.declaration.Declared.the-variants.{NoDeclaration};
-ghost use Rattle.scope.specs.Scope.{holding, declarationNamed, extends as extendsOf, valueNamed};
-ghost use Rattle.scope.specs.inner.Answers.{InSheet, declared, valued};
-ghost use Rattle.scope.specs.inner.Steps.{declarationAt, tellsDeclared, whose, valueNamedAt};
+ghost use Rattle.scope.specs.Scope.{holding, declarationNamed, extends as extendsOf};
+ghost use Rattle.scope.specs.inner.Answers.{InSheet, declared};
+ghost use Rattle.scope.specs.inner.Steps.{declarationAt, tellsDeclared, whose};
 use field::Field;
 use field::Leaf;
-use field::Span;
 use scope::lookup::LookupScope;
 use scope::lookup::named_at;
 use sheet::declaration::Declaration;
 use sheet::declaration::Declared;
-use sheet::declaration::Valued;
 use sheet::table;
 
 // The declaration that a field of a scope is, where its tag is `want`: an extension or a field. No other tag has any.
@@ -81,38 +76,4 @@ pub fn extends(s: &[u8], message: &[u8], d: Declaration) -> bool
     let from = d.extendee.from;
     let to = d.extendee.to;
     octets::same(message, &s[from..to])
-}
-
-// The value that a field of an enum is, where it is of this name.
-fn value_named_at(s: &[u8], tag: u8, from: usize, to: usize, name: &[u8]) -> Valued
-    requires { ⌜ (from ≤ to) × (to ≤ length (now s)) ⌝ }
-    ensures { λ r. ⌜ r ≡ valueNamedAt (now (name .entry)) (now (s .entry)) tag from to ⌝ }
-{
-    if tag != table::VALUE {
-        return Valued::NoValue;
-    }
-    let Leaf::At { from: _, to: _ } = named_at(s, from, to, name) else {
-        return Valued::NoValue;
-    };
-    sheet::declaration::value_at(s, from, to)
-}
-
-// The first value of that name among those of an enum.
-pub fn value_named(s: &[u8], values: Span, name: &[u8]) -> Valued
-    requires { ⌜ Lies values (now s) ⌝ }
-    ensures { λ r. ⌜ r ≡ valued (valueNamed (now (s .entry)) (now (name .entry))
-        (valuesIn (now (s .entry)) (walk (now (s .entry)) (values .from) (values .to)))) ⌝ }
-{
-    let end = values.to;
-    let mut at = values.from;
-    while at < end {
-        let Field::Whole { tag, from, to } = field::field_at(s, at, end) else {
-            return Valued::NoValue;
-        };
-        if let Valued::Values(v) = value_named_at(s, tag, from, to, name) {
-            return Valued::Values(v);
-        }
-        at = to;
-    }
-    Valued::NoValue
 }
