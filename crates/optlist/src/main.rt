@@ -1,12 +1,5 @@
 // Lists option bytes. Input: 40 a sheet, 44 an options type, 45 option bytes; several of these one after the other are several cases, each
 // answered in its turn. On 0 it prints the eight words of each record, and then each record once more for people.
-mod display;
-mod enums;
-mod name;
-mod row;
-mod value;
-mod words;
-
 ghost use Rattle.basis.specs.Kit.{_≤_, length};
 use console::input::Input;
 use console::input::MOST_BYTES;

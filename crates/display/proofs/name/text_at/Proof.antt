@@ -1,8 +1,8 @@
--- `optlist::name::text_at` meets its contract.
+-- `display::name::text_at` meets its contract.
 -- Assumes nothing.
-use Rattle.optlist.proofs.PlaceLaws.{place-laws}
-use Rattle.optlist.proofs.name.text_at.Statement.{statement}
-use Rattle.optlist.proofs.name.text_at.Tie as tie
+use Rattle.display.proofs.PlaceLaws.{place-laws}
+use Rattle.display.proofs.name.text_at.Statement.{statement}
+use Rattle.display.proofs.name.text_at.Tie as tie
 
 pub text-at-spec : {M : Type 1} → statement M
 text-at-spec = tie.close (tie.spec

@@ -1,9 +1,9 @@
--- `optlist::enums::show_enumerator` meets its contract, by its loop's invariant and laws.
+-- `display::enums::show_enumerator` meets its contract, by its loop's invariant and laws.
 -- Assumes nothing.
 use Rattle.basis.specs.Kit.{_-_, _≤_, length}
-use Rattle.optlist.proofs.PlaceLaws.{place-laws}
-use Rattle.optlist.proofs.enums.show_enumerator.Statement.{statement}
-use Rattle.optlist.proofs.enums.show_enumerator.Tie as tie
+use Rattle.display.proofs.PlaceLaws.{place-laws}
+use Rattle.display.proofs.enums.show_enumerator.Statement.{statement}
+use Rattle.display.proofs.enums.show_enumerator.Tie as tie
 
 abbrev Inv-loop : tie.InvT-loop
 Inv-loop s number from to end at₀ at = (at ≤ end) × (end ≤ length s)

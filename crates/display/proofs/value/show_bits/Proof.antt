@@ -1,9 +1,9 @@
--- `optlist::value::show_bits` meets its contract, by its loop's invariant and laws.
+-- `display::value::show_bits` meets its contract, by its loop's invariant and laws.
 -- Assumes nothing.
 use Rattle.basis.specs.Kit.{_≤_, length}
 use Rattle.basis.proofs.Kit.{needs}
-use Rattle.optlist.proofs.value.show_bits.Statement.{statement}
-use Rattle.optlist.proofs.value.show_bits.Tie as tie
+use Rattle.display.proofs.value.show_bits.Statement.{statement}
+use Rattle.display.proofs.value.show_bits.Tie as tie
 
 abbrev Inv-loop : tie.InvT-loop
 Inv-loop payload i₀ i = i ≤ length payload

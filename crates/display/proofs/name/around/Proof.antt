@@ -1,10 +1,10 @@
--- `optlist::name::around` meets its contract, by its loop's invariant and laws.
+-- `display::name::around` meets its contract, by its loop's invariant and laws.
 -- Assumes nothing.
 use Rattle.basis.specs.Kit.{_-_, _≤_}
-use Rattle.optlist.proofs.PlaceLaws.{place-laws}
+use Rattle.display.proofs.PlaceLaws.{place-laws}
 use Rattle.basis.proofs.Kit.{needs}
-use Rattle.optlist.proofs.name.around.Statement.{statement}
-use Rattle.optlist.proofs.name.around.Tie as tie
+use Rattle.display.proofs.name.around.Statement.{statement}
+use Rattle.display.proofs.name.around.Tie as tie
 
 abbrev Inv-loop : tie.InvT-loop
 Inv-loop s place end at₀ at = at ≤ end

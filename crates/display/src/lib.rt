@@ -1,9 +1,14 @@
 // Records of option bytes as lines: the words of each; and, for people, the name, number and type that the sheet declares each by, with its
 // value. What is printed is tested, not proved: contracts say what a function needs to be safe and to end. The form of the sheet was tested
 // before.
+mod enums;
+mod name;
+mod row;
+mod value;
+mod words;
+
 ghost use Rattle.basis.specs.Kit.{_≡_, length};
 ghost use Rattle.levels.specs.inner.Stack.{stackWords};
-use crate::row::show_row;
 use fullname::LookedUp;
 use inputs::words::least;
 use levels::Event;
@@ -11,6 +16,7 @@ use levels::STACK_WORDS;
 use levels::next;
 use levels::start;
 use limits::MOST_OPTION_BYTES;
+use row::show_row;
 
 // The words of a record.
 const RECORD: usize = 8;

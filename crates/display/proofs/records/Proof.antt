@@ -1,9 +1,9 @@
--- `optlist::display::records` meets its contract, by its loop's invariant and laws.
+-- `display::records` meets its contract, by its loop's invariant and laws.
 -- Assumes nothing.
 use Rattle.basis.specs.Kit.{_-_, _≤_}
 use Rattle.basis.proofs.Kit.{needs}
-use Rattle.optlist.proofs.display.records.Statement.{statement}
-use Rattle.optlist.proofs.display.records.Tie as tie
+use Rattle.display.proofs.records.Statement.{statement}
+use Rattle.display.proofs.records.Tie as tie
 
 abbrev Inv-loop : tie.InvT-loop
 Inv-loop words n end at₀ t5 at = at ≤ end

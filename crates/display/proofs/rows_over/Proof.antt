@@ -1,10 +1,10 @@
--- `optlist::display::rows_over` meets its contract, by its loop's invariant and laws.
+-- `display::rows_over` meets its contract, by its loop's invariant and laws.
 -- Assumes nothing.
 use Rattle.basis.specs.Kit.{_-_, length}
 use Rattle.levels.specs.inner.Left.{Open}
-use Rattle.optlist.proofs.PlaceLaws.{row-laws}
-use Rattle.optlist.proofs.display.rows_over.Statement.{statement}
-use Rattle.optlist.proofs.display.rows_over.Tie as tie
+use Rattle.display.proofs.PlaceLaws.{row-laws}
+use Rattle.display.proofs.rows_over.Statement.{statement}
+use Rattle.display.proofs.rows_over.Tie as tie
 
 abbrev Inv-loop : tie.InvT-loop
 Inv-loop sheet options-type bytes stack₀ cursor₀ stack cursor = Open sheet bytes stack cursor
