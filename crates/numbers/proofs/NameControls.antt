@@ -13,8 +13,8 @@ use Rattle.sheet.specs.Declaration.{hasTypePath, typePathAt, shapeAt, extension
 use Rattle.sheet.specs.Tree.{valueIn, itemIn, itemsIn, fileIn, treeOf}
 use Rattle.scope.specs.Scope.{Scope, holding}
 use Rattle.scopes.specs.Scopes.{scopes}
-use Rattle.basis.specs.First.{onlyIf, collect}
 use Rattle.scopes.proofs.Sheets.{file, message, extension, field}
+use Rattle.fullname.specs.FullName.{messagesAt}
 use Rattle.numbers.specs.Number.{declarationOf}
 
 -- ---- numbers at a message: the name of what declares them
@@ -31,10 +31,6 @@ abbrev knownIn : List ℕ → String → ℕ → List Scope → Known
 knownIn s m k [] = noMessage
 knownIn s m k (c ∷ cs) = known s (declarationOf s (holding s (c .place)) (ascii m) k)
 
--- those of the scopes at a path that are messages
-abbrev messages : List Scope → List Scope
-messages = collect λ c. onlyIf (c .place .message) (some c) none
-
 record Numbered : Type 0 where
   sheet : List ℕ
   path : String
@@ -45,9 +41,9 @@ abbrev declares : List ℕ → String → ℕ → Known → Numbered
 declares s p k a = record { sheet = s; path = p; number = k; says = a }
 
 declaring : Numbered → Known
-unfolding declarationOf scopes components split onFirst spell sameBytes treeOf fileIn itemsIn itemIn valueIn extensionAt
+unfolding declarationOf messagesAt scopes components split onFirst spell sameBytes treeOf fileIn itemsIn itemIn valueIn extensionAt
     messageFieldAt valueAt shapeAt typePathAt hasTypePath walkBy leafAt fieldAt bigAt
-declaring x = knownIn (x .sheet) (x .path) (x .number) (messages (scopes (x .sheet) (components (ascii (x .path)))))
+declaring x = knownIn (x .sheet) (x .path) (x .number) (messagesAt (x .sheet) (components (ascii (x .path))))
 
 -- p.M has the fields f = 1, g = 1 and h = 2, and in it N has n = 3; an extension of it stands before it, and one in the second file
 abbrev fielded : List ℕ
