@@ -85,11 +85,15 @@ fn field_numbered(s: &[u8], scope: LookupScope, number: u32) -> Option<Declarati
     None
 }
 
+fn may_hold(s: &[u8], tag: u8, item: Span, number: u32) -> bool {
+    if tag == EXTENSION {
+        return extension_said(s, item.from, item.to) == Some(number);
+    }
+    tag == MESSAGE
+}
+
 fn extension_in_item(s: &[u8], tag: u8, item: Span, left: usize, message: &[u8], number: u32) -> Option<Declaration> {
     if tag == EXTENSION {
-        if extension_said(s, item.from, item.to) != Some(number) {
-            return None;
-        }
         return extension_at(s, item.from, item.to)
             .filter(|d| d.shape.number == number && &s[d.extendee.from..d.extendee.to] == message);
     }
@@ -104,8 +108,11 @@ fn extension_in_items(s: &[u8], body: Span, left: usize, message: &[u8], number:
     let mut at = body.from;
     while at < body.to {
         let (tag, from, to) = field_at(s, at, body.to)?;
-        if let Some(d) = extension_in_item(s, tag, Span { from, to }, left, message, number) {
-            return Some(d);
+        let item = Span { from, to };
+        if may_hold(s, tag, item, number) {
+            if let Some(d) = extension_in_item(s, tag, item, left, message, number) {
+                return Some(d);
+            }
         }
         at = to;
     }

@@ -4,16 +4,21 @@
 --     fileWhere good s t a e == the first one in a field of a sheet
 --
 -- Assumes nothing.
-use Rattle.basis.specs.Kit.{_≡_, refl, sym, _∙_, Bool, true, false, List, [], ℕ, _-_, _≤_, length}
+use Rattle.basis.specs.Kit.{_≡_, refl, sym, _∙_, Bool, true, false, List, [], ℕ, _-_, _≤_, _<_, eqb, length}
 use Rattle.basis.proofs.Kit.{arith, eq-eqb, ne-eqb, not-true, not-false}
 use mathlib.Core.List.{append-nil}
+use borrow.Author.Tests.{eqb-false}
+use Rattle.basis.proofs.Never.{never}
 use Rattle.limits.specs.Figures.{mostMessages}
 use Rattle.field.specs.declared.Leaf.{Leaf}
 use Rattle.field.specs.declared.Leaf.the-variants.{At, Not}
 use Rattle.field.specs.Leaf.{isText, anyBytes, leafAt}
+use Rattle.field.specs.declared.Field.{Field}
+use Rattle.field.specs.declared.Field.the-variants.{Whole}
+use Rattle.field.specs.Field.{fieldAt}
 use Rattle.field.specs.Walk.{Walk, walk}
 use Rattle.field.proofs.LeafLaws.{leaf-inside}
-use Rattle.field.proofs.Seek.{seek, seek-is, Seeking, seek-start, seek-laws}
+use Rattle.field.proofs.Seek.{seek, seek-is, Seeking, seek-start, seek-next, seek-laws}
 use Rattle.sheet.specs.declared.declaration.Declaration.{Declaration}
 use Rattle.sheet.specs.declared.declaration.Declared.{Declared}
 use Rattle.sheet.specs.declared.declaration.Declared.the-variants.{Declares, NoDeclaration}
@@ -32,6 +37,7 @@ use Rattle.numbers.specs.Number.{hasNumber, isExtensionOf, fieldNumbered
 use Rattle.scope.proofs.Answers.{declared-or-else, declared-append, declared-listed, whose-laws}
 use Rattle.named.proofs.DeclaredPlaces.{declaration-at-ordered, declaration-at-places, places-laws}
 use Rattle.named.proofs.NamedLaws.{declarationWhere, declarations-seek}
+use Rattle.numbers.specs.inner.Says.{extensionSays, mayHold}
 use Rattle.numbers.proofs.SaysLaws.{field-tag-other, field-says-other, extension-tag-other, extension-says-other}
 
 -- ---- field_numbered_at
@@ -61,8 +67,15 @@ pub ruleset extension-read-at-laws = (
   not-false,
 )
 
--- ---- extension_numbered_at
-pub ruleset extension-numbered-at-laws = (extension-tag-other, extension-says-other, not-true, not-false)
+-- ---- may_hold
+module _ (k : ℕ) (s : List ℕ) (t a e : ℕ) where
+  pub may-extension : t ≡ extensionTag → (b : Bool) → b ≡ extensionSays k s a e → b ≡ mayHold k s t a e
+  may-extension h b q = rw (eq-eqb t extensionTag h, mayHold) q
+
+  pub may-other : (t ≡ extensionTag → ⊥) → eqb t messageTag ≡ mayHold k s t a e
+  may-other h = rw (ne-eqb t extensionTag h, mayHold) refl
+
+pub ruleset may-hold-laws = (may-extension, may-other)
 
 -- ---- field_numbered
 pub field-numbered-is : (k : ℕ) (s : List ℕ) (p : LookupScope) (r : Declared)
@@ -106,7 +119,27 @@ in-items-is good d s w r q =
     (λ w. declared (first good (everyExtensionOf (itemsIn d s w)))) refl refl
     (λ t a e w. rw (every-extension-item d s t a e (itemsIn d s w), declared-append)) w)
 
-pub ruleset in-items-laws = (in-items-is, seek-laws)
+-- a field that may not hold one is passed over
+module _ (m : List ℕ) (k d : ℕ) (s : List ℕ) (t a e : ℕ) where
+  no-message : t ≡ messageTag → mayHold k s t a e ≡ true
+  no-message h = rw h
+
+  passed-none : mayHold k s t a e ≡ false → NoDeclaration ≡ itemWhere (isExtensionOf s m k) d s t a e
+  passed-none q =
+      in-item-other (isExtensionOf s m k) d s t a e (λ h. never (let u = no-message h in cc)) NoDeclaration (go (eqb t extensionTag) refl q)
+    where
+      go : (c : Bool) → eqb t extensionTag ≡ c → elim c [ true ↦ extensionSays k s a e | false ↦ eqb t messageTag ] ≡ false
+          → NoDeclaration ≡ declarationWhere (isExtensionOf s m k) extensionTag s t a e
+      go true h g = extension-says-other k s t a e m (extensionSays k s a e) refl g
+      go false h g = extension-tag-other k s t a e m (eqb-false t extensionTag h)
+
+  pub in-items-pass : {from to i : ℕ}
+      → Seeking NoDeclaration (firstOf tellsDeclared) (itemWhere (isExtensionOf s m k) d s) s from to i → i < to
+      → (r : Field) → r ≡ fieldAt s i to → r ≡ Whole t a e → (b : Bool) → b ≡ mayHold k s t a e → b ≡ false
+      → Seeking NoDeclaration (firstOf tellsDeclared) (itemWhere (isExtensionOf s m k) d s) s from to e
+  in-items-pass l h r q g b u z = seek-next l h r q t a e g NoDeclaration (passed-none (sym u ∙ z)) refl (λ y. refl)
+
+pub ruleset in-items-laws = (in-items-is, in-items-pass, seek-laws, not-true, not-false)
 
 -- ---- extension_in_file
 module _ (good : Declaration → Bool) (s : List ℕ) (t a e : ℕ) where

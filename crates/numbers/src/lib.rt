@@ -11,7 +11,7 @@ ghost use Rattle.scope.specs.Scope.{holding};
 ghost use Rattle.scope.specs.inner.Answers.{InSheet, declared};
 ghost use Rattle.scope.specs.inner.Steps.{declarationAt, tellsDeclared, whose, itemAt, fileAt};
 ghost use Rattle.numbers.specs.Number.{hasNumber, isExtensionOf, fieldNumbered, extensionNumbered, declarationOf};
-ghost use Rattle.numbers.specs.inner.Says.{saysNumber, fieldSays, extensionSays};
+ghost use Rattle.numbers.specs.inner.Says.{saysNumber, fieldSays, extensionSays, mayHold};
 use field::Field;
 use field::Leaf;
 use field::Span;
@@ -130,19 +130,16 @@ fn extension_read_at(s: &[u8], tag: u8, item: Span, message: &[u8], number: u32)
     Declared::Declares(d)
 }
 
-// The same, read as a whole only where its number is this one.
-fn extension_numbered_at(s: &[u8], tag: u8, item: Span, message: &[u8], number: u32) -> Declared
+// Whether an extension of this number may stand in a field of a scope: whether that is a message, or an extension that says this number. It
+// is a test by itself, so that a loop that comes by many others hands no declaration on for them.
+fn may_hold(s: &[u8], tag: u8, item: Span, number: u32) -> bool
     requires { ⌜ Lies item (now s) ⌝ }
-    ensures { λ r. ⌜ r ≡ whose NoDeclaration tellsDeclared (isExtensionOf (now (s .entry)) (now (message .entry)) number)
-        (declarationAt extensionTag (now (s .entry)) tag (item .from) (item .to)) ⌝ }
+    ensures { λ r. ⌜ r ≡ mayHold number (now (s .entry)) tag (item .from) (item .to) ⌝ }
 {
-    if tag != table::EXTENSION {
-        return Declared::NoDeclaration;
+    if tag == table::EXTENSION {
+        return extension_says(s, item, number);
     }
-    if !extension_says(s, item, number) {
-        return Declared::NoDeclaration;
-    }
-    extension_read_at(s, tag, item, message, number)
+    tag == table::MESSAGE
 }
 
 // The first one in a field of a scope, at every depth, with `left` levels of messages left.
@@ -159,7 +156,7 @@ fn extension_in_item(
         (everyExtensionOf (itemAt left (now (s .entry)) tag (item .from) (item .to)))) ⌝ }
 {
     if tag != table::MESSAGE {
-        return extension_numbered_at(s, tag, item, message, number);
+        return extension_read_at(s, tag, item, message, number);
     }
     if left == 0 {
         return Declared::NoDeclaration;
@@ -188,8 +185,10 @@ fn extension_in_items(s: &[u8], body: Span, left: usize, message: &[u8], number:
             return Declared::NoDeclaration;
         };
         let item = Span { from: from, to: to };
-        if let Declared::Declares(d) = extension_in_item(s, tag, item, left, message, number) {
-            return Declared::Declares(d);
+        if may_hold(s, tag, item, number) {
+            if let Declared::Declares(d) = extension_in_item(s, tag, item, left, message, number) {
+                return Declared::Declares(d);
+            }
         }
         at = to;
     }

@@ -17,7 +17,8 @@ use Rattle.numbers.proofs.extension_in_items.Kinds as in-items-kinds
 use Rattle.numbers.proofs.+extension_in_item+extension_in_items.Lts-extension_in_items as in-items-lts
 use Rattle.field.proofs.field_at.Reads as field-at
 use Rattle.field.proofs.leaf_at.Reads as leaf-at
-use Rattle.numbers.proofs.extension_numbered_at.Reads as numbered-at
+use Rattle.numbers.proofs.extension_read_at.Reads as read-at
+use Rattle.numbers.proofs.may_hold.Reads as may-hold
 use Rattle.numbers.proofs.+extension_in_item+extension_in_items.{statement}
 use Rattle.numbers.proofs.+extension_in_item+extension_in_items.Tie.{close}
 
@@ -49,7 +50,7 @@ abbrev μ-loop : in-items-lts.MeasureT-loop
 pub +extension-in-item+extension-in-items-spec : {M : Type 1} → statement M
 +extension-in-item+extension-in-items-spec = close μ-in-item μ-in-items
     (λ t. in-item-lts.spec
-    (numbered-at.Asked, numbered-at.Learnt, leaf-at.Asked, leaf-at.Learnt, in-items-below t, in-items.Post)
+    (read-at.Asked, read-at.Learnt, leaf-at.Asked, leaf-at.Learnt, in-items-below t, in-items.Post)
     (in-item-at t)
     in-item.Post
     (λ c κs. search)
@@ -63,7 +64,7 @@ pub +extension-in-item+extension-in-items-spec : {M : Type 1} → statement M
     (λ c κs. search (needs, in-item-laws))
     (λ c. search in-item-laws))
     λ t. in-items-lts.spec
-    (field-at.Asked, field-at.Learnt, in-item-below t, in-item.Post)
+    (field-at.Asked, field-at.Learnt, may-hold.Asked, may-hold.Learnt, in-item-below t, in-item.Post)
     (in-items-at t)
     in-items.Post
     Inv-loop
@@ -74,9 +75,12 @@ pub +extension-in-item+extension-in-items-spec : {M : Type 1} → statement M
     (λ c. search)
     (λ c. search in-items-laws)
     (λ c κs. search (needs, in-items-laws))
+    (λ c κs. search (needs, in-items-laws))
     (λ c. search)
     (λ c. search in-items-laws)
     (λ c. search)
+    (λ c. search in-items-laws)
+    (λ c. search in-items-laws)
     (λ c. search in-items-laws)
     (λ c. search in-items-laws)
     (λ c. search in-items-laws)
