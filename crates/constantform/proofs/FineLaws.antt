@@ -1,6 +1,6 @@
 -- What the tree of a fine constant is like: every leaf is what 01 allows, and nothing is left out, at every depth.
 -- Assumes nothing.
-use Rattle.basis.specs.Kit.{_≡_, sym, ap, _∙_, true, List, [], _∷_, map, ℕ, suc, _+_, _*_, _≤_, _<_, length}
+use Rattle.basis.specs.Kit.{_≡_, sym, ap, _∙_, true, List, _∷_, map, ℕ, suc, _+_, _*_, _≤_, _<_, length}
 use Rattle.octets.specs.Octets.{part}
 use Rattle.reply.specs.declared.Refusal.the-variants.{BadRequest}
 use Rattle.reply.specs.declared.Verdict.the-variants.{Fine}

@@ -5,7 +5,7 @@
 --       filePlace i m e ==  the place of the i-th file, whose body is from m up to e
 --
 -- Assumes nothing.
-use Rattle.basis.specs.Kit.{_≡_, refl, sym, ap, _∙_, Bool, true, false, List, [], _∷_, Option, none, some, ℕ, suc, _+_, _-_, _*_, _^_}
+use Rattle.basis.specs.Kit.{_≡_, refl, ap, _∙_, Bool, true, false, List, _∷_, Option, none, some, ℕ, suc, _+_, _-_, _*_, _^_}
 use Rattle.basis.specs.Kit.{_≤_, _<_, eqb, length, take, drop}
 use Rattle.basis.proofs.Kit.{arith, ne-eqb, not-true, not-false, w64, Fits}
 use native.Mathlib.Nat.{add-zero}
@@ -17,7 +17,6 @@ use Rattle.field.specs.declared.Leaf.the-variants.{At, Not}
 use Rattle.field.specs.Leaf.{span, anyBytes, leafAt, onLeaf}
 use Rattle.field.specs.Walk.{walk}
 use Rattle.field.proofs.LeafLaws.{leaf-ordered, leaf-inside}
-use Rattle.path.specs.Path.{Path}
 use Rattle.path.specs.inner.Places.{untilDot, namesFrom}
 use Rattle.path.proofs.Names.{end-after, end-within, names-past, names-next}
 use Rattle.sheet.specs.Table.{fileTag, packageTag}

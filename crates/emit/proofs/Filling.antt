@@ -1,11 +1,10 @@
 -- Words that are put one by one from a place on: the loop of `put_words`.
 -- Assumes nothing.
-use Rattle.basis.specs.Kit.{_≡_, refl, sym, ap, _∙_, List, [], _∷_, ℕ, suc, _+_, _^_, _≤_, _<_, length, getD, drop, sets}
+use Rattle.basis.specs.Kit.{_≡_, refl, _∙_, List, [], _∷_, ℕ, suc, _+_, _≤_, _<_, length, getD, drop, sets}
 use Rattle.basis.proofs.Kit.{arith, add-one}
 use native.Mathlib.Nat.{add-zero, add-assoc}
 use lib.ListN.{length-drop}
 use lib.Seq.{drop-cons}
-use Rattle.octets.specs.inner.Laid.{Laid}
 use Rattle.octets.proofs.Halfway.{Halfway, halfway-start, halfway-next, halfway-end, halfway-length}
 
 -- of the words, which go over l from the place `at` on, the first i are there

@@ -1,7 +1,7 @@
 -- Closed cases of the definitions, which the checker computes: whole fields, an empty one and one in the middle; headers and payloads cut;
 -- leaves by tag and by length; lists of fields that end and that are cut.
 -- Assumes nothing.
-use Rattle.basis.specs.Kit.{_≡_, refl, Bool, true, false, List, [], _∷_, map, ℕ}
+use Rattle.basis.specs.Kit.{_≡_, refl, Bool, List, [], _∷_, map, ℕ}
 use Rattle.octets.specs.Octets.{bigAt}
 use Rattle.field.specs.declared.Field.the-variants.{Whole, Cut}
 use Rattle.field.specs.declared.Leaf.{Leaf}

@@ -11,7 +11,7 @@
 --       onLeaf none l some ==  `some` of a leaf's two places, `none` where there is no leaf
 --
 -- Assumes nothing.
-use Rattle.basis.specs.Kit.{Bool, true, false, _&&_, List, ℕ, _≤_, eqb, length}
+use Rattle.basis.specs.Kit.{Bool, true, _&&_, List, ℕ, _≤_, eqb, length}
 use Rattle.basis.specs.First.{onlyIf}
 use Rattle.octets.specs.Octets.{part, sameBytes}
 use Rattle.field.specs.declared.Field.{Field}

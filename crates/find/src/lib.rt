@@ -9,7 +9,6 @@ use field::Span;
 use field::part::none_of;
 use field::part::span_in;
 use reply::Answer;
-use reply::Refusal;
 use reply::Verdict;
 use search::extension::Found;
 use search::extension::Resolved;

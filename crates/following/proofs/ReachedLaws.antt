@@ -10,7 +10,6 @@ use Rattle.basis.specs.Kit.{_≡_, refl, sym, ap, _∙_, Bool, true, false, Lis
 use Rattle.basis.specs.Kit.{_<_, ltb, length}
 use Rattle.basis.specs.First.{onlyIf}
 use mathlib.Core.Path.{subst}
-use native.Mathlib.Decide.{decLt}
 use Rattle.basis.proofs.Kit.{arith, eq-eqb, ne-eqb, lt-ltb, le-ltb}
 use Rattle.sheet.specs.declared.declaration.Declaration.{Declaration}
 use Rattle.sheet.specs.declared.declaration.Declared.{Declared}

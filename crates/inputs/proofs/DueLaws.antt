@@ -1,6 +1,6 @@
 -- The ways through `due_at` and `due_leaf`, and that the field which is due is the leaf of its tag.
 -- Assumes nothing.
-use Rattle.basis.specs.Kit.{_≡_, refl, sym, ap, _∙_, Bool, true, false, _&&_, List, ℕ, eqb, length}
+use Rattle.basis.specs.Kit.{_≡_, refl, ap, Bool, true, false, _&&_, List, ℕ, eqb, length}
 use Rattle.basis.proofs.Kit.{arith, eq-eqb, ne-eqb}
 use borrow.Author.Tests.{eqb-true}
 use Rattle.field.specs.declared.Field.{Field}

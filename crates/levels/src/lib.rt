@@ -16,9 +16,7 @@ use entries::Row;
 use entries::front_at;
 use field::Span;
 use limits::MOST_LEVELS;
-use limits::MOST_OPTION_BYTES;
 use reply::Refusal;
-use reply::Verdict;
 use scope::lookup::LookupScope;
 
 // A level that is open: where the bytes of its message end, the message's path in the sheet, and its place there. The outermost has no

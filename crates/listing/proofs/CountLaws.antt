@@ -5,7 +5,7 @@ use Rattle.basis.proofs.Kit.{arith, Fits}
 use native.Mathlib.Nat.{zero-add}
 use mir.Syntax.{w32}
 use Rattle.basis.proofs.Never.{never}
-use Rattle.limits.specs.Figures.{mostOptionBytes, mostLevels}
+use Rattle.limits.specs.Figures.{mostOptionBytes}
 use Rattle.reply.specs.declared.Cause.{Cause}
 use Rattle.reply.specs.declared.Refusal.the-variants.{NoRoom}
 use Rattle.reply.specs.declared.Answer.{Answer}
@@ -16,14 +16,8 @@ use Rattle.emit.specs.declared.Put.the-variants.{Wrote, Refused}
 use Rattle.emit.specs.declared.Put.{Put}
 use Rattle.emit.specs.inner.Puts.{Puts}
 use Rattle.emit.proofs.WriteLaws.{put-wrote, put-refused, put-left, sets-front}
-use Rattle.scope.specs.declared.lookup.LookupScope.{LookupScope}
-use Rattle.lookups.specs.Lookups.{walking}
-use Rattle.entries.specs.Reading.{reading}
-use Rattle.entries.specs.inner.Fronts.{message}
-use Rattle.levels.specs.declared.Cursor.{Cursor}
-use Rattle.levels.specs.inner.Left.{flat, left, Starts}
-use Rattle.levels.proofs.StartLaws.{start-open, start-left}
-use Rattle.listing.specs.inner.Worded.{worded, WroteAtMost}
+use Rattle.levels.specs.inner.Left.{left}
+use Rattle.listing.specs.inner.Worded.{WroteAtMost}
 use Rattle.listing.specs.inner.Admitted.{counted}
 
 -- ---- count_words

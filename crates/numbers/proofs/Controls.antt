@@ -1,6 +1,6 @@
 -- Closed cases of the declaration of a number, which the checker computes.
 -- Assumes nothing.
-use Rattle.basis.specs.Kit.{_≡_, refl, List, [], _∷_, map, ℕ}
+use Rattle.basis.specs.Kit.{_≡_, refl, [], _∷_, map}
 use Rattle.scope.proofs.Sample.{sheet, file, nameM, nameN, inM, inN, declares}
 use Rattle.numbers.specs.Number.{declarationOf}
 

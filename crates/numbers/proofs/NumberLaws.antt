@@ -4,7 +4,7 @@
 --     fileWhere good s t a e == the first one in a field of a sheet
 --
 -- Assumes nothing.
-use Rattle.basis.specs.Kit.{_≡_, refl, sym, _∙_, Bool, true, false, List, [], ℕ, _-_, _≤_, _<_, eqb, length}
+use Rattle.basis.specs.Kit.{_≡_, refl, sym, _∙_, Bool, true, false, List, [], ℕ, _-_, _<_, eqb, length}
 use Rattle.basis.proofs.Kit.{arith, eq-eqb, ne-eqb, not-true, not-false}
 use mathlib.Core.List.{append-nil}
 use borrow.Author.Tests.{eqb-false}

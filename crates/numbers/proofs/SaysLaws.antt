@@ -2,7 +2,7 @@
 -- and `field_says`, and that what they refuse is no declaration of the number.
 -- Assumes nothing.
 use Rattle.basis.specs.Kit.{_≡_, refl, sym, _∙_, Bool, true, false, List, ℕ, eqb, getD}
-use Rattle.basis.proofs.Kit.{ne-eqb, not-true}
+use Rattle.basis.proofs.Kit.{ne-eqb}
 use Rattle.basis.proofs.Never.{never}
 use Rattle.octets.specs.Octets.{bigAt}
 use Rattle.field.specs.declared.Leaf.{Leaf}

@@ -1,7 +1,7 @@
 -- What is measured before anything is written: the ways through `gather_length`, `known_length`, `measure_from`, `measure_all` and
 -- `measure_tested`.
 -- Assumes nothing.
-use Rattle.basis.specs.Kit.{_≡_, refl, sym, ap, _∙_, List, ℕ, _+_, _*_, _^_, _≤_, _<_, length}
+use Rattle.basis.specs.Kit.{_≡_, refl, sym, ap, _∙_, List, ℕ, _+_, _≤_, length}
 use Rattle.basis.proofs.Kit.{arith, w64, Fits}
 use mir.Syntax.{w32}
 use mathlib.Core.Path.{subst}

@@ -1,6 +1,6 @@
 -- What the options of a fine request start with: the ways through `open`.
 -- Assumes nothing.
-use Rattle.basis.specs.Kit.{_≡_, refl, sym, ap, _∙_, List, [], _∷_, ℕ, _≤_, _<_, length}
+use Rattle.basis.specs.Kit.{_≡_, refl, sym, ap, _∙_, List, _∷_, ℕ, _≤_, _<_, length}
 use Rattle.basis.proofs.Kit.{arith}
 use mathlib.Core.Path.{subst}
 use native.Mathlib.Decide.{decLt}
@@ -36,9 +36,8 @@ use Rattle.options.specs.declared.settle.Start.{Start}
 use Rattle.judged.specs.declared.Stop.{Stop}
 use Rattle.judged.specs.Judged.{nowhere}
 use Rattle.options.specs.inner.Gathering.{optionsOf, gatheredBy}
-use Rattle.options.specs.declared.measure.Opening.{Opening}
 use Rattle.options.specs.declared.measure.Opening.the-variants.{At, Absent, Refused}
-use Rattle.options.specs.Steps.{Steps, absent, refused, stepsIn, onType, someOptions, stepsOf}
+use Rattle.options.specs.Steps.{refused, onType, someOptions, stepsOf}
 use Rattle.options.specs.inner.Measuring.{Opens, at, none, lost}
 
 -- a fine request is no longer than 01 allows

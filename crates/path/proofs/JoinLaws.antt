@@ -6,7 +6,7 @@ use mathlib.Core.List.{append-nil}
 use Rattle.octets.specs.inner.Laid.{Laid}
 use Rattle.octets.proofs.Overlay.{laid-append}
 use Rattle.path.specs.Path.{dot, split, components, spell}
-use Rattle.path.proofs.PathLaws.{spell-components, spell-split, split-append, components-nil, components-split}
+use Rattle.path.proofs.PathLaws.{spell-split, split-append, components-nil, components-split}
 
 module _ (a b : List ℕ) where
   spell-alone : length b ≡ 0 → spell (split a ++ components b) ≡ a

@@ -1,6 +1,6 @@
 -- The value of a record by its type: the laws of `value_of`, one for each way through the code.
 -- Assumes nothing.
-use Rattle.basis.specs.Kit.{_≡_, sym, _∙_, Bool, true, false, _||_, List, [], _∷_, ℕ, eqb}
+use Rattle.basis.specs.Kit.{_≡_, sym, _∙_, Bool, true, false, _||_, ℕ, eqb}
 use Rattle.basis.proofs.Kit.{ne-eqb, eq-eqb}
 use Rattle.types.specs.Types.{isAny, TYPE_FLOAT, TYPE_INT32, TYPE_FIXED32, TYPE_BOOL, TYPE_UINT32, TYPE_ENUM, TYPE_SFIXED32}
 use Rattle.types.specs.Types.{TYPE_SINT32, TYPE_SINT64}

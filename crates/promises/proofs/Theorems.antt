@@ -32,7 +32,7 @@ use Rattle.options.specs.declared.named.Fault.{Fault}
 use Rattle.steps.specs.Steps.{whyOf, stepExtension, stepOf}
 use Rattle.options.specs.Named.{faultAt, optionFrom}
 use Rattle.options.specs.Settle.{Settled, known, others, fails, stopAt, settle}
-use Rattle.options.specs.Options.{Gathered, gathered, stopped, next, gather}
+use Rattle.options.specs.Options.{stopped, next, gather}
 
 -- ---- an extension part that is reached
 

@@ -1,6 +1,6 @@
 -- The rows of 01's table: at a refusal that a match has found, and that no two refusals share one.
 -- Assumes nothing.
-use Rattle.basis.specs.Kit.{_≡_, refl, sym, ap, _∙_, Bool, _&&_, _||_, ℕ, _/_, _%_, _<_, eqb, ltb}
+use Rattle.basis.specs.Kit.{_≡_, sym, ap, _∙_, Bool, _&&_, _||_, ℕ, _/_, _%_, _<_, eqb, ltb}
 use Rattle.basis.proofs.Kit.{eq-eqb}
 use mathlib.Core.Path.{subst}
 use mathlib.Core.Bool.{not}

@@ -7,7 +7,7 @@
 -- Assumes nothing.
 use Rattle.basis.specs.Kit.{_≡_, refl, ap, Bool, true, false, _&&_, List, [], _∷_, ℕ, zero, suc, _<_}
 use Rattle.basis.proofs.Kit.{arith}
-use mathlib.Core.Logic.{_⊎_, inl, inr}
+use mathlib.Core.Logic.{inl, inr}
 use lib.Dec.{T}
 use denote.Struct.Field.{Field}
 use denote.Enum.Declared.{Choice}

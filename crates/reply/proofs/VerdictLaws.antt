@@ -1,7 +1,7 @@
 -- The laws of verdicts: the first fault is the answer, what `judge` returns, what a public call says, and what a verdict that is fine says
 -- of its parts.
 -- Assumes nothing.
-use Rattle.basis.specs.Kit.{_≡_, refl, ap, Bool, true, false, ℕ}
+use Rattle.basis.specs.Kit.{_≡_, refl, ap, Bool, true, false}
 use Rattle.basis.proofs.Never.{never}
 use Rattle.reply.specs.declared.Refusal.{Refusal}
 use Rattle.reply.specs.declared.Verdict.{Verdict}

@@ -1,6 +1,6 @@
 -- The laws of a request: the ways through `heading_of`, where a heading lies, and where parts end.
 -- Assumes nothing.
-use Rattle.basis.specs.Kit.{_≡_, refl, sym, _∙_, Bool, true, false, List, [], ℕ, zero, suc, _-_, _≤_, _<_, ltb, length}
+use Rattle.basis.specs.Kit.{_≡_, refl, sym, _∙_, Bool, true, false, List, ℕ, zero, suc, _-_, _≤_, _<_, ltb, length}
 use Rattle.basis.proofs.Kit.{arith}
 use borrow.Author.Tests.{ltb-true, ltb-false}
 use Rattle.basis.proofs.Never.{never}

@@ -11,7 +11,7 @@
 --             requestOf s == the request
 --
 -- Assumes nothing.
-use Rattle.basis.specs.Kit.{true, false, List, [], _∷_, ℕ, _+_, eqb, length}
+use Rattle.basis.specs.Kit.{true, false, List, [], _∷_, ℕ, eqb, length}
 use Rattle.limits.specs.Figures.{mostConstants}
 use Rattle.field.specs.declared.Field.{Field}
 use Rattle.field.specs.declared.Field.the-variants.{Whole, Cut}

@@ -4,14 +4,14 @@ use Rattle.basis.specs.Kit.{_≡_, refl, sym, ap, _∙_, List, _++_, ℕ, _≤_
 use lib.Seq.{length-take-le}
 use Rattle.basis.proofs.Never.{never}
 use Rattle.reply.specs.declared.Answer.{Answer}
-use Rattle.reply.specs.Outcome.{Outcome, give, Answered}
+use Rattle.reply.specs.Outcome.{give, Answered}
 use Rattle.judged.specs.declared.Stop.{Stop}
 use Rattle.judged.specs.declared.Judged.the-variants as judged
 use Rattle.judged.specs.inner.Answering.{Judges, fine, absent, refuses, answerIn}
 use Rattle.judged.proofs.JudgedLaws.{judged-absent, judged-refused, granted-within, judged-written}
 use Rattle.records.specs.Records.{Recs, append, encode}
 use Rattle.lookups.specs.Lookups.{walking}
-use Rattle.known.specs.Known.{Known, knownRecs}
+use Rattle.known.specs.Known.{knownRecs}
 use Rattle.options.specs.Options.{Gathered}
 use Rattle.options.specs.inner.Gathering.{gatheredBy}
 use Rattle.options.specs.declared.measure.Measured.{Measured}

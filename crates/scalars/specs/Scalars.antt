@@ -30,7 +30,6 @@ use Rattle.request.specs.declared.constant.Constant.the-variants.{Bool as BoolO
 use Rattle.request.specs.declared.constant.Constant.the-variants.{Text, Ident, Message as MessageOf, List as ListOf}
 use Rattle.fullname.specs.declared.LookedUpEnum.{LookedUpEnum}
 use Rattle.fullname.specs.declared.LookedUpEnum.the-variants.{Values, NoEnum}
-use Rattle.records.specs.declared.Body.{Body}
 use Rattle.records.specs.declared.Body.the-variants.{Bits, Bytes}
 use Rattle.scalars.specs.declared.Scalar.{Scalar}
 use Rattle.scalars.specs.declared.Scalar.the-variants.{Fits, Misfit}

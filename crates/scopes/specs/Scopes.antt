@@ -7,7 +7,7 @@
 --              scopes s p == the scopes at the path p, in order
 --
 -- Assumes nothing.
-use Rattle.basis.specs.Kit.{Bool, true, false, List, [], _∷_, _++_, Option, none, some, ℕ, _+_}
+use Rattle.basis.specs.Kit.{List, [], _∷_, _++_, Option, none, some, ℕ, _+_}
 use Rattle.field.specs.Leaf.{isText}
 use Rattle.path.specs.Path.{Path, spell}
 use Rattle.sheet.specs.Tree.{File, treeOf}

@@ -1,12 +1,11 @@
 -- Closed cases of the tree, which the checker computes: P1's sheet with every place, the empty sheet, a message that holds
 -- another, a field and an enum, cuts at the end of a sheet and of a file, what is no declaration, messages as deep as 01 allows and deeper.
 -- Assumes nothing.
-use Rattle.basis.specs.Kit.{_≡_, refl, List, [], _∷_, _++_, map, ℕ, zero, suc, _+_, _*_}
+use Rattle.basis.specs.Kit.{_≡_, refl, List, [], _∷_, _++_, ℕ, zero, suc, _+_, _*_}
 use Rattle.octets.specs.Octets.{bigAt}
 use Rattle.field.specs.Field.{fieldAt}
 use Rattle.field.specs.Leaf.{span, leafAt}
 use Rattle.field.specs.Walk.{walkBy}
-use Rattle.sheet.specs.Table.{fileTag, messageTag, extensionTag, enumTag, fieldTag, valueTag}
 use Rattle.sheet.specs.Declaration.{hasTypePath, typePathAt, shape, shapeAt, extensionAt, messageFieldAt, valueAt}
 use Rattle.sheet.specs.Tree.{Items, none, message, extension, enumeration, field, File, fileWith}
 use Rattle.sheet.specs.Tree.{valueIn, itemIn, itemsIn, fileIn, treeOf}

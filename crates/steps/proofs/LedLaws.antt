@@ -1,6 +1,6 @@
 -- Where that lies to which a part leads: further on in the request, and in the sheet.
 -- Assumes nothing.
-use Rattle.basis.specs.Kit.{_≡_, refl, sym, Bool, true, false, List, ℕ, _≤_, eqb, length}
+use Rattle.basis.specs.Kit.{_≡_, refl, sym, Bool, true, false, List, ℕ, eqb}
 use Rattle.basis.proofs.Kit.{arith}
 use mathlib.Core.Path.{subst}
 use Rattle.basis.proofs.Never.{never}
@@ -8,7 +8,6 @@ use Rattle.reply.specs.declared.Refusal.{Refusal}
 use Rattle.reply.specs.declared.Refusal.the-variants.{ExtensionIsNotMessage}
 use Rattle.field.specs.Leaf.{text, Lies}
 use Rattle.types.specs.Types.{TYPE_GROUP, TYPE_MESSAGE}
-use Rattle.sheet.specs.declared.declaration.Declaration.{Declaration}
 use Rattle.sheet.specs.declared.declaration.Shape.{Shape}
 use Rattle.scope.specs.declared.lookup.LookupScope.{LookupScope}
 use Rattle.scope.specs.inner.Answers.{InSheet}

@@ -1,6 +1,6 @@
 -- What a part leads to: the ways through `left_on`, `behind`, `why_of`, `led` and `reach_of`, over any look-ups.
 -- Assumes nothing.
-use Rattle.basis.specs.Kit.{_≡_, refl, sym, ap, _∙_, true, false, List, ℕ, _≤_, length}
+use Rattle.basis.specs.Kit.{_≡_, sym, ap, _∙_, List, ℕ}
 use Rattle.basis.proofs.Kit.{eq-eqb, ne-eqb}
 use Rattle.reply.specs.declared.Refusal.{Refusal}
 use Rattle.reply.specs.declared.Refusal.the-variants.{WrongExtensionType, ExtensionIsNotMessage, UnknownFieldName}

@@ -10,20 +10,19 @@
 --    records L s r k cs == the records of the constants cs, held by k
 --
 -- Assumes nothing.
-use Rattle.basis.specs.Kit.{true, false, List, Option, ℕ, eqb}
+use Rattle.basis.specs.Kit.{true, false, List, ℕ, eqb}
 use Rattle.basis.specs.First.{told}
 use Rattle.reply.specs.declared.Refusal.{Refusal}
 use Rattle.reply.specs.declared.Refusal.the-variants.{UnknownFieldName, UnknownEnumValue, MessageFieldRequiresMessageConstant}
 use Rattle.field.specs.Leaf.{text}
 use Rattle.types.specs.Types.{TYPE_MESSAGE}
 use Rattle.sheet.specs.declared.declaration.Shape.{Shape}
-use Rattle.sheet.specs.declared.declaration.Declaration.{Declaration}
 use Rattle.scope.specs.declared.lookup.LookupScope.{LookupScope}
 use Rattle.fullname.specs.declared.LookedUp.{LookedUp}
 use Rattle.fullname.specs.declared.LookedUp.the-variants.{Message as Is, NoMessage}
 use Rattle.request.specs.declared.constant.Constant.{Constant}
 use Rattle.request.specs.Tree.{PairName, unnamed, byField, byExtension, byUrl, Constants, none, scalar, message, list}
-use Rattle.records.specs.Records.{Recs, nil, recordOf}
+use Rattle.records.specs.Records.{nil, recordOf}
 use Rattle.records.specs.Made.{Made, made, wrong, both, holding}
 use Rattle.lookups.specs.Lookups.{Lookups, fieldNamed}
 use Rattle.scalars.specs.declared.Scalar.{Scalar}

@@ -1,6 +1,6 @@
 -- What the program knows of an example: where its fields lie; no more examples hold than there are.
 -- Assumes nothing.
-use Rattle.basis.specs.Kit.{_≡_, Bool, List, ℕ, _+_, _-_, _≤_, _<_, length}
+use Rattle.basis.specs.Kit.{_≡_, Bool, List, ℕ, _+_, _-_, _≤_, _<_}
 use Rattle.basis.proofs.Kit.{arith}
 use Rattle.field.specs.declared.Leaf.{Leaf}
 use Rattle.field.specs.declared.Leaf.the-variants.{At}

@@ -1,6 +1,6 @@
 -- The whole name of a builtin, a single direct part: the ways through `builtin_part` and `built_at`.
 -- Assumes nothing.
-use Rattle.basis.specs.Kit.{_≡_, refl, sym, ap, _∙_, Bool, true, false, List, [], _∷_, Option, none, some, ℕ, _≤_, length}
+use Rattle.basis.specs.Kit.{_≡_, refl, sym, ap, _∙_, true, false, List, [], _∷_, none, ℕ}
 use Rattle.basis.proofs.Never.{never}
 use Rattle.limits.specs.Figures.{mostConstants}
 use Rattle.field.specs.declared.Field.{Field}
@@ -20,7 +20,6 @@ use Rattle.lookups.specs.Lookups.{Lookups, Message}
 use Rattle.options.specs.inner.Written.{constantAt}
 use Rattle.builtins.specs.declared.Built.{Built}
 use Rattle.builtins.specs.Builtins.{builtinOf}
-use Rattle.builtins.specs.inner.Inside.{InBuilt}
 use Rattle.builtins.proofs.BuiltLaws.{built-inside}
 use Rattle.options.specs.Settle.{builtinPart}
 use Rattle.options.specs.inner.Settling.{parted}

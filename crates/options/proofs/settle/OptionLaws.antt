@@ -1,14 +1,11 @@
 -- What an option comes to by what its first part leads to, over any look-ups.
 -- Assumes nothing.
 use Rattle.basis.specs.Kit.{_≡_, refl, sym, ap, _∙_, Bool, true, false, List, [], _∷_, ℕ, _+_, eqb}
-use Rattle.reply.specs.declared.Refusal.{Refusal}
 use Rattle.reply.specs.declared.Refusal.the-variants.{ExtensionIsNotMessage}
 use Rattle.field.specs.Leaf.{text}
 use Rattle.field.specs.Walk.{walk}
 use Rattle.types.specs.Types.{TYPE_GROUP, TYPE_MESSAGE}
-use Rattle.sheet.specs.declared.declaration.Declaration.{Declaration}
 use Rattle.sheet.specs.declared.declaration.Shape.{Shape}
-use Rattle.scope.specs.declared.lookup.LookupScope.{LookupScope}
 use Rattle.fullname.specs.declared.LookedUp.{LookedUp}
 use Rattle.fullname.specs.declared.LookedUp.the-variants.{Message as Is, NoMessage}
 use Rattle.request.specs.declared.name.Part.{Part}

@@ -1,6 +1,6 @@
 -- The writers of an option: its constant on the last part, a message that parts go inside, and the step over the parts.
 -- Assumes nothing.
-use Rattle.basis.specs.Kit.{_≡_, refl, sym, ap, _∙_, List, ℕ, _+_, _-_, _*_, _≤_, _<_, length}
+use Rattle.basis.specs.Kit.{_≡_, refl, sym, ap, _∙_, List, ℕ, _+_, _-_, _*_, _<_}
 use Rattle.basis.proofs.Kit.{arith}
 use mathlib.Core.Path.{subst}
 use Rattle.basis.proofs.Never.{never}
@@ -17,11 +17,11 @@ use Rattle.request.specs.Request.{constantOfField}
 use Rattle.records.specs.declared.Wrote.{Wrote}
 use Rattle.records.specs.declared.Wrote.the-variants.{Next as Wrote-next, Refused as Wrote-refused}
 use Rattle.records.specs.Records.{nil}
-use Rattle.records.specs.Made.{Made, made, wrong, holding}
+use Rattle.records.specs.Made.{Made, made, holding}
 use Rattle.records.specs.inner.Emits.{bytesMost, wroteOf, Emits, Roomy}
 use Rattle.records.proofs.EmitsLaws.{Tells, wrote-tells, emits-next, emits-refused, refuses, emits-laid, writes-none, emits-more}
 use Rattle.records.proofs.InsideLaws.{inside-laws}
-use Rattle.lookups.specs.Lookups.{Lookups, Message}
+use Rattle.lookups.specs.Lookups.{Lookups}
 use Rattle.values.specs.Values.{on, records}
 use Rattle.values.specs.inner.Writers.{valueMade}
 use Rattle.options.specs.declared.named.Fault.{Fault}

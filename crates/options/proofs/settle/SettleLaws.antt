@@ -1,6 +1,6 @@
 -- One option: the ways through `settled_built`, `settle_named`, `settle` and `put_set`, over any look-ups.
 -- Assumes nothing.
-use Rattle.basis.specs.Kit.{_≡_, refl, sym, ap, _∙_, Bool, true, false, List, [], _∷_, Option, none, some, ℕ, _+_, _-_, _^_, _≤_, _<_, length, sets}
+use Rattle.basis.specs.Kit.{_≡_, refl, sym, ap, _∙_, Bool, true, false, List, [], _∷_, Option, none, some, ℕ, _+_, _-_, _≤_, length, sets}
 use Rattle.basis.specs.First.{onlyIf}
 use Rattle.basis.proofs.Kit.{arith}
 use mathlib.Core.Path.{subst}
@@ -8,8 +8,7 @@ use native.Mathlib.Nat.{add-zero}
 use Rattle.basis.proofs.Never.{never}
 use Rattle.octets.specs.inner.Laid.{Laid}
 use Rattle.reply.specs.declared.Refusal.{Refusal}
-use Rattle.field.specs.Field.{fieldAt}
-use Rattle.field.specs.Leaf.{text, Lies}
+use Rattle.field.specs.Leaf.{text}
 use Rattle.field.specs.Walk.{walk}
 use Rattle.sheet.specs.declared.declaration.Shape.{Shape}
 use Rattle.request.specs.declared.name.Part.{Part}
@@ -23,13 +22,12 @@ use Rattle.optionform.proofs.PartsLaws.{fine-part-next, fine-part-last}
 use Rattle.records.specs.declared.Body.{Body}
 use Rattle.records.specs.Records.{Recs, nil, encode}
 use Rattle.records.specs.Made.{Made, made, wrong}
-use Rattle.records.specs.inner.Emits.{bytesMost, Emits, Roomy}
+use Rattle.records.specs.inner.Emits.{Emits, Roomy}
 use Rattle.records.proofs.EmitsLaws.{Tells, emits-next, emits-refused, emits-laid, refuses}
-use Rattle.lookups.specs.Lookups.{Lookups, Message}
+use Rattle.lookups.specs.Lookups.{Lookups}
 use Rattle.options.specs.declared.named.Fault.{Fault}
 use Rattle.options.specs.declared.named.Stepped.{Stepped}
 use Rattle.options.specs.declared.named.Stepped.the-variants.{Next, Refused}
-use Rattle.options.specs.Named.{optionFrom}
 use Rattle.options.specs.inner.Written.{constantAt, steppedOf, optionMade, Steppable}
 use Rattle.options.proofs.settle.PutLaws.{stepped-tells}
 use Rattle.builtins.specs.declared.Built.{Built}
@@ -40,7 +38,7 @@ use Rattle.judged.specs.declared.Stop.{Stop}
 use Rattle.options.specs.declared.settle.Start.{Start}
 use Rattle.options.specs.declared.settle.Settling.{Settling}
 use Rattle.options.specs.declared.settle.Settling.the-variants.{Gives, Fails}
-use Rattle.options.specs.Settle.{Settled, settledBuilt, settled, builtinPart, stopAt, settle}
+use Rattle.options.specs.Settle.{settledBuilt, settled, builtinPart, stopAt, settle}
 use Rattle.options.specs.inner.Settling.{messageOf, settledAt, parted, othersOf, noteIn, setRecs, settlingOf, Started}
 
 -- ---- settled_built

@@ -28,7 +28,7 @@ use Rattle.options.specs.declared.measure.Opening.the-variants as openin
 use Rattle.options.specs.declared.measure.Measured.{Measured}
 use Rattle.options.specs.declared.measure.Measure.{Measure}
 use Rattle.options.specs.declared.measure.Measure.the-variants as measure
-use Rattle.options.specs.Steps.{Steps, records, absent, refused, stepsIn, stepsOf}
+use Rattle.options.specs.Steps.{Steps, absent, refused, stepsIn, stepsOf}
 
 abbrev pub restOf : Gathered → Recs
 restOf (gathered ks x) = x

@@ -11,7 +11,7 @@
 --    messageMade h d a e == a message constant on a field of the shape h
 --
 -- Assumes nothing.
-use Rattle.basis.specs.Kit.{true, false, List, Option, ℕ, zero, suc, _+_, _-_, eqb}
+use Rattle.basis.specs.Kit.{true, false, List, ℕ, zero, suc, _+_, _-_, eqb}
 use Rattle.basis.specs.First.{told}
 use Rattle.limits.specs.Figures.{mostVarint}
 use Rattle.reply.specs.declared.Refusal.{Refusal}
@@ -19,7 +19,6 @@ use Rattle.reply.specs.declared.Refusal.the-variants.{UnknownFieldName}
 use Rattle.field.specs.Leaf.{text}
 use Rattle.field.specs.Walk.{walk}
 use Rattle.sheet.specs.declared.declaration.Shape.{Shape}
-use Rattle.sheet.specs.declared.declaration.Declaration.{Declaration}
 use Rattle.scope.specs.declared.lookup.LookupScope.{LookupScope}
 use Rattle.request.specs.declared.constant.Constant.{Constant}
 use Rattle.request.specs.declared.constant.Constant.the-variants.{Bool as BoolOf, Integer, Float as FloatOf, NotANumber}
