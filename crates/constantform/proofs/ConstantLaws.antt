@@ -19,7 +19,7 @@ use Rattle.request.specs.Constant.{isPairName}
 use Rattle.pair.specs.declared.Pair.{Pair}
 use Rattle.pair.specs.declared.Paired.{Paired}
 use Rattle.pair.specs.declared.Paired.the-variants.{Pairs, NoPair}
-use Rattle.pair.specs.Pair.{pairAt}
+use Rattle.pair.specs.inner.Pair.{pairAt}
 use Rattle.pair.proofs.PairLaws.{Pairless, broken, unnamed, alone, cut-short, rest-pairless, rest-pair, rest-pair-next, pair-places}
 use Rattle.constantform.specs.Leaves.{isConstant, goodScalar, goodPairName}
 use Rattle.reply.specs.Verdicts.{beyond}

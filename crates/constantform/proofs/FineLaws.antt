@@ -17,7 +17,7 @@ use Rattle.request.specs.Tree.{PairName, Constants, elementsIn, pairsIn, consta
 use Rattle.pair.specs.declared.Pair.{Pair}
 use Rattle.pair.specs.declared.Paired.{Paired}
 use Rattle.pair.specs.declared.Paired.the-variants.{Pairs}
-use Rattle.pair.specs.Pair.{pairAt}
+use Rattle.pair.specs.inner.Pair.{pairAt}
 use Rattle.pair.proofs.PairLaws.{pair-steps}
 use Rattle.constantform.specs.Leaves.{isConstant, goodPairName}
 use Rattle.constantform.specs.Form.{pairsOf, judgeConstant, judgeElements, judgePairs}

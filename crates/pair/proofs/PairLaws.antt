@@ -18,7 +18,7 @@ use Rattle.request.specs.Constant.{isPairName}
 use Rattle.pair.specs.declared.Pair.{Pair}
 use Rattle.pair.specs.declared.Paired.{Paired}
 use Rattle.pair.specs.declared.Paired.the-variants.{Pairs, NoPair}
-use Rattle.pair.specs.Pair.{pairWith, pairFrom, pairAt}
+use Rattle.pair.specs.inner.Pair.{pairWith, pairFrom, pairAt}
 
 abbrev pub paired : ℕ → ℕ → ℕ → ℕ → ℕ → ℕ → Pair
 paired t a e k b f = record { by = t; name = span a e; tag = k; constant = span b f }

@@ -1,7 +1,7 @@
 // The pairs of a message constant, read on every byte string; no characters are tested.
 ghost use Rattle.basis.specs.Kit.{_≡_, _≤_, length};
 ghost use Rattle.request.specs.Constant.{isPairName};
-ghost use Rattle.pair.specs.Pair.{pairAt};
+ghost use Rattle.pair.specs.inner.Pair.{pairAt};
 use field::Field;
 use field::Span;
 use field::field_at;

@@ -35,7 +35,7 @@ use Rattle.request.specs.Tree.{constantIn}
 use Rattle.pair.specs.declared.Pair.{Pair}
 use Rattle.pair.specs.declared.Paired.{Paired}
 use Rattle.pair.specs.declared.Paired.the-variants.{Pairs, NoPair}
-use Rattle.pair.specs.Pair.{pairAt}
+use Rattle.pair.specs.inner.Pair.{pairAt}
 use Rattle.pair.proofs.PairLaws.{Pairless, broken, alone, cut-short, unnamed as misnamed, rest-pairless, rest-pair}
 use Rattle.pair.proofs.PairLaws.{pair-fields, pair-places, pair-constant-inside}
 use Rattle.records.specs.declared.Wrote.{Wrote}

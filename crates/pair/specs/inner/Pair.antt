@@ -1,4 +1,4 @@
--- Pairs of a message constant as they are written, from 01's "Sheet and request".
+-- The pair of a message constant at a place, as its reader answers it. What 01 says of pairs is in the tree of a request.
 --
 --   pairWith t a e f == the pair of a name of the tag t from a to e and the constant's field f
 --   pairFrom s end f == the pair that begins with the field f
@@ -14,7 +14,6 @@ use Rattle.request.specs.Constant.{isPairName}
 use Rattle.pair.specs.declared.Paired.{Paired}
 use Rattle.pair.specs.declared.Paired.the-variants.{Pairs, NoPair}
 
--- "pairs of a name (27 field, 28 extension path, 29 type URL ..) and a constant" [FORM-4]
 abbrev pub pairWith : (tag from to : ℕ) (constant : Field) → Paired
 pairWith t a e Cut = NoPair
 pairWith t a e (Whole k b f) = Pairs (record { by = t; name = span a e; tag = k; constant = span b f })
