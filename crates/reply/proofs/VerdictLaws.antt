@@ -1,11 +1,13 @@
 -- The laws of verdicts: the first fault is the answer, what `judge` returns, what a public call says, and what a verdict that is fine says
 -- of its parts.
 -- Assumes nothing.
-use Rattle.basis.specs.Kit.{_≡_, refl, ap, Bool, true, false}
+use Rattle.basis.specs.Kit.{_≡_, refl, ap, Bool, true, false, ℕ}
 use Rattle.basis.proofs.Never.{never}
 use Rattle.reply.specs.declared.Refusal.{Refusal}
 use Rattle.reply.specs.declared.Verdict.{Verdict}
 use Rattle.reply.specs.declared.Verdict.the-variants.{Fine, Refused}
+use Rattle.reply.specs.declared.Answer.{Answer}
+use Rattle.reply.specs.Reply.{decided}
 use Rattle.reply.specs.Verdicts.{firstFault, judged, replyOf, secondOf, Says}
 
 module _ (u v : Verdict) where
@@ -41,3 +43,13 @@ first-fine-rest (Refused w) v p = absurd (refused-fine w p)
 pub judged-fine : (w : Refusal) (b : Bool) → judged w b ≡ Fine → b ≡ true
 judged-fine w true p = refl
 judged-fine w false p = absurd (refused-fine w p)
+
+-- ---- decided
+abbrev answer : (word : ℕ) → Answer
+answer w = record { reply = 0; second = w; absent = 0; length = 0 }
+
+pub decided-yes : (b : Bool) → b ≡ true → answer 1 ≡ decided b
+decided-yes b h = rw h refl
+
+pub decided-no : (b : Bool) → b ≡ false → answer 0 ≡ decided b
+decided-no b h = rw h refl

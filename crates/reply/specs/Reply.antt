@@ -12,9 +12,11 @@
 --    refusedBy w ==  the answer of this refusal, nowhere
 --     doneWith n ==  the answer of a call that wrote n elements
 --   absentAnswer ==  the answer Absent
+--      decided b ==  the answer of a call that answers yes or no
 --
 -- Assumes nothing.
-use Rattle.basis.specs.Kit.{_≡_, List, [], ℕ, take}
+use Rattle.basis.specs.Kit.{_≡_, Bool, List, [], ℕ, take}
+use Rattle.basis.specs.First.{onlyIf}
 use Prim.Native.String.{String}
 use Rattle.octets.specs.Ascii.{ascii}
 use Rattle.reply.specs.declared.Refusal.{Refusal}
@@ -80,3 +82,7 @@ doneWith n = record { reply = 0; second = 0; absent = 0; length = n }
 
 abbrev pub absentAnswer : Answer
 absentAnswer = record { reply = 0; second = 0; absent = 1; length = 0 }
+
+-- the second word is 1 for yes and 0 for no [REPLY-2]
+abbrev pub decided : (holds : Bool) → Answer
+decided holds = record { reply = 0; second = onlyIf holds 1 0; absent = 0; length = 0 }

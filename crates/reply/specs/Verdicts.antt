@@ -5,6 +5,7 @@
 --           beyond ==  a limit that is passed
 --        replyOf v ==  the number of a verdict in 01's table, 0 where it is fine
 --       secondOf v ==  its second word
+--        asked v b ==  the answer yes or no where v is fine, else the refusal of v
 --         Says v r <-> the answer r is the verdict v, and so has its number and its second word
 --
 -- Assumes nothing.
@@ -13,7 +14,8 @@ use Rattle.reply.specs.declared.Refusal.{Refusal}
 use Rattle.reply.specs.declared.Refusal.the-variants.{BeyondLimit}
 use Rattle.reply.specs.declared.Verdict.{Verdict}
 use Rattle.reply.specs.declared.Verdict.the-variants.{Fine, Refused}
-use Rattle.reply.specs.Reply.{number, second}
+use Rattle.reply.specs.declared.Answer.{Answer}
+use Rattle.reply.specs.Reply.{number, second, refusedBy, decided}
 
 abbrev pub firstFault : (u v : Verdict) → Verdict
 firstFault Fine v = v
@@ -36,6 +38,11 @@ replyOf (Refused w) = number w
 abbrev pub secondOf : Verdict → ℕ
 secondOf Fine = 0
 secondOf (Refused w) = second w
+
+-- a call that answers yes or no of inputs that are judged v [REPLY-2]
+abbrev pub asked : Verdict → (holds : Bool) → Answer
+asked Fine b = decided b
+asked (Refused w) b = refusedBy w
 
 pub record Says (v r : Verdict) : Type 0 where
   pub is : r ≡ v

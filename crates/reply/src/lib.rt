@@ -1,7 +1,7 @@
 // 01's table of replies, once: the refusals, the answer that every public call returns, and the names that programs print.
 ghost use Rattle.basis.specs.Kit.{_≡_, _≤_, length};
 ghost use Rattle.reply.specs.Reply.{nowhere as nowhereOf, refusedFor, refusedBy};
-ghost use Rattle.reply.specs.Reply.{doneWith, absentAnswer};
+ghost use Rattle.reply.specs.Reply.{doneWith, absentAnswer, decided as decidedOf};
 ghost use Rattle.reply.specs.Reply.{NameOf, mostName, textOf};
 ghost use Rattle.reply.specs.inner.Table.{codeOf, Tabled};
 ghost use Rattle.reply.specs.Verdicts.{judged};
@@ -117,6 +117,18 @@ pub fn absent() -> Answer
         reply: 0,
         second: 0,
         absent: 1,
+        length: 0,
+    }
+}
+
+// The answer of a call that answers yes or no.
+pub fn decided(holds: bool) -> Answer
+    ensures { λ r. ⌜ r ≡ decidedOf holds ⌝ }
+{
+    Answer {
+        reply: 0,
+        second: if holds { 1 } else { 0 },
+        absent: 0,
         length: 0,
     }
 }
