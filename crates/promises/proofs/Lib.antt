@@ -14,6 +14,8 @@ pub mod ScalarFits
 pub mod SizedLaws
 pub mod Declarations
 pub mod WrittenLaws
+pub mod CleanLaws
+pub mod EvolveLaws
 pub mod BackLaws
 pub mod BackControls
 pub mod Theorems

@@ -2,6 +2,7 @@ pub mod PlaceLaws
 pub mod FrontLaws
 pub mod RecordsRead
 pub mod OlderBytes
+pub mod OlderRows
 pub mod ValuesBack
 pub mod OwnBytes
 pub mod UnderLaws

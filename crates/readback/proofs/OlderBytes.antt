@@ -15,10 +15,10 @@ use Rattle.readback.proofs.RecordsRead.{names-all, reading-of-records}
 
 module _ (L : Lookups) (s : List ℕ) (L′ : Lookups) (s′ : List ℕ) (Same : Message → Message → Type 0) (keeps : Keeps L s L′ s′ Same) where
   module _ {m m′ : Message} (one : Same m m′) where
-    kept : {n t : ℕ} (a : DeclaredAs s′ m′ n t) (d : Declaration) → declared s m n ≡ some d → Kept L s L′ s′ Same d (a .by)
+    pub kept : {n t : ℕ} (a : DeclaredAs s′ m′ n t) (d : Declaration) → declared s m n ≡ some d → Kept L s L′ s′ Same d (a .by)
     kept {n} {t} a d q = keeps m m′ one n d (a .by) q (a .declares)
 
-    kept-typ : {n t : ℕ} (a : DeclaredAs s′ m′ n t) (d : Declaration) → declared s m n ≡ some d → d .shape .typ ≡ t
+    pub kept-typ : {n t : ℕ} (a : DeclaredAs s′ m′ n t) (d : Declaration) → declared s m n ≡ some d → d .shape .typ ≡ t
     kept-typ a d q = kept a d q .typ ∙ a .typ
 
   pub older-readable : (rs : Recs) (m m′ : Message) → Same m m′ → Typed L′ s′ m′ rs → Readable L s m rs

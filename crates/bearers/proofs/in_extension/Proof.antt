@@ -1,0 +1,15 @@
+-- `bearers::in_extension` meets its contract.
+-- Assumes nothing.
+use Rattle.bearers.proofs.WayLaws.{in-extension-laws}
+use Rattle.basis.proofs.Kit.{needs}
+use Rattle.bearers.proofs.in_extension.Statement.{statement}
+use Rattle.bearers.proofs.in_extension.Tie as tie
+
+pub in-extension-spec : {M : Type 1} → statement M
+in-extension-spec = tie.close (tie.spec
+    (λ c κs. search)
+    (λ c. search)
+    (λ c. search)
+    (λ c. search (needs, in-extension-laws))
+    (λ c κs. search in-extension-laws)
+    (λ c. search in-extension-laws))

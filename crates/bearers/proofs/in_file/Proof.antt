@@ -1,0 +1,25 @@
+-- `bearers::in_file` meets its contract.
+-- Assumes nothing.
+use Rattle.bearers.proofs.WayLaws.{in-file-laws, first-laws}
+use Rattle.basis.proofs.Kit.{needs}
+use Rattle.bearers.proofs.in_file.Statement.{statement}
+use Rattle.bearers.proofs.in_file.Tie as tie
+
+pub in-file-spec : {M : Type 1} → statement M
+in-file-spec = tie.close (tie.spec
+    (λ c. search (needs, in-file-laws))
+    (λ c κs. search)
+    (λ c. search)
+    (λ c. search)
+    (λ c. search (needs, in-file-laws))
+    (λ c κs. search (needs, in-file-laws))
+    (λ c. search in-file-laws)
+    (λ c. search in-file-laws)
+    (λ c. search in-file-laws)
+    (λ c. search in-file-laws)
+    (λ c κs. search needs)
+    (λ c. search (needs, in-file-laws))
+    (λ c. search in-file-laws)
+    (λ c. search in-file-laws)
+    (λ c κs. (search (needs, in-file-laws), search first-laws))
+    (λ c. search in-file-laws))

@@ -1,0 +1,92 @@
+-- The laws of the calls: no reason is found exactly where a sheet is clean, or contained in another; and what a call answers of that.
+-- Assumes nothing.
+use Rattle.basis.specs.Kit.{_≡_, refl, sym, ap, _∙_, Bool, true, false, _&&_, List, ℕ, _≤_, length}
+use Rattle.basis.specs.Count.{once, every}
+use Rattle.field.specs.Leaf.{text, isText}
+use Rattle.limits.specs.Figures.{mostSheet}
+use Rattle.reply.specs.declared.Refusal.{Refusal}
+use Rattle.reply.specs.declared.Refusal.the-variants.{BeyondLimit}
+use Rattle.reply.specs.declared.Verdict.{Verdict}
+use Rattle.reply.specs.declared.Verdict.the-variants.{Fine, Refused}
+use Rattle.reply.specs.declared.Answer.{Answer}
+use Rattle.reply.specs.Reply.{refusedBy, decided}
+use Rattle.reply.specs.Verdicts.{firstFault, asked, Says}
+use Rattle.sheetform.specs.Form.{judgeSheet}
+use Rattle.sheetform.proofs.SheetLaws.{fine-length, sheet-length}
+use Rattle.names.specs.Names.{Named, everyDeclared}
+use Rattle.names.specs.Numbers.{Number, numbersOf, everyNumber}
+use Rattle.names.specs.Clean.{cleanName, membersOf, namedOnce, sameNumber, cleanPath, cleanExtendee, cleanNumber, cleanAt, clean}
+use Rattle.names.specs.Contained.{keptName, keptNumber, keptAt, contained}
+use Rattle.reasons.specs.declared.Why.the-variants as why
+use Rattle.reasons.specs.declared.Reason.{Reason}
+use Rattle.reasons.specs.Reasons.{holds, also, orNo, reasons, memberFlaws, memberWhy, extendeeOf, pathFlaw, numberFlaw, flawOf, cleanReason}
+use Rattle.reasons.specs.Reasons.{numberLoss, lossOf, lossWhy, containedReason}
+use Rattle.reasons.proofs.ReasonLaws.{holds-or-no, holds-also, holds-reasons, holds-reasons-from}
+use Rattle.evolution.specs.Calls.{cleanAnswer, containedAnswer}
+
+-- ---- clean
+and-assoc : (a b c : Bool) → (a && (b && c)) ≡ ((a && b) && c)
+and-assoc true b c = refl
+and-assoc false b c = refl
+
+module _ (s : List ℕ) where
+  number-holds : (k : ℕ) (x : Number) → holds (numberFlaw s k x) ≡ cleanNumber s x
+  number-holds k x = simp (holds-also, holds-or-no) refl
+
+  members-hold : (k : ℕ) (b : Named) → holds (memberFlaws s (memberWhy (b .what)) k (membersOf (b .what))) ≡ namedOnce s (membersOf (b .what))
+  members-hold k b =
+      let ns = membersOf (b .what) in
+      holds-reasons (λ n. orNo (once (isText s (text s n)) ns) (memberWhy (b .what)) k n) (λ n. once (isText s (text s n)) ns)
+      (λ n. holds-or-no (once (isText s (text s n)) ns) (memberWhy (b .what)) k n) ns
+
+  flaw-holds : (k : ℕ) (b : Named) → holds (flawOf s k b) ≡ cleanAt s b
+  flaw-holds k b =
+      let numbers = holds-reasons (numberFlaw s k) (cleanNumber s) (number-holds k) (numbersOf s b) in
+      simp (holds-also, holds-or-no, members-hold k b, numbers)
+      (and-assoc (cleanName s b) (namedOnce s (membersOf (b .what))) _
+      ∙ and-assoc (cleanName s b && namedOnce s (membersOf (b .what))) (cleanExtendee s (b .what)) (every (cleanNumber s) (numbersOf s b)))
+
+  pub clean-holds : holds (cleanReason s) ≡ clean s
+  unfolding clean
+  clean-holds = holds-reasons-from (flawOf s) (cleanAt s) flaw-holds 0 (everyDeclared s)
+
+-- ---- contained
+module _ (s t : List ℕ) where
+  loss-holds : (k : ℕ) (b : Named) → holds (lossOf s t k b) ≡ keptAt s t b
+  loss-holds k b =
+      let numbers = holds-reasons (numberLoss s t k) (keptNumber s t)
+        (λ x. holds-or-no (keptNumber s t x) why.NumberChanged k (x .by .name)) (numbersOf s b) in
+      simp (holds-also, holds-or-no, numbers) refl
+
+  pub contained-holds : holds (containedReason s t) ≡ contained s t
+  unfolding contained
+  contained-holds = holds-reasons-from (lossOf s t) (keptAt s t) loss-holds 0 (everyDeclared s)
+
+-- ---- the calls
+module _ (s : List ℕ) (v : Verdict) (q : Says (judgeSheet s) v) where
+  pub clean-refused : (w : Refusal) → v ≡ Refused w → (a : Answer) → a ≡ refusedBy w → a ≡ cleanAnswer s
+  clean-refused w g a u = u ∙ rw (sym (q .is) ∙ g) refl
+
+  pub sheet-short : v ≡ Fine → length s ≤ mostSheet
+  sheet-short g = fine-length s (sheet-length s (sym (q .is) ∙ g))
+
+  pub clean-asked : v ≡ Fine → (r : Reason) → r ≡ cleanReason s → (b : Bool) → b ≡ holds r → (a : Answer) → a ≡ decided b
+      → a ≡ cleanAnswer s
+  clean-asked g r p b h a u = u ∙ rw (sym (q .is) ∙ g) (ap decided (h ∙ ap holds p ∙ clean-holds s))
+
+pub ruleset clean-laws = (clean-refused, sheet-short, clean-asked)
+
+module _ (s t : List ℕ) (v : Verdict) (q : Says (judgeSheet s) v) where
+  pub older-refused : (w : Refusal) → v ≡ Refused w → (a : Answer) → a ≡ refusedBy w → a ≡ containedAnswer s t
+  older-refused w g a u = u ∙ rw (sym (q .is) ∙ g) refl
+
+  module _ (g : v ≡ Fine) (v′ : Verdict) (q′ : Says (judgeSheet t) v′) where
+    pub newer-refused : (w : Refusal) → v′ ≡ Refused w → (a : Answer) → a ≡ refusedBy w → a ≡ containedAnswer s t
+    newer-refused w g′ a u = u ∙ rw (sym (q .is) ∙ g, sym (q′ .is) ∙ g′) refl
+
+    pub contained-asked : v′ ≡ Fine → (r : Reason) → r ≡ containedReason s t → (b : Bool) → b ≡ holds r → (a : Answer) → a ≡ decided b
+        → a ≡ containedAnswer s t
+    contained-asked g′ r p b h a u =
+        u ∙ rw (sym (q .is) ∙ g, sym (q′ .is) ∙ g′) (ap decided (h ∙ ap holds p ∙ contained-holds s t))
+
+pub ruleset contained-laws = (older-refused, sheet-short, newer-refused, contained-asked)

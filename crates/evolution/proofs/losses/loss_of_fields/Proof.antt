@@ -1,0 +1,36 @@
+-- `evolution::losses::loss_of_fields` meets its contract, by its loop's invariant and laws.
+-- Assumes nothing.
+use Rattle.evolution.proofs.FlawLaws.{number-flaw-laws, extension-flaw-laws, field-flaw-laws}
+use Rattle.evolution.proofs.LossLaws.{number-loss-laws}
+use Rattle.evolution.proofs.FieldLaws.{fields-laws}
+use Rattle.basis.specs.Kit.{_-_}
+use Rattle.basis.proofs.Kit.{needs}
+use Rattle.field.proofs.Seek.{Seeking}
+use Rattle.reasons.specs.declared.Reason.the-variants.{Yes}
+use Rattle.reasons.specs.Reasons.{also, numberLoss}
+use Rattle.evolution.specs.inner.Bearers.{numberFor}
+use Rattle.evolution.proofs.FieldLaws.{fieldReason}
+use Rattle.evolution.proofs.losses.loss_of_fields.Statement.{statement}
+use Rattle.evolution.proofs.losses.loss_of_fields.Tie as tie
+
+abbrev Inv-loop : tie.InvT-loop
+Inv-loop s message newer index end p₀ p =
+    Seeking Yes also (fieldReason (λ d. numberLoss s newer index (numberFor message d)) s) s p₀ end p
+
+abbrev μ-loop : tie.MeasureT-loop
+μ-loop s message newer index end p₀ p = end - p
+
+pub loss-of-fields-spec : {M : Type 1} → statement M
+loss-of-fields-spec = tie.close (tie.spec Inv-loop μ-loop
+    (λ c. search (needs, number-flaw-laws, extension-flaw-laws, number-loss-laws, fields-laws, field-flaw-laws))
+    (λ c κs. search (needs, number-flaw-laws, extension-flaw-laws, number-loss-laws, fields-laws, field-flaw-laws))
+    (λ c. search (needs, number-flaw-laws, extension-flaw-laws, number-loss-laws, fields-laws, field-flaw-laws))
+    (λ c. search (needs, number-flaw-laws, extension-flaw-laws, number-loss-laws, fields-laws, field-flaw-laws))
+    (λ c. search (needs, number-flaw-laws, extension-flaw-laws, number-loss-laws, fields-laws, field-flaw-laws))
+    (λ c κs. search (needs, number-flaw-laws, extension-flaw-laws, number-loss-laws, fields-laws, field-flaw-laws))
+    (λ c. search (needs, number-flaw-laws, extension-flaw-laws, number-loss-laws, fields-laws, field-flaw-laws))
+    (λ c. search (needs, number-flaw-laws, extension-flaw-laws, number-loss-laws, fields-laws, field-flaw-laws))
+    (λ c. search (needs, number-flaw-laws, extension-flaw-laws, number-loss-laws, fields-laws, field-flaw-laws))
+    (λ c. search (needs, number-flaw-laws, extension-flaw-laws, number-loss-laws, fields-laws, field-flaw-laws))
+    (λ c. search (needs, number-flaw-laws, extension-flaw-laws, number-loss-laws, fields-laws, field-flaw-laws))
+    (λ c. search (needs, number-flaw-laws, extension-flaw-laws, number-loss-laws, fields-laws, field-flaw-laws)))

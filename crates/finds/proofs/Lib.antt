@@ -1,0 +1,9 @@
+pub mod Spelling
+pub mod Reach
+pub mod Follows
+pub mod Files
+pub mod Declared
+pub mod Placed
+pub mod Located
+pub mod Extensions
+pub mod Finds

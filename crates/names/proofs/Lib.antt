@@ -1,0 +1,3 @@
+pub mod LeadsLaws
+pub mod StandsLaws
+pub mod FewLaws

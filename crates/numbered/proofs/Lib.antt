@@ -1,0 +1,5 @@
+pub mod WayLaws
+pub mod EveryLaws
+pub mod LikenessLaws
+pub mod OnwardLaws
+pub mod ItemLaws

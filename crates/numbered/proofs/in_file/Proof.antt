@@ -1,0 +1,20 @@
+-- `numbered::in_file` meets its contract.
+-- Assumes nothing.
+use Rattle.numbered.proofs.ItemLaws.{in-file-laws}
+use Rattle.basis.proofs.Kit.{needs}
+use Rattle.numbered.proofs.in_file.Statement.{statement}
+use Rattle.numbered.proofs.in_file.Tie as tie
+
+pub in-file-spec : {M : Type 1} → statement M
+in-file-spec = tie.close (tie.spec
+    (λ c. search (needs, in-file-laws))
+    (λ c κs. search)
+    (λ c. search)
+    (λ c. search)
+    (λ c. search (needs, in-file-laws))
+    (λ c. search in-file-laws)
+    (λ c. search in-file-laws)
+    (λ c. search in-file-laws)
+    (λ c κs. search)
+    (λ c κs. search in-file-laws)
+    (λ c. search in-file-laws))

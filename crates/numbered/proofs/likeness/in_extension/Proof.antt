@@ -1,0 +1,15 @@
+-- `numbered::likeness::in_extension` meets its contract.
+-- Assumes nothing.
+use Rattle.numbered.proofs.LikenessLaws.{in-extension-laws}
+use Rattle.basis.proofs.Kit.{needs}
+use Rattle.numbered.proofs.likeness.in_extension.Statement.{statement}
+use Rattle.numbered.proofs.likeness.in_extension.Tie as tie
+
+pub in-extension-spec : {M : Type 1} → statement M
+in-extension-spec = tie.close (tie.spec
+    (λ c κs. search)
+    (λ c. search)
+    (λ c. search)
+    (λ c. search (needs, in-extension-laws))
+    (λ c κs. search in-extension-laws)
+    (λ c. search in-extension-laws))

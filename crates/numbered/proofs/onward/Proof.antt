@@ -1,0 +1,15 @@
+-- `numbered::onward` meets its contract.
+-- Assumes nothing.
+use Rattle.numbered.proofs.OnwardLaws.{onward-laws}
+use Rattle.numbered.proofs.onward.Statement.{statement}
+use Rattle.numbered.proofs.onward.Tie as tie
+
+pub onward-spec : {M : Type 1} → statement M
+onward-spec = tie.close (tie.spec
+    (λ c. search)
+    (λ c. search)
+    (λ c κs. search onward-laws)
+    (λ c. search)
+    (λ c. search onward-laws)
+    (λ c. search onward-laws)
+    (λ c. search onward-laws))

@@ -1,0 +1,4 @@
+pub mod NthLaws
+pub mod Finding
+pub mod RosterLaws
+pub mod Controls
