@@ -55,7 +55,7 @@ module _ (s t : List ℕ) where
   loss-holds : (k : ℕ) (b : Named) → holds (lossOf s t k b) ≡ keptAt s t b
   loss-holds k b =
       let numbers = holds-reasons (numberLoss s t k) (keptNumber s t)
-        (λ x. holds-or-no (keptNumber s t x) why.NumberChanged k (x .by .name)) (numbersOf s b) in
+      (λ x. holds-or-no (keptNumber s t x) why.NumberChanged k (x .by .name)) (numbersOf s b) in
       simp (holds-also, holds-or-no, numbers) refl
 
   pub contained-holds : holds (containedReason s t) ≡ contained s t

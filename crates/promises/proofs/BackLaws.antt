@@ -38,7 +38,7 @@ use Rattle.promises.proofs.SizedLaws.{request-sized}
 use Rattle.promises.proofs.Declarations.{walking-steady}
 use Rattle.promises.proofs.WrittenLaws.{WrittenAt, steps-written}
 
-nested-few : (x : Recs) → nested x ≤ deepest x
+pub nested-few : (x : Recs) → nested x ≤ deepest x
 nested-few nil = omega arith
 nested-few (number n t v r) = omega (arith, nested-few r)
 nested-few (bytes n t b r) = omega (arith, nested-few r)
@@ -50,11 +50,11 @@ module _ (s type bs : List ℕ) (sheet : judgeSheet s ≡ Fine) (name : isRelPat
   unfolding judgeInputs judgeOptionsType judgeBytes
   inputs-fine = rw (sheet, name, le-leb (length bs) mostOptionBytes few)
 
-  listing-is : (m : Message) (t : Tree) → recordsOf (walking s) s type bs ≡ under m t → listing s type bs ≡ give (wordsOf (rows 0 t))
+  pub listing-is : (m : Message) (t : Tree) → recordsOf (walking s) s type bs ≡ under m t → listing s type bs ≡ give (wordsOf (rows 0 t))
   unfolding listingBy
   listing-is m t e = rw (inputs-fine, e)
 
-type-fine : (r : List ℕ) → judgeRequest r ≡ Fine → isRelPath (text r (requestOf r .optionsType)) ≡ true
+pub type-fine : (r : List ℕ) → judgeRequest r ≡ Fine → isRelPath (text r (requestOf r .optionsType)) ≡ true
 type-fine r p =
     let q = requestOf r in
     let scope = isRelOrEmpty (text r (q .scope)) in

@@ -31,6 +31,7 @@ use Rattle.fullname.proofs.LiesLaws.{looked-up-is}
 use Rattle.lookups.specs.Lookups.{Lookups, Message, walking}
 use Rattle.names.specs.Names.{What, message, enumeration, extension, Named, everyDeclared, anyKind, ofKind, bears, tagOf}
 use Rattle.names.specs.Numbers.{Number, numbersOf, numbersAll, everyNumber}
+use Rattle.names.specs.Contained.{isIn}
 use Rattle.names.specs.Clean.{namesOne, cleanName, sameNumber, cleanPath, cleanExtendee, cleanNumber, cleanAt, clean, membersOf, namedOnce}
 use Rattle.finds.proofs.Reach.{named}
 
@@ -65,6 +66,25 @@ field-number s t c d m k = numbers-of s (among-map (number t) k) m
 pub extension-number : (s t : List ℕ) (d : Declaration) → Among (named t (extension d)) (everyDeclared s)
     → Among (number (text s (d .extendee)) d) (everyNumber s)
 extension-number s t d m = numbers-of s here m
+
+-- ---- a message of a full name
+pub record NamesMessage (s t : List ℕ) : Type 0 where
+  pub scope : Scope
+  pub among : Among (named t (message scope)) (everyDeclared s)
+
+message-of : (s t : List ℕ) (w : What) → Among (named t w) (everyDeclared s) → ofKind messageTag (named t w) ≡ true → NamesMessage s t
+message-of s t (message c) m h = record { scope = c; among = m }
+message-of s t (enumeration x) m h = never cc
+message-of s t (extension d) m h = never cc
+
+-- where there is one, it is declared
+pub among-message : (s t : List ℕ) → isIn s messageTag t ≡ true → NamesMessage s t
+among-message s t e =
+    let r = any-passing (λ b. ofKind messageTag b && bears t b) (everyDeclared s) e in
+    let b = r .one in
+    let both = and-eq-true-iff (ofKind messageTag b) (bears t b) .0 (r .passes) in
+    message-of s t (b .what)
+    (subst (λ x. Among (named x (b .what)) (everyDeclared s)) (sym (same-sound t (b .name) (both .1))) (r .among)) (both .0)
 
 -- ---- what a clean sheet says of each
 module _ (s : List ℕ) (c : clean s ≡ true) where
@@ -109,38 +129,12 @@ module _ (s : List ℕ) (c : clean s ≡ true) where
       let other : sameNumber x (number t e) ≡ true = rw (same-refl t, eq-eqb (d .shape .number) (e .shape .number) q) refl in
       ap (λ (y : Number). y .by) (once-unique (sameNumber x) single m own n other)
 
-  -- what a full name names
-  record Bearing (kind : ℕ) (t : List ℕ) : Type 0 where
-    what : What
-    among : Among (named t what) (everyDeclared s)
-    tag : ofKind kind (named t what) ≡ true
-
-  bearing-of : (k : ℕ) (t : List ℕ) (b : Named) → Among b (everyDeclared s) → (ofKind k b && bears t b) ≡ true → Bearing k t
-  bearing-of k t b m p =
-      let both = and-eq-true-iff (ofKind k b) (bears t b) .0 p in
-      let same : t ≡ b .name = same-sound t (b .name) (both .1) in
-      record { what = b .what; among = subst (λ x. Among (named x (b .what)) (everyDeclared s)) (sym same) m; tag = both .0 }
-
-  bearing : (k : ℕ) (t : List ℕ) → namesOne s k t ≡ true → Bearing k t
-  bearing k t e =
-      let r = any-passing (λ b. ofKind k b && bears t b) (everyDeclared s) (once-any (λ b. ofKind k b && bears t b) (everyDeclared s) e) in
-      bearing-of k t (r .one) (r .among) (r .passes)
-
-  pub record NamesMessage (t : List ℕ) : Type 0 where
-    pub scope : Scope
-    pub among : Among (named t (message scope)) (everyDeclared s)
-
-  names-message : (t : List ℕ) → namesOne s messageTag t ≡ true → NamesMessage t
-  names-message t e = let r = bearing messageTag t e in go (r .what) (r .among) (r .tag)
-    where
-      go : (w : What) → Among (named t w) (everyDeclared s) → ofKind messageTag (named t w) ≡ true → NamesMessage t
-      go (message c) m h = record { scope = c; among = m }
-      go (enumeration x) m h = never cc
-      go (extension d) m h = never cc
+  names-message : (t : List ℕ) → namesOne s messageTag t ≡ true → NamesMessage s t
+  names-message t e = among-message s t (once-any (λ b. ofKind messageTag b && bears t b) (everyDeclared s) e)
 
   -- the type path of a message type names a message
   pub path-message : (t : List ℕ) (d : Declaration) → Among (number t d) (everyNumber s) → d .shape .typ ≡ TYPE_MESSAGE
-      → NamesMessage (text s (d .shape .path))
+      → NamesMessage s (text s (d .shape .path))
   unfolding hasTypePath
   path-message t d m q =
       let x = number t d in
@@ -148,5 +142,5 @@ module _ (s : List ℕ) (c : clean s ≡ true) where
       names-message (text s (d .shape .path)) (rw q at named)
 
   pub extendee-message : (t : List ℕ) (d : Declaration) → Among (named t (extension d)) (everyDeclared s)
-      → NamesMessage (text s (d .extendee))
+      → NamesMessage s (text s (d .extendee))
   extendee-message t d m = names-message (text s (d .extendee)) (clean-extendee t d m)

@@ -17,6 +17,8 @@ pub mod WrittenLaws
 pub mod CleanLaws
 pub mod EvolveLaws
 pub mod BackLaws
+pub mod Demand
 pub mod BackControls
 pub mod Theorems
+pub mod Demands
 pub mod Main

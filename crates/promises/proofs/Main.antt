@@ -7,7 +7,7 @@
 -- `after` it. `Bytes s` says that every element of s is below 256, as those of a slice of bytes are.
 --
 -- Assumes nothing.
-use Rattle.basis.specs.Kit.{_≡_, ap, _∙_, Bool, true, false, List, _∷_, _++_, map, none, some, ℕ, _+_, _≤_, _<_, _^_, length, drop}
+use Rattle.basis.specs.Kit.{_≡_, ap, _∙_, Bool, true, false, List, [], _∷_, _++_, map, none, some, ℕ, _+_, _≤_, _<_, _^_, length, take, drop}
 use Rattle.basis.specs.Among.{Among, Ordered}
 use Rattle.basis.proofs.Kit.{lt-ltb, le-ltb}
 use Rattle.limits.specs.Figures.{mostLevels, mostOptionBytes}
@@ -16,22 +16,25 @@ use Rattle.reply.specs.declared.Refusal.{Refusal}
 use Rattle.reply.specs.declared.Refusal.the-variants.{ExtensionNotFound, WrongExtensionType, BadRequest, BeyondLimit, NoRoom}
 use Rattle.reply.specs.declared.Verdict.the-variants.{Fine}
 use Rattle.reply.specs.declared.Answer.{Answer}
-use Rattle.reply.specs.Reply.{refusedBy, doneWith, absentAnswer}
+use Rattle.reply.specs.Reply.{refusedBy, doneWith, absentAnswer, decided}
 use Rattle.reply.specs.Outcome.{Outcome, refuse, nothing, give, within, answerOf, leftOf, Answered}
 use Rattle.reply.proofs.Outcomes.{answered-unique-answer, answered-unique-left}
-use Rattle.path.specs.Path.{Path, isPath}
+use Rattle.path.specs.Path.{Path, components, allIdent, isPath}
 use Rattle.candidates.specs.Candidates.{candidates}
 use Rattle.field.specs.declared.Span.{Span}
 use Rattle.field.specs.Leaf.{span, text}
 use Rattle.field.specs.Part.{PartOf, noBytes}
 use Rattle.sheet.specs.declared.declaration.Declaration.{Declaration}
+use Rattle.sheet.specs.Members.{Enumeration}
 use Rattle.sheetform.specs.Form.{judgeSheet}
 use Rattle.scope.specs.declared.lookup.LookupScope.{LookupScope}
-use Rattle.scope.specs.Scope.{extends}
+use Rattle.scope.specs.Scope.{Scope, extends}
 use Rattle.fullname.specs.declared.LookedUp.the-variants.{Message as Found}
+use Rattle.fullname.specs.FullName.{messagesAt, enumsAt}
 use Rattle.search.specs.declared.extension.Candidate.{Candidate}
 use Rattle.search.specs.declared.extension.Tried.the-variants.{Answers}
-use Rattle.search.specs.Lookup.{tried}
+use Rattle.search.specs.declared.extension.Found.{Found as FoundExtension}
+use Rattle.search.specs.Lookup.{foundAt, tried}
 use Rattle.search.specs.Answers.{Undeclared}
 use Rattle.request.specs.declared.name.Part.{Part}
 use Rattle.request.specs.Request.{Option, requestOf}
@@ -60,6 +63,11 @@ use Rattle.listing.proofs.ListingLaws as lists
 use Rattle.following.specs.Reached.{never, reached}
 use Rattle.query.specs.Query.{queryOf, judgeInputs, query, queryTested}
 use Rattle.query.proofs.CallLaws as queries
+use Rattle.names.specs.Names.{message, enumeration, extension, everyDeclared}
+use Rattle.names.specs.Contained.{contained}
+use Rattle.finds.proofs.Reach.{named}
+use Rattle.finds.proofs.Finds as finds
+use Rattle.evolution.specs.Calls.{cleanAnswer, containedAnswer}
 use Rattle.readback.specs.Seen.{seen, nested, Readable}
 use Rattle.readback.specs.Typed.{Typed, contents, contentOf}
 use Rattle.readback.specs.Once.{DeclaredAt, Once}
@@ -83,6 +91,8 @@ use Rattle.readback.proofs.FollowsLaws as follows
 use Rattle.readback.proofs.QueryLaws as answers
 use Rattle.readback.proofs.CallLaws as calls
 use Rattle.promises.specs.Levels.{deepest}
+use Rattle.promises.specs.Evolve.{CleanSheet, optionsType, declares, ListedUnder, OldReads}
+use Rattle.promises.specs.Demands.{FromTable, ByRule}
 use Rattle.promises.specs.Back.{TypedAt, ListedBack}
 use Rattle.promises.proofs.Asking.{answer}
 use Rattle.promises.proofs.Examples as examples
@@ -90,6 +100,10 @@ use Rattle.promises.proofs.Bounds as bounds
 use Rattle.promises.proofs.Levels as levels
 use Rattle.promises.proofs.BackLaws as back
 use Rattle.promises.proofs.Theorems as theorems
+use Rattle.promises.proofs.CleanLaws as cleanly
+use Rattle.promises.proofs.EvolveLaws as evolves
+use Rattle.promises.proofs.Demand as demand
+use Rattle.promises.proofs.Demands as demands
 
 -- ==== Demand 1: every input gets an answer from 01's table; a refusal writes nothing; NoRoom comes last
 -- Of each call, `o` being what it comes to:
@@ -337,7 +351,7 @@ module _ (joins : Declaration → Bool) (L : Lookups) (s type q bs : List ℕ) w
   pub query-lacks : Lacks joins L s type q bs → queryOf joins L s type q bs ≡ nothing
   query-lacks = answers.lacks-query joins L s type q bs
 
--- ==== For demand 3
+-- ==== Demand 3: old readers, new writers
 -- A request writes at most 65,536 bytes,
 pub bytes-few : (s r : List ℕ) (x : Recs) → resolving s r ≡ records x → length (encode x) ≤ 65536
 bytes-few s r x e = bounds.resolve-few (judgeSheet s) s r x e
@@ -345,3 +359,62 @@ bytes-few s r x e = bounds.resolve-few (judgeSheet s) s r x e
 -- and none of its records lies deeper than level 30.
 pub levels-few : (s r : List ℕ) (x : Recs) → resolving s r ≡ records x → deepest x ≤ 31
 levels-few s r x e = levels.resolve-levels (judgeSheet s) s r x e
+
+-- In a clean sheet a full name is found exactly if it is declared, and then it is that declaration.
+module _ (s : List ℕ) (c : CleanSheet s) where
+  pub clean-message-found : (t : List ℕ) (x : Scope) → Among (named t (message x)) (everyDeclared s) → messagesAt s (components t) ≡ x ∷ []
+  clean-message-found = finds.message-found s (c .fine) (cleanly.clean-name s (c .clear))
+
+  pub clean-enum-found : (t : List ℕ) (e : Enumeration) → Among (named t (enumeration e)) (everyDeclared s)
+      → enumsAt s (components t) ≡ e ∷ []
+  clean-enum-found = finds.enum-found s (c .fine) (cleanly.clean-name s (c .clear))
+
+  pub clean-extension-found : (t : List ℕ) (d : Declaration) → Among (named t (extension d)) (everyDeclared s)
+      → (f : FoundExtension) × (foundAt s (components t) ≡ some f) × (f .declaration ≡ d)
+  clean-extension-found = finds.extension-found s (c .fine) (cleanly.clean-name s (c .clear))
+
+  -- It declares each number once for a message.
+  pub clean-once : Once (walking s) s
+  clean-once = evolves.clean-once s (c .fine) (c .clear)
+
+-- What is found is declared, in any sheet.
+module _ (s t : List ℕ) (p : allIdent (components t) ≡ true) where
+  pub found-message-declared : (x : Scope) → Among x (messagesAt s (components t)) → Among (named t (message x)) (everyDeclared s)
+  found-message-declared = finds.message-declared s t p
+
+  pub found-enum-declared : (e : Enumeration) → Among e (enumsAt s (components t)) → Among (named t (enumeration e)) (everyDeclared s)
+  found-enum-declared = finds.enum-declared s t p
+
+  pub found-extension-declared : (f : FoundExtension) → foundAt s (components t) ≡ some f
+      → Among (named t (extension (f .declaration))) (everyDeclared s)
+  found-extension-declared = finds.extension-declared s t p
+
+-- Of the calls' own contracts: where `clean` and `contained` said yes, and `resolve` wrote n bytes under the newer sheet, `list` of these
+-- bytes under the older one, with room enough, answers 0 and leaves the rows that the demand speaks of.
+module _ (older newer r : List ℕ) (octets : Bytes newer) (octets′ : Bytes r) (clear : cleanAnswer older ≡ decided true)
+    (clear′ : cleanAnswer newer ≡ decided true) (inside : containedAnswer older newer ≡ decided true)
+    (known : declares older (optionsType r) ≡ true) where
+  pub calls-read : (before after : List ℕ) (a : Answer) → Answered (resolveBytes newer r) before after a → (n : ℕ) → a ≡ doneWith n
+      → (room left : List ℕ) (b : Answer) → Answered (listing older (optionsType r) (take n after)) room left b
+      → OldReads older newer r (take n after) room left b
+  calls-read = demand.old-reads older newer r octets octets′ clear clear′ inside known
+
+-- ======== The three demands
+-- 1. Every sheet, request or byte string gets an answer from 01's table. A refusal writes nothing to lent memory; NoRoom comes only when all
+-- else has passed. (Of every call, o being what it comes to.)
+pub demand-1 : {A : Type 0} (o : Outcome A) (before after : List A) (a : Answer) → Answered o before after a → FromTable o before after a
+demand-1 o before after a = demands.from-table before after a o
+
+-- 2. Lookup, bytes and the listing are those of the protobuf encoding document and of 01's search rule. An extension part that is reached
+-- gets ExtensionNotFound exactly when none of 01's scopes at its candidate paths declares that name. (That the code is these definitions is
+-- the contract of each call; that they equal the crate's is compared, and stands in docs/.)
+pub demand-2 : (s : List ℕ) → ByRule s
+demand-2 = demands.by-rule
+
+-- 3. Take two clean sheets, the older contained in the newer and declaring the options type. Bytes written for a request under the newer,
+-- listed under the older into enough room, are never refused. The list is the newer's typed records in order, as 01's steps make them from
+-- the request, save that each number the older doesn't declare at that message is marked unknown and what lies inside it is left out. Every
+-- other record keeps type, number and value.
+pub demand-3 : (older newer r : List ℕ) → Bytes newer → Bytes r → CleanSheet older → CleanSheet newer → contained older newer ≡ true
+    → declares older (optionsType r) ≡ true → (x : Recs) → resolving newer r ≡ records x → ListedUnder older (optionsType r) x
+demand-3 = demand.listed-under

@@ -1,2 +1,4 @@
 pub mod Levels
 pub mod Back
+pub mod Evolve
+pub mod Demands

@@ -8,13 +8,48 @@ use Rattle.evolution.proofs.flaws.names_one.Tie as tie
 
 pub names-one-spec : {M : Type 1} → statement M
 names-one-spec = tie.close (tie.spec
-    (λ c. search (needs, names-one-is, path-named-laws, number-flaw-laws, extension-flaw-laws, number-loss-laws,
-      enum-loss-laws))
-    (λ c. search (needs, names-one-is, path-named-laws, number-flaw-laws, extension-flaw-laws, number-loss-laws,
-      enum-loss-laws))
-    (λ c. search (needs, names-one-is, path-named-laws, number-flaw-laws, extension-flaw-laws, number-loss-laws,
-      enum-loss-laws))
-    (λ c κs. search (needs, names-one-is, path-named-laws, number-flaw-laws, extension-flaw-laws, number-loss-laws,
-      enum-loss-laws))
-    (λ c. search (needs, names-one-is, path-named-laws, number-flaw-laws, extension-flaw-laws, number-loss-laws,
-      enum-loss-laws)))
+    (λ c. search (
+      needs,
+      names-one-is,
+      path-named-laws,
+      number-flaw-laws,
+      extension-flaw-laws,
+      number-loss-laws,
+      enum-loss-laws,
+    ))
+    (λ c. search (
+      needs,
+      names-one-is,
+      path-named-laws,
+      number-flaw-laws,
+      extension-flaw-laws,
+      number-loss-laws,
+      enum-loss-laws,
+    ))
+    (λ c. search (
+      needs,
+      names-one-is,
+      path-named-laws,
+      number-flaw-laws,
+      extension-flaw-laws,
+      number-loss-laws,
+      enum-loss-laws,
+    ))
+    (λ c κs. search (
+      needs,
+      names-one-is,
+      path-named-laws,
+      number-flaw-laws,
+      extension-flaw-laws,
+      number-loss-laws,
+      enum-loss-laws,
+    ))
+    (λ c. search (
+      needs,
+      names-one-is,
+      path-named-laws,
+      number-flaw-laws,
+      extension-flaw-laws,
+      number-loss-laws,
+      enum-loss-laws,
+    )))

@@ -8,17 +8,66 @@ use Rattle.evolution.proofs.flaws.path_named.Tie as tie
 
 pub path-named-spec : {M : Type 1} → statement M
 path-named-spec = tie.close (tie.spec
-    (λ c. search (needs, names-one-is, path-named-laws, number-flaw-laws, extension-flaw-laws, number-loss-laws,
-      enum-loss-laws))
-    (λ c κs. search (needs, names-one-is, path-named-laws, number-flaw-laws, extension-flaw-laws, number-loss-laws,
-      enum-loss-laws))
-    (λ c. search (needs, names-one-is, path-named-laws, number-flaw-laws, extension-flaw-laws, number-loss-laws,
-      enum-loss-laws))
-    (λ c κs. search (needs, names-one-is, path-named-laws, number-flaw-laws, extension-flaw-laws, number-loss-laws,
-      enum-loss-laws))
-    (λ c. search (needs, names-one-is, path-named-laws, number-flaw-laws, extension-flaw-laws, number-loss-laws,
-      enum-loss-laws))
-    (λ c κs. search (needs, names-one-is, path-named-laws, number-flaw-laws, extension-flaw-laws, number-loss-laws,
-      enum-loss-laws))
-    (λ c. search (needs, names-one-is, path-named-laws, number-flaw-laws, extension-flaw-laws, number-loss-laws,
-      enum-loss-laws)))
+    (λ c. search (
+      needs,
+      names-one-is,
+      path-named-laws,
+      number-flaw-laws,
+      extension-flaw-laws,
+      number-loss-laws,
+      enum-loss-laws,
+    ))
+    (λ c κs. search (
+      needs,
+      names-one-is,
+      path-named-laws,
+      number-flaw-laws,
+      extension-flaw-laws,
+      number-loss-laws,
+      enum-loss-laws,
+    ))
+    (λ c. search (
+      needs,
+      names-one-is,
+      path-named-laws,
+      number-flaw-laws,
+      extension-flaw-laws,
+      number-loss-laws,
+      enum-loss-laws,
+    ))
+    (λ c κs. search (
+      needs,
+      names-one-is,
+      path-named-laws,
+      number-flaw-laws,
+      extension-flaw-laws,
+      number-loss-laws,
+      enum-loss-laws,
+    ))
+    (λ c. search (
+      needs,
+      names-one-is,
+      path-named-laws,
+      number-flaw-laws,
+      extension-flaw-laws,
+      number-loss-laws,
+      enum-loss-laws,
+    ))
+    (λ c κs. search (
+      needs,
+      names-one-is,
+      path-named-laws,
+      number-flaw-laws,
+      extension-flaw-laws,
+      number-loss-laws,
+      enum-loss-laws,
+    ))
+    (λ c. search (
+      needs,
+      names-one-is,
+      path-named-laws,
+      number-flaw-laws,
+      extension-flaw-laws,
+      number-loss-laws,
+      enum-loss-laws,
+    )))

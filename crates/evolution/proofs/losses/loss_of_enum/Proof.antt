@@ -8,9 +8,30 @@ use Rattle.evolution.proofs.losses.loss_of_enum.Tie as tie
 
 pub loss-of-enum-spec : {M : Type 1} → statement M
 loss-of-enum-spec = tie.close (tie.spec
-    (λ c κs. search (needs, names-one-is, path-named-laws, number-flaw-laws, extension-flaw-laws, number-loss-laws,
-      enum-loss-laws))
-    (λ c. search (needs, names-one-is, path-named-laws, number-flaw-laws, extension-flaw-laws, number-loss-laws,
-      enum-loss-laws))
-    (λ c. search (needs, names-one-is, path-named-laws, number-flaw-laws, extension-flaw-laws, number-loss-laws,
-      enum-loss-laws)))
+    (λ c κs. search (
+      needs,
+      names-one-is,
+      path-named-laws,
+      number-flaw-laws,
+      extension-flaw-laws,
+      number-loss-laws,
+      enum-loss-laws,
+    ))
+    (λ c. search (
+      needs,
+      names-one-is,
+      path-named-laws,
+      number-flaw-laws,
+      extension-flaw-laws,
+      number-loss-laws,
+      enum-loss-laws,
+    ))
+    (λ c. search (
+      needs,
+      names-one-is,
+      path-named-laws,
+      number-flaw-laws,
+      extension-flaw-laws,
+      number-loss-laws,
+      enum-loss-laws,
+    )))
