@@ -1,7 +1,8 @@
 -- The laws of the calls: no reason is found exactly where a sheet is clean, or contained in another; and what a call answers of that.
 -- Assumes nothing.
-use Rattle.basis.specs.Kit.{_≡_, refl, sym, ap, _∙_, Bool, true, false, _&&_, List, ℕ, _≤_, length}
+use Rattle.basis.specs.Kit.{_≡_, refl, sym, ap, _∙_, Bool, true, false, _&&_, List, ℕ, _≤_, _<_, length}
 use Rattle.basis.specs.Count.{once, every}
+use Rattle.basis.proofs.Kit.{lt-ltb, le-ltb}
 use Rattle.field.specs.Leaf.{text, isText}
 use Rattle.limits.specs.Figures.{mostSheet}
 use Rattle.reply.specs.declared.Refusal.{Refusal}
@@ -19,10 +20,11 @@ use Rattle.names.specs.Clean.{cleanName, membersOf, namedOnce, sameNumber, clea
 use Rattle.names.specs.Contained.{keptName, keptNumber, keptAt, contained}
 use Rattle.reasons.specs.declared.Why.the-variants as why
 use Rattle.reasons.specs.declared.Reason.{Reason}
+use Rattle.reasons.specs.declared.Reason.the-variants.{Yes}
 use Rattle.reasons.specs.Reasons.{holds, also, orNo, reasons, memberFlaws, memberWhy, extendeeOf, pathFlaw, numberFlaw, flawOf, cleanReason}
 use Rattle.reasons.specs.Reasons.{numberLoss, lossOf, lossWhy, containedReason}
 use Rattle.reasons.proofs.ReasonLaws.{holds-or-no, holds-also, holds-reasons, holds-reasons-from}
-use Rattle.evolution.specs.Calls.{cleanAnswer, containedAnswer}
+use Rattle.evolution.specs.Calls.{cleanAnswer, containedAnswer, whyUnclean, whyUncontained}
 
 -- ---- clean
 and-assoc : (a b c : Bool) → (a && (b && c)) ≡ ((a && b) && c)
@@ -62,19 +64,48 @@ module _ (s t : List ℕ) where
   unfolding contained
   contained-holds = holds-reasons-from (lossOf s t) (keptAt s t) loss-holds 0 (everyDeclared s)
 
+-- ---- the reasons
+module _ (s : List ℕ) where
+  pub unclean-long : mostSheet < length s → Yes ≡ whyUnclean s
+  unfolding whyUnclean
+  unclean-long h = rw (lt-ltb mostSheet (length s) h) refl
+
+  unclean-is : length s ≤ mostSheet → whyUnclean s ≡ cleanReason s
+  unfolding whyUnclean
+  unclean-is h = rw (le-ltb mostSheet (length s) h) refl
+
+  pub unclean-short : length s ≤ mostSheet → (r : Reason) → r ≡ cleanReason s → r ≡ whyUnclean s
+  unclean-short h r p = p ∙ sym (unclean-is h)
+
+pub ruleset unclean-laws = (unclean-long, unclean-short)
+
+module _ (s t : List ℕ) where
+  pub uncontained-long : mostSheet < length s → Yes ≡ whyUncontained s t
+  unfolding whyUncontained
+  uncontained-long h = rw (lt-ltb mostSheet (length s) h) refl
+
+  uncontained-is : length s ≤ mostSheet → whyUncontained s t ≡ containedReason s t
+  unfolding whyUncontained
+  uncontained-is h = rw (le-ltb mostSheet (length s) h) refl
+
+  pub uncontained-short : length s ≤ mostSheet → (r : Reason) → r ≡ containedReason s t → r ≡ whyUncontained s t
+  uncontained-short h r p = p ∙ sym (uncontained-is h)
+
+pub ruleset uncontained-laws = (uncontained-long, uncontained-short)
+
 -- ---- the calls
 module _ (s : List ℕ) (v : Verdict) (q : Says (judgeSheet s) v) where
   pub clean-refused : (w : Refusal) → v ≡ Refused w → (a : Answer) → a ≡ refusedBy w → a ≡ cleanAnswer s
   clean-refused w g a u = u ∙ rw (sym (q .is) ∙ g) refl
 
-  pub sheet-short : v ≡ Fine → length s ≤ mostSheet
-  sheet-short g = fine-length s (sheet-length s (sym (q .is) ∙ g))
+  short : v ≡ Fine → length s ≤ mostSheet
+  short g = fine-length s (sheet-length s (sym (q .is) ∙ g))
 
-  pub clean-asked : v ≡ Fine → (r : Reason) → r ≡ cleanReason s → (b : Bool) → b ≡ holds r → (a : Answer) → a ≡ decided b
+  pub clean-asked : v ≡ Fine → (r : Reason) → r ≡ whyUnclean s → (b : Bool) → b ≡ holds r → (a : Answer) → a ≡ decided b
       → a ≡ cleanAnswer s
-  clean-asked g r p b h a u = u ∙ rw (sym (q .is) ∙ g) (ap decided (h ∙ ap holds p ∙ clean-holds s))
+  clean-asked g r p b h a u = u ∙ rw (sym (q .is) ∙ g) (ap decided (h ∙ ap holds (p ∙ unclean-is s (short g)) ∙ clean-holds s))
 
-pub ruleset clean-laws = (clean-refused, sheet-short, clean-asked)
+pub ruleset clean-laws = (clean-refused, clean-asked)
 
 module _ (s t : List ℕ) (v : Verdict) (q : Says (judgeSheet s) v) where
   pub older-refused : (w : Refusal) → v ≡ Refused w → (a : Answer) → a ≡ refusedBy w → a ≡ containedAnswer s t
@@ -84,9 +115,9 @@ module _ (s t : List ℕ) (v : Verdict) (q : Says (judgeSheet s) v) where
     pub newer-refused : (w : Refusal) → v′ ≡ Refused w → (a : Answer) → a ≡ refusedBy w → a ≡ containedAnswer s t
     newer-refused w g′ a u = u ∙ rw (sym (q .is) ∙ g, sym (q′ .is) ∙ g′) refl
 
-    pub contained-asked : v′ ≡ Fine → (r : Reason) → r ≡ containedReason s t → (b : Bool) → b ≡ holds r → (a : Answer) → a ≡ decided b
+    pub contained-asked : v′ ≡ Fine → (r : Reason) → r ≡ whyUncontained s t → (b : Bool) → b ≡ holds r → (a : Answer) → a ≡ decided b
         → a ≡ containedAnswer s t
     contained-asked g′ r p b h a u =
-        u ∙ rw (sym (q .is) ∙ g, sym (q′ .is) ∙ g′) (ap decided (h ∙ ap holds p ∙ contained-holds s t))
+        u ∙ rw (sym (q .is) ∙ g, sym (q′ .is) ∙ g′) (ap decided (h ∙ ap holds (p ∙ uncontained-is s t (short s v q g)) ∙ contained-holds s t))
 
-pub ruleset contained-laws = (older-refused, sheet-short, newer-refused, contained-asked)
+pub ruleset contained-laws = (older-refused, newer-refused, contained-asked)

@@ -4,7 +4,7 @@ mod losses;
 
 ghost use Rattle.basis.specs.Kit.{_≡_, _≤_, length};
 ghost use Rattle.limits.specs.Figures.{mostSheet};
-ghost use Rattle.evolution.specs.Calls.{cleanAnswer, containedAnswer};
+ghost use Rattle.evolution.specs.Calls.{cleanAnswer, containedAnswer, whyUnclean, whyUncontained};
 ghost use Rattle.reasons.specs.Reasons.{cleanReason, containedReason};
 use limits::MOST_SHEET;
 use reasons::Reason;
@@ -13,8 +13,8 @@ use reply::Answer;
 use reply::Verdict;
 use sheetform::check_sheet;
 
-// Why a sheet that was tested is not clean.
-pub fn why_unclean(sheet: &[u8]) -> Reason
+// The first flaw of a sheet that is short enough.
+fn flaw_in_room(sheet: &[u8]) -> Reason
     requires { ⌜ length (now sheet) ≤ mostSheet ⌝ }
     ensures { λ r. ⌜ r ≡ cleanReason (now (sheet .entry)) ⌝ }
 {
@@ -22,13 +22,33 @@ pub fn why_unclean(sheet: &[u8]) -> Reason
     flaws::first_flaw(sheet, &mut room)
 }
 
-// Why a sheet that was tested is not contained in another one.
-pub fn why_uncontained(older: &[u8], newer: &[u8]) -> Reason
+// The first loss, likewise.
+fn loss_in_room(older: &[u8], newer: &[u8]) -> Reason
     requires { ⌜ length (now older) ≤ mostSheet ⌝ }
     ensures { λ r. ⌜ r ≡ containedReason (now (older .entry)) (now (newer .entry)) ⌝ }
 {
     let mut room = [0u8; MOST_SHEET];
     losses::first_loss(older, newer, &mut room)
+}
+
+// Why a sheet is not clean. Of one that is too long there is nothing to say: `clean` refuses it.
+pub fn why_unclean(sheet: &[u8]) -> Reason
+    ensures { λ r. ⌜ r ≡ whyUnclean (now (sheet .entry)) ⌝ }
+{
+    if MOST_SHEET < sheet.len() {
+        return Reason::Yes;
+    }
+    flaw_in_room(sheet)
+}
+
+// Why the older sheet is not contained in the newer one, likewise.
+pub fn why_uncontained(older: &[u8], newer: &[u8]) -> Reason
+    ensures { λ r. ⌜ r ≡ whyUncontained (now (older .entry)) (now (newer .entry)) ⌝ }
+{
+    if MOST_SHEET < older.len() {
+        return Reason::Yes;
+    }
+    loss_in_room(older, newer)
 }
 
 // Whether the sheet is clean.
