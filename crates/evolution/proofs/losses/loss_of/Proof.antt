@@ -1,20 +1,18 @@
 -- `evolution::losses::loss_of` meets its contract.
 -- Assumes nothing.
-use Rattle.evolution.proofs.FlawLaws.{also-laws, flaw-of-laws}
-use Rattle.evolution.proofs.LossLaws.{message-loss-laws, loss-of-laws}
-use Rattle.evolution.proofs.RosterLaws.{first-flaw-laws, first-loss-laws}
+use Rattle.evolution.proofs.LossLaws.{loss-of-laws}
 use Rattle.basis.proofs.Kit.{needs}
 use Rattle.evolution.proofs.losses.loss_of.Statement.{statement}
 use Rattle.evolution.proofs.losses.loss_of.Tie as tie
 
 pub loss-of-spec : {M : Type 1} → statement M
 loss-of-spec = tie.close (tie.spec
-    (λ c. search (needs, also-laws, flaw-of-laws, message-loss-laws, loss-of-laws, first-flaw-laws, first-loss-laws))
-    (λ c κs. search (needs, also-laws, flaw-of-laws, message-loss-laws, loss-of-laws, first-flaw-laws, first-loss-laws))
-    (λ c. search (needs, also-laws, flaw-of-laws, message-loss-laws, loss-of-laws, first-flaw-laws, first-loss-laws))
-    (λ c κs. search (needs, also-laws, flaw-of-laws, message-loss-laws, loss-of-laws, first-flaw-laws, first-loss-laws))
-    (λ c. search (needs, also-laws, flaw-of-laws, message-loss-laws, loss-of-laws, first-flaw-laws, first-loss-laws))
-    (λ c κs. search (needs, also-laws, flaw-of-laws, message-loss-laws, loss-of-laws, first-flaw-laws, first-loss-laws))
-    (λ c. search (needs, also-laws, flaw-of-laws, message-loss-laws, loss-of-laws, first-flaw-laws, first-loss-laws))
-    (λ c. search (needs, also-laws, flaw-of-laws, message-loss-laws, loss-of-laws, first-flaw-laws, first-loss-laws))
-    (λ c. search (needs, also-laws, flaw-of-laws, message-loss-laws, loss-of-laws, first-flaw-laws, first-loss-laws)))
+    (λ c. search (needs, loss-of-laws))
+    (λ c κs. search (needs, loss-of-laws))
+    (λ c. search (needs, loss-of-laws))
+    (λ c κs. search (needs, loss-of-laws))
+    (λ c. search (needs, loss-of-laws))
+    (λ c κs. search (needs, loss-of-laws))
+    (λ c. search (needs, loss-of-laws))
+    (λ c. search (needs, loss-of-laws))
+    (λ c. search (needs, loss-of-laws)))

@@ -1,7 +1,6 @@
 -- `reasons::members::flaw_of_members` meets its contract, by its loop's invariant and laws.
 -- Assumes nothing.
-use Rattle.reasons.proofs.ReasonLaws.{or-no-laws}
-use Rattle.reasons.proofs.MemberLaws.{member-flaw-laws, member-flaws-laws}
+use Rattle.reasons.proofs.MemberLaws.{member-flaws-laws}
 use Rattle.basis.specs.Kit.{_-_}
 use Rattle.basis.proofs.Kit.{needs}
 use Rattle.field.specs.Walk.{walk}
@@ -22,15 +21,15 @@ abbrev μ-loop : tie.MeasureT-loop
 
 pub flaw-of-members-spec : {M : Type 1} → statement M
 flaw-of-members-spec = tie.close (tie.spec Inv-loop μ-loop
-    (λ c. search (needs, or-no-laws, member-flaw-laws, member-flaws-laws))
-    (λ c κs. search (needs, or-no-laws, member-flaw-laws, member-flaws-laws))
-    (λ c. search (needs, or-no-laws, member-flaw-laws, member-flaws-laws))
-    (λ c. search (needs, or-no-laws, member-flaw-laws, member-flaws-laws))
-    (λ c. search (needs, or-no-laws, member-flaw-laws, member-flaws-laws))
-    (λ c κs. search (needs, or-no-laws, member-flaw-laws, member-flaws-laws))
-    (λ c. search (needs, or-no-laws, member-flaw-laws, member-flaws-laws))
-    (λ c. search (needs, or-no-laws, member-flaw-laws, member-flaws-laws))
-    (λ c. search (needs, or-no-laws, member-flaw-laws, member-flaws-laws))
-    (λ c. search (needs, or-no-laws, member-flaw-laws, member-flaws-laws))
-    (λ c. search (needs, or-no-laws, member-flaw-laws, member-flaws-laws))
-    (λ c. search (needs, or-no-laws, member-flaw-laws, member-flaws-laws)))
+    (λ c. search (needs, member-flaws-laws))
+    (λ c κs. search (needs, member-flaws-laws))
+    (λ c. search (needs, member-flaws-laws))
+    (λ c. search (needs, member-flaws-laws))
+    (λ c. search (needs, member-flaws-laws))
+    (λ c κs. search (needs, member-flaws-laws))
+    (λ c. search (needs, member-flaws-laws))
+    (λ c. search (needs, member-flaws-laws))
+    (λ c. search (needs, member-flaws-laws))
+    (λ c. search (needs, member-flaws-laws))
+    (λ c. search (needs, member-flaws-laws))
+    (λ c. search (needs, member-flaws-laws)))
