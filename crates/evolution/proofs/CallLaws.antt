@@ -6,23 +6,22 @@ use Rattle.basis.proofs.Kit.{lt-ltb, le-ltb}
 use Rattle.field.specs.Leaf.{text, isText}
 use Rattle.limits.specs.Figures.{mostSheet}
 use Rattle.reply.specs.declared.Refusal.{Refusal}
-use Rattle.reply.specs.declared.Refusal.the-variants.{BeyondLimit}
 use Rattle.reply.specs.declared.Verdict.{Verdict}
 use Rattle.reply.specs.declared.Verdict.the-variants.{Fine, Refused}
 use Rattle.reply.specs.declared.Answer.{Answer}
 use Rattle.reply.specs.Reply.{refusedBy, decided}
-use Rattle.reply.specs.Verdicts.{firstFault, asked, Says}
+use Rattle.reply.specs.Verdicts.{Says}
 use Rattle.sheetform.specs.Form.{judgeSheet}
 use Rattle.sheetform.proofs.SheetLaws.{fine-length, sheet-length}
 use Rattle.names.specs.Names.{Named, everyDeclared}
-use Rattle.names.specs.Numbers.{Number, numbersOf, everyNumber}
-use Rattle.names.specs.Clean.{cleanName, membersOf, namedOnce, sameNumber, cleanPath, cleanExtendee, cleanNumber, cleanAt, clean}
-use Rattle.names.specs.Contained.{keptName, keptNumber, keptAt, contained}
+use Rattle.names.specs.Numbers.{Number, numbersOf}
+use Rattle.names.specs.Clean.{cleanName, membersOf, namedOnce, cleanExtendee, cleanNumber, cleanAt, clean}
+use Rattle.names.specs.Contained.{keptNumber, keptAt, contained}
 use Rattle.reasons.specs.declared.Why.the-variants as why
 use Rattle.reasons.specs.declared.Reason.{Reason}
 use Rattle.reasons.specs.declared.Reason.the-variants.{Yes}
-use Rattle.reasons.specs.Reasons.{holds, also, orNo, reasons, memberFlaws, memberWhy, extendeeOf, pathFlaw, numberFlaw, flawOf, cleanReason}
-use Rattle.reasons.specs.Reasons.{numberLoss, lossOf, lossWhy, containedReason}
+use Rattle.reasons.specs.Reasons.{holds, orNo, memberFlaws, memberWhy, numberFlaw, flawOf, cleanReason}
+use Rattle.reasons.specs.Reasons.{numberLoss, lossOf, containedReason}
 use Rattle.reasons.proofs.ReasonLaws.{holds-or-no, holds-also, holds-reasons, holds-reasons-from}
 use Rattle.evolution.specs.Calls.{cleanAnswer, containedAnswer, whyUnclean, whyUncontained}
 

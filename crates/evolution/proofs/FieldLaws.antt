@@ -1,7 +1,6 @@
 -- The laws of a loop over the fields of a message that looks for the first reason, whatever that is of a declaration.
 -- Assumes nothing.
-use Rattle.basis.specs.Kit.{_≡_, refl, sym, ap, _∙_, Bool, true, false, List, [], _∷_, _++_, map, ℕ, eqb}
-use Rattle.basis.specs.First.{onlyIf}
+use Rattle.basis.specs.Kit.{_≡_, refl, sym, ap, _∙_, true, false, List, _++_, ℕ, eqb}
 use Rattle.field.specs.declared.Span.{Span}
 use Rattle.field.specs.Walk.{Walk, done, cut, step, walk}
 use Rattle.field.proofs.Seek.{seek, seek-is, seek-laws}

@@ -1,8 +1,7 @@
 -- The laws of flaws: the ways through the functions that look at one declaration, and that what they look at is what the sheet declares.
 -- Assumes nothing.
-use Rattle.basis.specs.Kit.{_≡_, refl, sym, ap, _∙_, Bool, true, false, List, [], _∷_, map, ℕ, eqb, length}
-use Rattle.basis.specs.First.{onlyIf}
-use Rattle.basis.specs.Count.{count, once}
+use Rattle.basis.specs.Kit.{_≡_, refl, sym, ap, _∙_, Bool, true, false, List, [], _∷_, map, ℕ, eqb}
+use Rattle.basis.specs.Count.{once}
 use Rattle.basis.proofs.Kit.{eq-eqb, ne-eqb, not-true, not-false}
 use mathlib.Core.Path.{ap₂}
 use Rattle.field.specs.declared.Span.{Span}
@@ -12,13 +11,13 @@ use Rattle.types.specs.Types.{TYPE_ENUM}
 use Rattle.sheet.specs.declared.declaration.Declaration.{Declaration}
 use Rattle.sheet.specs.Declaration.{hasTypePath}
 use Rattle.sheet.specs.declared.declaration.Value.{Value}
-use Rattle.sheet.specs.Table.{messageTag, enumTag, fieldTag, valueTag}
+use Rattle.sheet.specs.Table.{messageTag, enumTag, fieldTag}
 use Rattle.sheet.specs.Tree.{itemsIn}
 use Rattle.sheet.specs.Members.{fieldsOf}
 use Rattle.scope.specs.Scope.{Scope}
-use Rattle.names.specs.Names.{What, message, enumeration, extension, Named, anyKind, everyDeclared}
-use Rattle.names.specs.Numbers.{Number, numbersOf, everyNumber}
-use Rattle.names.specs.Clean.{namesOne, cleanPath, sameNumber, cleanExtendee, membersOf}
+use Rattle.names.specs.Names.{What, message, enumeration, extension, anyKind, everyDeclared}
+use Rattle.names.specs.Numbers.{Number, everyNumber}
+use Rattle.names.specs.Clean.{namesOne, cleanPath, sameNumber}
 use Rattle.names.proofs.StandsLaws.{Stands}
 use Rattle.bearers.specs.inner.Bearing.{bearing}
 use Rattle.numbered.specs.inner.Likes.{isLike, numbered}
@@ -26,7 +25,7 @@ use Rattle.reasons.specs.declared.Why.{Why}
 use Rattle.reasons.specs.declared.Why.the-variants as why
 use Rattle.reasons.specs.declared.Reason.{Reason}
 use Rattle.reasons.specs.declared.Reason.the-variants.{Yes, No}
-use Rattle.reasons.specs.Reasons.{also, orNo, reasons, memberFlaws, memberWhy, extendeeOf, pathFlaw, numberFlaw, flawOf}
+use Rattle.reasons.specs.Reasons.{also, orNo, reasons, memberFlaws, numberFlaw, flawOf}
 use Rattle.reasons.specs.inner.Members.{membersIn}
 use Rattle.reasons.proofs.MemberLaws.{members-fields, members-values}
 use Rattle.roster.specs.declared.Bearer.{Bearer}
@@ -34,7 +33,7 @@ use Rattle.roster.specs.declared.Bearer.the-variants.{Message, Enum, Extension}
 use Rattle.roster.specs.inner.Nth.{shown}
 use Rattle.evolution.specs.inner.Bearers.{numberFor, fieldsAt, messageFlaw, enumFlaw, extensionFlaw, restFlaw, bearerFlaw}
 use Rattle.evolution.proofs.LiesLaws.{declared-lies-laws, field-lies, bearer-lies-laws}
-use Rattle.evolution.proofs.FieldLaws.{declared-laws, fields-laws, fields-any}
+use Rattle.evolution.proofs.FieldLaws.{declared-laws, fields-any}
 
 -- ---- names_one
 pub names-one-is : (s t : List ℕ) (k n : ℕ) → n ≡ bearing k t (everyDeclared s) → eqb n 1 ≡ namesOne s k t

@@ -1,6 +1,6 @@
 -- Where that lies which a declaration is made of: what is asked of the spans that are read.
 -- Assumes nothing.
-use Rattle.basis.specs.Kit.{_≡_, sym, List, ℕ, _≤_, length}
+use Rattle.basis.specs.Kit.{_≡_, List, ℕ, _≤_, length}
 use Rattle.basis.proofs.Never.{never}
 use Rattle.field.specs.declared.Span.{Span}
 use Rattle.field.specs.Leaf.{Lies}

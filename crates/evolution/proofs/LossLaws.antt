@@ -1,11 +1,9 @@
 -- The laws of losses: the ways through the functions that look at one declaration of the older sheet, and that what they look at is what
 -- that declares. The older is s, the newer t.
 -- Assumes nothing.
-use Rattle.basis.specs.Kit.{_≡_, refl, sym, ap, _∙_, Bool, true, false, _&&_, List, [], _∷_, map, ℕ, eqb}
+use Rattle.basis.specs.Kit.{_≡_, refl, sym, ap, _∙_, Bool, true, false, _&&_, List, ℕ}
 use Rattle.basis.specs.Count.{count, any}
-use Rattle.basis.proofs.Kit.{eq-eqb, ne-eqb}
 use Rattle.basis.proofs.CountLaws.{any-count, none-count}
-use borrow.Author.Tests.{eqb-true, eqb-false}
 use Rattle.octets.specs.Octets.{sameBytes}
 use Rattle.field.specs.declared.Span.{Span}
 use Rattle.field.specs.Leaf.{span, text}
@@ -13,11 +11,10 @@ use Rattle.sheet.specs.declared.declaration.Declaration.{Declaration}
 use Rattle.sheet.specs.Table.{messageTag, enumTag}
 use Rattle.names.specs.Names.{What, message, enumeration, extension, everyDeclared, ofKind, bears}
 use Rattle.names.specs.Numbers.{Number, everyNumber}
-use Rattle.names.specs.Contained.{alike, isIn, keptNumber}
+use Rattle.names.specs.Contained.{alike, isIn}
 use Rattle.names.proofs.StandsLaws.{Stands}
 use Rattle.bearers.specs.inner.Bearing.{bearing}
 use Rattle.numbered.specs.inner.Likes.{isLike, numbered}
-use Rattle.reasons.specs.declared.Why.{Why}
 use Rattle.reasons.specs.declared.Why.the-variants as why
 use Rattle.reasons.specs.declared.Reason.{Reason}
 use Rattle.reasons.specs.declared.Reason.the-variants.{Yes, No}
@@ -27,7 +24,7 @@ use Rattle.roster.specs.declared.Bearer.the-variants.{Message, Enum, Extension}
 use Rattle.roster.specs.inner.Nth.{shown}
 use Rattle.evolution.specs.inner.Bearers.{numberFor, fieldsAt, messageLoss, enumLoss, bearerLoss}
 use Rattle.evolution.proofs.LiesLaws.{declared-lies-laws, field-lies, bearer-lies-laws}
-use Rattle.evolution.proofs.FieldLaws.{declared-laws, fields-laws}
+use Rattle.evolution.proofs.FieldLaws.{declared-laws}
 use Rattle.evolution.proofs.FlawLaws.{also-yes, numbers-stand}
 
 -- ---- a count that is 0, or not

@@ -10,7 +10,7 @@ use lib.ListN.{length-take}
 use Rattle.basis.proofs.Never.{never}
 use Rattle.basis.proofs.FirstLaws.{Every, none-of, one-of}
 use Rattle.field.specs.declared.Span.{Span}
-use Rattle.names.specs.Names.{What, Named, everyDeclared}
+use Rattle.names.specs.Names.{Named, everyDeclared}
 use Rattle.names.proofs.StandsLaws.{Stands, all-stand}
 use Rattle.names.proofs.FewLaws.{declared-few}
 use Rattle.reasons.specs.declared.Why.{Why}

@@ -1,8 +1,8 @@
 -- The calls `clean` and `contained`: "The tests refuse a malformed sheet (1, 3; the older first) and answer yes or no otherwise." And the
 -- first reason why not, of sheets that are short enough.
 --
---           cleanAnswer s == what `clean` answers
---     containedAnswer s t == what `contained` answers of an older sheet s and a newer one t
+--                cleanAnswer s == what `clean` answers
+--          containedAnswer s t == what `contained` answers of an older sheet s and a newer one t
 --   whyUnclean, whyUncontained == the first reason against it
 --
 -- Assumes nothing.

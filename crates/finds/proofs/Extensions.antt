@@ -1,7 +1,7 @@
 -- The extensions of a sheet are those that it declares, in the same order.
 --
---      extensionIn w ==  the extension that w is, where it is one
---   extensionBorne b ==  the extension that bears the full name, where it is one
+--      extensionIn w == the extension that w is, where it is one
+--   extensionBorne b == the extension that bears the full name, where it is one
 --
 -- Assumes nothing.
 use Rattle.basis.specs.Kit.{_≡_, refl, sym, ap, _∙_, List, [], _∷_, _++_, Option, none, some, ℕ, _+_}

@@ -1,8 +1,8 @@
 -- What a sheet declares, file by file.
 --
---         filed s k f ==  what the file f declares, as the k-th
---       Filed s k f b <-> b is among that
---     Stands s i fs b <-> b is among what one of the files fs declares, the first of which is the i-th
+--       filed s k f ==  what the file f declares, as the k-th
+--     Filed s k f b <-> b is among that
+--   Stands s i fs b <-> b is among what one of the files fs declares, the first of which is the i-th
 --
 -- Assumes nothing.
 use Rattle.basis.specs.Kit.{_≡_, refl, ap, Bool, true, List, [], _∷_, some, ℕ, zero, suc, _+_, _≤_}

@@ -1,10 +1,10 @@
 -- What a scope declares itself, and what the messages declare that names lead to: all of it is among what the scope declares at every
 -- depth.
 --
---           named t w ==  w, with the full name t
---       Holds s c n w <-> the scope c itself declares w under the name n
---      Reach s ns c d <-> the names ns lead from the scope c by messages to the scope d, each any one of its name
---       Under s f c b <-> b is among what the scope c declares at every depth, f standing before the full names
+--        named t w ==  w, with the full name t
+--    Holds s c n w <-> the scope c itself declares w under the name n
+--   Reach s ns c d <-> the names ns lead from the scope c by messages to the scope d, each any one of its name
+--    Under s f c b <-> b is among what the scope c declares at every depth, f standing before the full names
 --
 -- Assumes nothing.
 use Rattle.basis.specs.Kit.{_≡_, List, [], _∷_, _++_, ℕ}

@@ -1,6 +1,6 @@
 -- Full names as texts and as paths: what stands before the name of what a message holds that some names lead to, and the text of the whole.
 --
---   frontOf f ns ==  what stands in a full name before the name of what the message holds that the names ns lead to, f standing before ns
+--   frontOf f ns == what stands in a full name before the name of what the message holds that the names ns lead to, f standing before ns
 --
 -- Assumes nothing.
 use Rattle.basis.specs.Kit.{_≡_, refl, sym, ap, _∙_, true, List, [], _∷_, _++_, ℕ}

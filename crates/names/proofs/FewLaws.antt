@@ -1,11 +1,11 @@
 -- A sheet declares fewer messages, enums and extensions than it has bytes.
 -- Assumes nothing.
-use Rattle.basis.specs.Kit.{_≡_, refl, sym, List, [], _∷_, _++_, ℕ, zero, suc, _+_, _-_, _≤_, _<_, length}
+use Rattle.basis.specs.Kit.{_≡_, refl, sym, List, _∷_, _++_, ℕ, zero, suc, _+_, _-_, _≤_, _<_, length}
 use Rattle.basis.proofs.Kit.{arith}
 use lib.ListN.{length-append}
 use Rattle.limits.specs.Figures.{mostMessages}
 use Rattle.field.specs.declared.Leaf.the-variants.{At}
-use Rattle.field.specs.Leaf.{span, anyBytes, leafAt, text}
+use Rattle.field.specs.Leaf.{span, anyBytes, text}
 use Rattle.field.specs.Walk.{walk}
 use Rattle.field.proofs.LeafLaws.{leaf-bounds}
 use Rattle.field.proofs.WalkLaws.{walk-holds}

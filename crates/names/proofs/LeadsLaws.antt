@@ -1,6 +1,6 @@
 -- What `leads` comes to, and what it says of a text: that this is the name, a dot, and the rest.
 -- Assumes nothing.
-use Rattle.basis.specs.Kit.{_≡_, refl, sym, ap, _∙_, Bool, true, false, List, [], _∷_, _++_, ℕ, zero, suc, _+_, _-_, _≤_, _<_, eqb}
+use Rattle.basis.specs.Kit.{_≡_, refl, sym, ap, _∙_, Bool, true, false, List, [], _∷_, _++_, ℕ, suc, _+_, _-_, _≤_, _<_, eqb}
 use Rattle.basis.specs.Kit.{length, getD, take, drop}
 use Rattle.basis.proofs.Kit.{arith, eq-eqb, ne-eqb}
 use Rattle.basis.proofs.Never.{never}

@@ -3,7 +3,7 @@
 --   Stands s w <-> it is so of w
 --
 -- Assumes nothing.
-use Rattle.basis.specs.Kit.{_≡_, refl, sym, ap, List, [], _∷_, ℕ, zero, suc, _+_, _-_, _≤_, length}
+use Rattle.basis.specs.Kit.{_≡_, refl, sym, List, ℕ, zero, suc, _+_, _-_, _≤_, length}
 use mathlib.Core.Path.{subst}
 use Rattle.basis.proofs.Kit.{arith}
 use Rattle.basis.proofs.FirstLaws.{Every, none-of, one-of, every-append}
@@ -14,10 +14,10 @@ use Rattle.field.specs.Walk.{walk}
 use Rattle.field.proofs.LeafLaws.{leaf-inside}
 use Rattle.field.proofs.WalkLaws.{walk-holds}
 use Rattle.sheet.specs.Table.{nameTag}
-use Rattle.sheet.specs.Tree.{Items, itemIn, messageIn, itemsIn, valuesIn, File, treeOf}
+use Rattle.sheet.specs.Tree.{Items, itemIn, messageIn, itemsIn, valuesIn, File}
 use Rattle.sheet.proofs.PlaceLaws.{Places, extension-places}
 use Rattle.sheet.proofs.MemberLaws.{item-cases}
-use Rattle.sheet.proofs.LyingLaws.{places-within, FileLies, Filed, filed-none, filed-one, tree-lies}
+use Rattle.sheet.proofs.LyingLaws.{places-within, Filed, filed-none, filed-one, tree-lies}
 use Rattle.scope.specs.Scope.{Scope, fileScope}
 use Rattle.names.specs.Names.{What, message, enumeration, extension, Named, fileFront, declaredIn, declaredBy, everyDeclared}
 

@@ -2,19 +2,20 @@
 -- an enum a name; no number is declared twice for one message, extensions counted; every extendee and type path names exactly one
 -- declaration of its kind."
 --
---    namesOne s k t <=> the text t is the full name of exactly one declaration of the tag k
---      membersOf w ==  the names of a message's fields, or of an enum's values
---   sameNumber x y <=> the two declare one number for one message
---    cleanName s b <=> no other declaration has its full name
---   cleanMembers s b <=> no two of its fields, or of its values, share a name
---    pathKind t ==  the tag of what the type path of the type t names
---    cleanNumber s x <=> the number x is declared once, and its type path, where its type has one, names one declaration of its kind
---     cleanExtendee s w <=> where it is an extension, its extendee names one message
---   cleanAt s b <=> all of this
---       clean s <=> it holds of all that the sheet declares
+--      namesOne s k t <=> the text t is the full name of exactly one declaration of the tag k
+--       cleanName s b <=> no other declaration has its full name
+--         membersOf w ==  the names of a message's fields, or of an enum's values
+--      namedOnce s ns <=> no two of these names are the same text
+--      sameNumber x y <=> the two declare one number for one message
+--          pathKind t ==  the tag of what the type path of the type t names
+--       cleanPath s d <=> the type path of the declaration, where its type has one, names one declaration of its kind
+--   cleanExtendee s w <=> where it is an extension, its extendee names one message
+--     cleanNumber s x <=> the number is declared once for its message, and its type path is clean
+--         cleanAt s b <=> all of this holds of the declaration b
+--             clean s <=> it holds of all that the sheet declares
 --
 -- Assumes nothing.
-use Rattle.basis.specs.Kit.{Bool, true, false, _&&_, List, [], map, ℕ, eqb}
+use Rattle.basis.specs.Kit.{Bool, true, _&&_, List, [], map, ℕ, eqb}
 use Rattle.basis.specs.First.{onlyIf}
 use Rattle.basis.specs.Count.{once, every}
 use Rattle.octets.specs.Octets.{sameBytes}

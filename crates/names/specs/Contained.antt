@@ -4,10 +4,11 @@
 --   s is the older sheet, t the newer
 --
 --         isIn t k n <=> the newer declares something by the tag k under the full name n
---         keptName t b <=> a message or an enum of the older is in the newer
---       alike s t d e <=> the declarations d of the older and e of the newer have one number, name, type and type path
---     keptNumber s t x <=> the newer declares a number for that message alike
---       contained s t <=> all messages, enums and numbers of the older are kept
+--     keptName t n w <=> a message or an enum of the older, of the full name n, is in the newer
+--      alike s t d e <=> the declarations d of the older and e of the newer have one number, name, type and type path
+--   keptNumber s t x <=> the newer declares a number for that message alike
+--       keptAt s t b <=> both hold of the declaration b of the older
+--      contained s t <=> they hold of all that the older declares
 --
 -- Assumes nothing.
 use Rattle.basis.specs.Kit.{Bool, true, _&&_, List, ℕ, eqb}

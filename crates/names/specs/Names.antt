@@ -1,16 +1,16 @@
 -- Every message, enum and extension of a sheet, with its full name, in the order of the bytes. A full name is the package of the file, the
 -- names of the messages around, and its own, joined by dots.
 --
---                  What ==  a message, an enum or an extension
---                 Named ==  a full name, and what bears it
---              inside n ==  what stands in a full name before the name of what the message n holds: n and a dot
---               fileFront p ==  what stands there before the name of what a file of the package p holds
+--                 What ==  a message, an enum or an extension
+--                Named ==  a full name, and what bears it
+--             inside n ==  what stands in a full name before the name of what the message n holds: n and a dot
+--          fileFront p ==  what stands there before the name of what a file of the package p holds
 --   declaredIn s f c i ==  what the items i of the scope c declare, at every depth, f standing before their names
 --    declaredBy s k fs ==  what the files declare, the k-th file first
 --      everyDeclared s ==  what the sheet declares
---             tagOf w ==  the tag by which it is declared
---          ofKind k b <=> it is declared by the tag k; of anyKind all are
---           bears t b <=> its full name is the text t
+--              tagOf w ==  the tag by which it is declared
+--           ofKind k b <=> it is declared by the tag k; of anyKind all are
+--            bears t b <=> its full name is the text t
 --
 -- Assumes nothing.
 use Rattle.basis.specs.Kit.{Bool, _||_, List, [], _∷_, _++_, ℕ, _+_, eqb}

@@ -1,8 +1,9 @@
 -- Every number that a sheet declares for a message: by a field of that message, or by an extension of it.
 --
---         Number ==  a declaration of a number, and the message that it is for, by its full name
---   numbersOf s b ==  those of the fields of a message, or of an extension
---   everyNumber s ==  all that the sheet declares, a message's own before those of what it holds
+--            Number == a declaration of a number, and the message that it is for, by its full name
+--     numbersOf s b == those of the fields of a message, or of an extension
+--   numbersAll s bs == those of all of bs
+--     everyNumber s == all that the sheet declares, a message's own before those of what it holds
 --
 -- Assumes nothing.
 use Rattle.basis.specs.Kit.{List, [], _∷_, _++_, map, ℕ}

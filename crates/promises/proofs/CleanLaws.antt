@@ -1,35 +1,24 @@
 -- What a clean sheet has: a full name is found exactly if it is declared, each number is declared once, and a type path that is a message's
 -- names a message. The statements stand at the end.
 -- Assumes nothing.
-use Rattle.basis.specs.Kit.{_≡_, refl, sym, ap, _∙_, Bool, true, false, _&&_, List, [], _∷_, _++_, map, ℕ, eqb}
+use Rattle.basis.specs.Kit.{_≡_, refl, sym, ap, Bool, true, _&&_, List, [], _∷_, map, ℕ}
 use Rattle.basis.specs.Among.{Among, here, there}
 use Rattle.basis.specs.Count.{once, every}
 use Rattle.basis.proofs.Kit.{eq-eqb}
 use Rattle.basis.proofs.Never.{never}
-use Rattle.basis.proofs.AmongLaws.{among-nil, among-one, among-append-left, among-append-right, among-append-cases}
-use Rattle.basis.proofs.CountLaws.{Passing, once-any, any-passing, once-unique, every-among}
+use Rattle.basis.proofs.AmongLaws.{among-nil, among-append-left, among-append-right, among-append-cases}
+use Rattle.basis.proofs.CountLaws.{once-any, any-passing, once-unique, every-among}
 use mathlib.Core.Path.{subst}
 use mathlib.Core.Bool.{and-eq-true-iff}
-use borrow.Author.Tests.{eqb-true}
-use Rattle.octets.specs.Octets.{sameBytes}
 use Rattle.octets.proofs.SameBytes.{same-refl, same-sound}
 use Rattle.field.specs.Leaf.{text}
 use Rattle.types.specs.Types.{TYPE_MESSAGE}
 use Rattle.sheet.specs.declared.declaration.Declaration.{Declaration}
 use Rattle.sheet.specs.Declaration.{hasTypePath}
 use Rattle.sheet.specs.Table.{messageTag}
-use Rattle.sheet.specs.Tree.{treeOf}
-use Rattle.sheet.specs.Members.{fieldsOf, everyExtension}
-use Rattle.reply.specs.declared.Verdict.the-variants.{Fine}
-use Rattle.sheetform.specs.Form.{judgeSheet}
-use Rattle.path.specs.Path.{Path, components, allIdent}
-use Rattle.scope.specs.Scope.{Scope, holding, extends}
-use Rattle.scope.specs.declared.lookup.LookupScope.{LookupScope}
-use Rattle.fullname.specs.declared.LookedUp.the-variants.{Message as Found, NoMessage}
-use Rattle.fullname.specs.FullName.{messagesAt, lookedUp}
-use Rattle.fullname.proofs.LiesLaws.{looked-up-is}
-use Rattle.lookups.specs.Lookups.{Lookups, Message, walking}
-use Rattle.names.specs.Names.{What, message, enumeration, extension, Named, everyDeclared, anyKind, ofKind, bears, tagOf}
+use Rattle.sheet.specs.Members.{fieldsOf}
+use Rattle.scope.specs.Scope.{Scope}
+use Rattle.names.specs.Names.{What, message, enumeration, extension, Named, everyDeclared, ofKind, bears}
 use Rattle.names.specs.Numbers.{Number, numbersOf, numbersAll, everyNumber}
 use Rattle.names.specs.Contained.{isIn}
 use Rattle.names.specs.Clean.{namesOne, cleanName, sameNumber, cleanPath, cleanExtendee, cleanNumber, cleanAt, clean, membersOf, namedOnce}

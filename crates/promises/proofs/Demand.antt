@@ -1,10 +1,8 @@
 -- Demand 3: what is written under a newer sheet is listed under an older one that is contained in it. Of the definitions first, then of
 -- the calls' own contracts. The statements stand at the end of each part.
 -- Assumes nothing.
-use Rattle.basis.specs.Kit.{_≡_, refl, sym, ap, _∙_, Bool, true, false, List, _++_, map, ℕ, _≤_, _<_, ltb, length, take, drop}
+use Rattle.basis.specs.Kit.{_≡_, refl, sym, ap, _∙_, Bool, true, false, List, map, ℕ, _<_, ltb, length, take, drop}
 use Rattle.basis.proofs.Kit.{arith, le-ltb}
-use Rattle.basis.proofs.Never.{never}
-use Rattle.basis.proofs.CountLaws.{any-passing}
 use lib.Dec.{ltb→lt}
 use lib.Seq.{take-at}
 use Rattle.limits.specs.Figures.{mostLevels}
@@ -18,16 +16,11 @@ use Rattle.reply.specs.Reply.{number, refusedBy, doneWith, decided}
 use Rattle.reply.specs.Verdicts.{firstFault, asked}
 use Rattle.reply.specs.Outcome.{refuse, give, within, answerOf, leftOf, Answered}
 use Rattle.reply.proofs.Rows.{every-at}
-use Rattle.path.specs.Path.{components, allIdent, isRelPath}
-use Rattle.sheet.specs.Table.{messageTag}
-use Rattle.scope.specs.declared.lookup.LookupScope.{LookupScope}
-use Rattle.scope.specs.Scope.{Scope}
 use Rattle.fullname.specs.declared.LookedUp.the-variants.{Message as Found}
 use Rattle.lookups.specs.Lookups.{Message, walking}
 use Rattle.records.specs.Records.{Recs, encode}
-use Rattle.records.specs.Raw.{Proper}
 use Rattle.sheetform.specs.Form.{judgeSheet}
-use Rattle.names.specs.Names.{message, everyDeclared}
+use Rattle.names.specs.Names.{message}
 use Rattle.names.specs.Clean.{clean}
 use Rattle.names.specs.Contained.{contained}
 use Rattle.finds.proofs.Reach.{named}

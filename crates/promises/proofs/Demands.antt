@@ -1,12 +1,11 @@
 -- The demands that hold of every call and of every sheet, from what is proved of each.
 -- Assumes nothing.
-use Rattle.basis.specs.Kit.{_≡_, refl, _∙_, Bool, true, false, List, ℕ, ltb, length}
-use Rattle.basis.proofs.Kit.{arith}
+use Rattle.basis.specs.Kit.{_≡_, refl, Bool, true, false, List, ℕ, ltb, length}
 use borrow.Author.Tests.{ltb-true, ltb-false}
 use Rattle.limits.specs.Figures.{mostLevels}
 use Rattle.reply.specs.declared.Refusal.the-variants.{NoRoom}
 use Rattle.reply.specs.declared.Answer.{Answer}
-use Rattle.reply.specs.Outcome.{Outcome, refuse, nothing, give, within, answerOf, leftOf, Answered}
+use Rattle.reply.specs.Outcome.{Outcome, refuse, nothing, give, answerOf, leftOf, Answered}
 use Rattle.reply.specs.Outcome as outcome
 use Rattle.lookups.specs.Lookups.{walking}
 use Rattle.readback.proofs.UnderLaws.{under-reading}

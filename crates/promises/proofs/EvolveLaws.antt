@@ -6,7 +6,6 @@
 -- Assumes nothing.
 use Rattle.basis.specs.Kit.{_≡_, refl, sym, ap, _∙_, Bool, true, _&&_, List, [], _∷_, some, ℕ, eqb}
 use Rattle.basis.specs.Among.{Among, here}
-use Rattle.basis.specs.Count.{any, every}
 use Rattle.basis.proofs.CountLaws.{any-passing, every-among}
 use mathlib.Core.Path.{subst}
 use mathlib.Core.Bool.{and-eq-true-iff}
@@ -19,7 +18,7 @@ use Rattle.types.specs.Types.{TYPE_MESSAGE}
 use Rattle.path.specs.Path.{components, allIdent}
 use Rattle.sheet.specs.declared.declaration.Declaration.{Declaration}
 use Rattle.sheet.specs.Tree.{treeOf}
-use Rattle.sheet.specs.Members.{fieldsOf, everyExtension}
+use Rattle.sheet.specs.Members.{everyExtension}
 use Rattle.sheetform.specs.Form.{judgeSheet}
 use Rattle.scope.specs.declared.lookup.LookupScope.{LookupScope}
 use Rattle.scope.specs.Scope.{Scope, holding, extends}
@@ -38,7 +37,7 @@ use Rattle.readback.specs.Seen.{pathOf, reachedBy, Names}
 use Rattle.readback.specs.Once.{DeclaredAt, as-field, as-extension, Once}
 use Rattle.readback.specs.Older.{Kept, Keeps}
 use Rattle.readback.proofs.OnceLaws.{declared-only}
-use Rattle.promises.proofs.CleanLaws.{number, Of, number-of, field-number, extension-number}
+use Rattle.promises.proofs.CleanLaws.{number, number-of, field-number, extension-number}
 use Rattle.promises.proofs.CleanLaws.{clean-name, number-once, path-message, extendee-message}
 
 -- ---- a clean sheet

@@ -3,11 +3,11 @@
 --        CleanSheet s <-> the sheet is well-formed and clean
 --       optionsType r ==  the options type that the request names
 --        declares s t <=> the sheet declares a message of the full name t
---        toldUnder s t x ==  what the records x hold as the sheet s has it, under the options type t: in order, each number that s does not
+--     toldUnder s t x ==  what the records x hold as the sheet s has it, under the options type t: in order, each number that s does not
 --                         declare at its message marked unknown, what lies inside it left out
 --   ListedUnder s t x <-> the bytes of the records x are listed under the sheet s and the options type t, not refused, and the rows hold
 --                         just that
---       OldReads .. <-> the same of two calls: what one wrote under the newer is bytes of the records of its request; the other, which lists
+--         OldReads .. <-> the same of two calls: what one wrote under the newer is bytes of the records of its request; the other, which lists
 --                         them under the older, answers 0 where its room is enough, and leaves these rows there
 --
 -- Assumes nothing.

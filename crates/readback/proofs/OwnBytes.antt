@@ -1,22 +1,14 @@
 -- The bytes of records that a sheet types, read under that sheet: the rows are these records, in order, by number, type, value and payload.
 -- Assumes nothing.
-use Rattle.basis.specs.Kit.{_≡_, refl, ap, _∙_, List, [], _∷_, _++_, map, some, ℕ, suc, _+_, _^_, _<_, length, drop}
-use mathlib.Core.Path.{ap₂}
-use mathlib.Core.List.{append-nil, append-assoc, map-append}
-use Rattle.types.specs.Types.{wireOf, LEN, TYPE_MESSAGE}
-use Rattle.payloads.specs.Value.{said, valueOf}
-use Rattle.sheet.specs.declared.declaration.Declaration.{Declaration}
+use Rattle.basis.specs.Kit.{_≡_, refl, ap, _∙_, List, _∷_, map, ℕ, suc, _^_, _<_, length}
 use Rattle.lookups.specs.Lookups.{Lookups, Message}
 use Rattle.records.specs.Records.{Recs, nil, number, bytes, message, payload, encode}
-use Rattle.records.specs.Raw.{Proper, proper-nil, proper-number, proper-bytes, proper-message}
-use Rattle.entries.specs.declared.Row.{Row}
-use Rattle.entries.specs.Tree.{row, rows}
+use Rattle.records.specs.Raw.{Proper}
+use Rattle.entries.specs.Tree.{rows}
 use Rattle.entries.specs.Reading.{listed, reading}
-use Rattle.readback.specs.Seen.{entryBy, reachedBy, seen, nested, Readable}
+use Rattle.readback.specs.Seen.{reachedBy, seen, nested, Readable}
 use Rattle.readback.specs.Older.{Keeps, told}
 use Rattle.readback.specs.Typed.{Typed, contentAt, contents, contentOf}
-use Rattle.readback.proofs.PlaceLaws.{drop-behind, part-at}
-use Rattle.readback.proofs.ValuesBack.{value-back, value-none}
 use Rattle.readback.proofs.OlderBytes.{older-readable, older-bytes}
 use Rattle.readback.proofs.OlderRows.{older-rows}
 

@@ -3,12 +3,12 @@
 --
 --   `L s` are the look-ups and the sheet of the older, `L′ s′` those of the newer; `Same m m′` says which messages of theirs are one
 --
---       Kept .. d d′ <-> the declarations d of the older and d′ of the newer have one type; where that is a message that the newer finds,
---                        the older finds the same
---       Keeps ..     <-> it is so of every number that both declare at the same message
---         toldAs o x ==  what a record holds, x, as the older has it, o being what it declares the number by, if anything
---    insideOf .. o f ==  what f makes of the message that the type path of o names; nothing where o is none
---     told L s m l rs ==  what the records rs, at the level l inside the message m, hold as the older has it
+--      Kept .. d d′ <-> the declarations d of the older and d′ of the newer have one type; where that is a message that the newer finds,
+--                       the older finds the same
+--      Keeps ..     <-> it is so of every number that both declare at the same message
+--        toldAs o x ==  what a record holds, x, as the older has it, o being what it declares the number by, if anything
+--   insideOf .. o f ==  what f makes of the message that the type path of o names; nothing where o is none
+--   told L s m l rs ==  what the records rs, at the level l inside the message m, hold as the older has it
 --
 -- Assumes nothing.
 use Rattle.basis.specs.Kit.{_≡_, List, [], _∷_, _++_, Option, none, some, ℕ, suc}

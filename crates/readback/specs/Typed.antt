@@ -1,12 +1,12 @@
 -- Records that are typed by a sheet, and what records hold beside what the rows of a listing hold.
 --
---   DeclaredAs s m n t <-> the number n is declared at m by the type t
---       Typed L s m rs <-> every number is declared at m by its record's type, with a value of that type; a message by a type path that
---                          names one, inside which it is so again
---              Content ==  what a record holds: its level, number, type, value (0 where it is length-delimited) and payload
---    contentAt l n t v bs == that of a record at the level l, of the number n and the type t
---        contents l rs ==  what the records rs hold, which stand at the level l, in order, each message's inside directly after it
---       contentOf bs r ==  what the row r of the option bytes bs holds
+--     DeclaredAs s m n t <-> the number n is declared at m by the type t
+--         Typed L s m rs <-> every number is declared at m by its record's type, with a value of that type; a message by a type path that
+--                            names one, inside which it is so again
+--                Content ==  what a record holds: its level, number, type, value (0 where it is length-delimited) and payload
+--   contentAt l n t v bs ==  that of a record at the level l, of the number n and the type t
+--          contents l rs ==  what the records rs hold, which stand at the level l, in order, each message's inside directly after it
+--         contentOf bs r ==  what the row r of the option bytes bs holds
 --
 -- Assumes nothing.
 use Rattle.basis.specs.Kit.{_≡_, List, [], _∷_, _++_, some, ℕ, suc, _+_}

@@ -1,7 +1,7 @@
 -- The laws of members: the ways through the functions that look at one field, the loops over them, and that they are the fields of a
 -- message or the values of an enum.
 -- Assumes nothing.
-use Rattle.basis.specs.Kit.{_≡_, refl, sym, ap, _∙_, Bool, true, false, List, [], _∷_, _++_, map, ℕ, _+_, _-_, _≤_, _<_, eqb, length}
+use Rattle.basis.specs.Kit.{_≡_, refl, sym, ap, _∙_, Bool, true, false, List, [], _++_, map, ℕ, _+_, _-_, _≤_, eqb, length}
 use Rattle.basis.specs.First.{onlyIf}
 use Rattle.basis.specs.Count.{count, once}
 use Rattle.basis.proofs.Kit.{arith, eq-eqb, ne-eqb}
@@ -29,7 +29,7 @@ use Rattle.sheet.proofs.MemberLaws.{listed, fields-item}
 use Rattle.sheet.proofs.PlaceLaws.{field-name-ordered, field-name-within, value-name-ordered, value-name-within}
 use Rattle.reasons.specs.declared.Why.{Why}
 use Rattle.reasons.specs.declared.Reason.{Reason}
-use Rattle.reasons.specs.declared.Reason.the-variants.{Yes, No}
+use Rattle.reasons.specs.declared.Reason.the-variants.{Yes}
 use Rattle.reasons.specs.Reasons.{also, orNo, reasons, memberFlaws}
 use Rattle.reasons.specs.inner.Members.{fieldName, valueName, memberAt, leafOnto, membersIn, memberFlaw}
 use Rattle.reasons.proofs.ReasonLaws.{also-no}

@@ -1,6 +1,6 @@
 -- The laws of reasons: the first of two, and of many, and that there is none exactly where every test holds.
 -- Assumes nothing.
-use Rattle.basis.specs.Kit.{_≡_, refl, sym, ap, _∙_, Bool, true, false, _&&_, List, [], _∷_, _++_, ℕ, suc}
+use Rattle.basis.specs.Kit.{_≡_, refl, _∙_, Bool, true, false, _&&_, List, [], _∷_, ℕ, suc}
 use Rattle.basis.specs.Count.{every}
 use Rattle.field.specs.declared.Span.{Span}
 use Rattle.names.specs.Names.{Named}

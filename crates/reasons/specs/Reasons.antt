@@ -1,23 +1,26 @@
 -- The first reason why a sheet is not clean, or not contained in another: declarations in the order of the sheet, of each the tests in the
 -- order of `cleanAt` and `keptAt`.
 --
---           holds r <=> there is no reason against it
---          also r q ==  the first of two reasons
---     reasons f xs ==  the first of the reasons that f gives of xs
---   reasonsFrom f k bs ==  the first of those that f gives of declarations, the k-th first
---       flawOf s k b ==  what is not clean about the k-th declaration, b
---      cleanReason s ==  the first flaw of the sheet
---     lossOf s t k b ==  what of the k-th declaration of the older, b, the newer has not kept
---   containedReason s t ==  the first loss
+--                holds r <=> there is no reason against it
+--               also r q ==  the first of two reasons
+--           orNo b w k p ==  this reason, where b does not hold
+--           reasons f xs ==  the first of the reasons that f gives of xs
+--     reasonsFrom f k bs ==  the first of those that f gives of declarations, the k-th first
+--   memberFlaws s w k ns ==  the first of the names ns that another one of them is too
+--   pathFlaw, numberFlaw ==  what is amiss with a type path, or with a number
+--           flawOf s k b ==  what is not clean about the k-th declaration, b
+--          cleanReason s ==  the first flaw of the sheet
+--     numberLoss s t k x ==  whether the newer t has not kept a number of the older s
+--         lossOf s t k b ==  what of the k-th declaration of the older, b, the newer has not kept
+--    containedReason s t ==  the first loss
 --
 -- Assumes nothing.
-use Rattle.basis.specs.Kit.{Bool, true, false, _&&_, List, [], _∷_, ℕ, suc}
+use Rattle.basis.specs.Kit.{Bool, true, false, List, [], _∷_, ℕ, suc}
 use Rattle.basis.specs.First.{onlyIf}
 use Rattle.basis.specs.Count.{once}
 use Rattle.field.specs.declared.Span.{Span}
 use Rattle.field.specs.Leaf.{span, text, isText}
 use Rattle.sheet.specs.declared.declaration.Declaration.{Declaration}
-use Rattle.sheet.specs.Table.{messageTag, enumTag}
 use Rattle.names.specs.Names.{What, message, enumeration, extension, Named, everyDeclared}
 use Rattle.names.specs.Numbers.{Number, numbersOf, everyNumber}
 use Rattle.names.specs.Clean.{cleanName, membersOf, sameNumber, cleanPath, cleanExtendee}

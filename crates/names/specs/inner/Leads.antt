@@ -1,6 +1,6 @@
 -- A name that leads a text.
 --
---      leads n t <=> the text t goes on with the name n and a dot
+--        leads n t <=> the text t goes on with the name n and a dot
 --   leadsAt t at n <=> it does so at a place
 --
 -- Assumes nothing.

@@ -1,8 +1,8 @@
 -- The names of what a message or an enum declares itself, as the code reads them: fields by their tag, or values by theirs.
 --
---     memberAt k s t a e ==  the name of the field or value that a field of the tag t is, where its tag is k
---           membersIn k s w ==  the names among the fields w
---    memberFlaw s w k ns l ==  what is amiss with a member of the name l, where there is one, among the names ns
+--      memberAt k s t a e == the name of the field or value that a field of the tag t is, where its tag is k
+--         membersIn k s w == the names among the fields w
+--   memberFlaw s w k ns l == what is amiss with a member of the name l, where there is one, among the names ns
 --
 -- Assumes nothing.
 use Rattle.basis.specs.Kit.{true, false, List, [], _∷_, ℕ, eqb}
@@ -17,7 +17,7 @@ use Rattle.sheet.specs.declared.declaration.Declared.{Declared}
 use Rattle.sheet.specs.declared.declaration.Declared.the-variants.{Declares, NoDeclaration}
 use Rattle.sheet.specs.declared.declaration.Valued.{Valued}
 use Rattle.sheet.specs.declared.declaration.Valued.the-variants.{Values, NoValue}
-use Rattle.sheet.specs.Table.{fieldTag, valueTag}
+use Rattle.sheet.specs.Table.{fieldTag}
 use Rattle.sheet.specs.Declaration.{messageFieldAt, valueAt}
 use Rattle.reasons.specs.declared.Why.{Why}
 use Rattle.reasons.specs.declared.Reason.{Reason}
