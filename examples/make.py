@@ -26,9 +26,12 @@ def laid(data, depth=0):
 FIELD, MESSAGE = b"google.protobuf.FieldOptions", b"google.protobuf.MessageOptions"
 
 
+def shape(number, kind=13, path=b""):
+    return f(0x13, struct.pack(">I", number)) + f(0x14, bytes([kind])) + f(0x15, b"\x01") + (f(0x16, path) if path else b"")
+
+
 def order(number, on=FIELD):
-    shape = f(0x13, struct.pack(">I", number)) + f(0x14, b"\x0d") + f(0x15, b"\x01")
-    return f(0x03, f(0x11, b"order") + f(0x12, on) + shape)
+    return f(0x03, f(0x11, b"order") + f(0x12, on) + shape(number))
 
 
 def words(*ws):
@@ -67,12 +70,38 @@ def asked(name):
     return f(0x46, f(0x1B, name))
 
 
+# A year on. What an old device has is order.proto's and
+#   message Limits { uint32 low = 1; }
+#   extend google.protobuf.FieldOptions { optional Limits limits = 50003; }
+# and what a new one has is that and a field and an option more:
+#   message Limits { uint32 low = 1; uint32 high = 2; }
+#   extend google.protobuf.FieldOptions { optional string unit = 50004; }
+def fleet(*fields, more=b""):
+    limits = f(0x02, f(0x11, b"Limits") + b"".join(f(0x05, f(0x11, name) + shape(n + 1)) for n, name in enumerate(fields)))
+    limits += f(0x03, f(0x11, b"limits") + f(0x12, FIELD) + shape(50003, 11, b"plant.Limits"))
+    return f(0x01, f(0x10, b"plant") + order(50001) + f(0x02, f(0x11, b"Dispatch") + order(50002)) + limits + more) + OPTIONS
+
+
+def whole(n):
+    return f(0x21, struct.pack(">Q", n))
+
+
+OLDER = f(0x40, fleet(b"low"))
+NEWER = f(0x40, fleet(b"low", b"high", more=f(0x03, f(0x11, b"unit") + f(0x12, FIELD) + shape(50004, 9))))
+# [(order) = 7, (unit) = "kW", (limits) = {low: 1, high: 5}] on a field of Dispatch, by the new device
+LIMITS = f(0x26, f(0x27, b"low") + whole(1) + f(0x27, b"high") + whole(5))
+SET = f(0x08, f(0x1B, b"order") + whole(7)) + f(0x08, f(0x1B, b"unit") + f(0x24, b"kW")) + f(0x08, f(0x1B, b"limits") + LIMITS)
+A_YEAR_ON = f(0x41, f(0x18, b"plant.Dispatch") + f(0x19, FIELD) + SET)
+
+
 FILES = {
     # (order), (.plant.order), and (order) where Dispatch's own is none of fields
     "lower.hex": laid(SHEET + REQUEST) + laid(SHEET + seven(b".plant.order")) + laid(MISTAKEN_SHEET + REQUEST),
     "find.hex": lines(SHEET, SCOPE + f(0x43, b"order"), SHEET, SCOPE + f(0x43, b".plant.order")),
     "check.hex": lines(SHEET, REQUEST),
     "list.hex": lines(SHEET, TYPE, BYTES),
+    # what the old device lists of the new one's bytes
+    "evolve.hex": lines(OLDER, NEWER, A_YEAR_ON),
     # (plant.order) in all of them, and where only Dispatch's own is set
     "query.hex": lines(SHEET, TYPE, asked(b"plant.order"), BYTES, SHEET, TYPE, asked(b"plant.order"), SETPOINT),
     # reserved 100 to 199, 300, 1000 to max; of a message
