@@ -1,3 +1,4 @@
 pub mod LeadsLaws
 pub mod StandsLaws
 pub mod FewLaws
+pub mod Controls

@@ -19,10 +19,11 @@ use Rattle.sheet.specs.Members.{fieldsOf}
 use Rattle.scope.specs.Scope.{Scope, fileScope, messageScope}
 use Rattle.names.specs.Names.{Named, inside, fileFront, declaredIn, declaredBy, everyDeclared}
 use Rattle.names.specs.Numbers.{Number, numbersOf, numbersAll}
-use Rattle.numbered.specs.declared.Like.{Like}
-use Rattle.numbered.specs.declared.Way.{Way}
-use Rattle.numbered.specs.declared.Way.the-variants.{Own, Within, Off}
-use Rattle.numbered.specs.inner.Likes.{isLike, numbered, onward, fileWay, fieldLikes, extensionLikes, itemsLike, filesLike}
+use Rattle.likeness.specs.declared.Like.{Like}
+use Rattle.likeness.specs.declared.Way.{Way}
+use Rattle.likeness.specs.declared.Way.the-variants.{Own, Within, Off}
+use Rattle.likeness.specs.inner.Likes.{isLike, fieldLikes, extensionLikes}
+use Rattle.numbered.specs.inner.Likes.{numbered, onward, fileWay, itemsLike, filesLike}
 use Rattle.numbered.proofs.WayLaws.{Stands, isOwn, onward-stands, onward-same, file-stands, file-other}
 
 numbers-append : (s : List ℕ) (xs ys : List Named) → numbersAll s (xs ++ ys) ≡ numbersAll s xs ++ numbersAll s ys

@@ -25,9 +25,10 @@ use Rattle.sheet.proofs.TreeLaws.{item-extension, item-no-extension, item-field
 use Rattle.sheet.proofs.TreeLaws.{file-other, file-unnamed, file-named, tree-files}
 use Rattle.sheet.proofs.MemberLaws.{item-cases, file-cases}
 use Rattle.scope.specs.inner.Steps.{itemAt, fileAt}
-use Rattle.numbered.specs.declared.Like.{Like}
-use Rattle.numbered.specs.declared.Way.{Way}
-use Rattle.numbered.specs.inner.Likes.{numbered, onward, fileWay, fieldLikes, extensionLikes, declaredLikes, itemsLike, filesLike}
+use Rattle.likeness.specs.declared.Like.{Like}
+use Rattle.likeness.specs.declared.Way.{Way}
+use Rattle.likeness.specs.inner.Likes.{fieldLikes, extensionLikes, declaredLikes}
+use Rattle.numbered.specs.inner.Likes.{numbered, onward, fileWay, itemsLike, filesLike}
 use Rattle.numbered.proofs.EveryLaws.{numbered-is}
 
 abbrev pub itemLike : (m : List ℕ) (l : Like) (o s : List ℕ) (w : Way) (left tag from to : ℕ) → ℕ

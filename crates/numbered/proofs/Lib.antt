@@ -1,5 +1,4 @@
 pub mod WayLaws
 pub mod EveryLaws
-pub mod LikenessLaws
 pub mod OnwardLaws
 pub mod ItemLaws

@@ -9,8 +9,8 @@ use Rattle.octets.specs.Octets.{part, sameBytes}
 use Rattle.path.specs.Path.{dot}
 use Rattle.names.specs.inner.Leads.{leadsAt}
 use Rattle.names.proofs.LeadsLaws.{leads-text}
-use Rattle.numbered.specs.declared.Way.{Way}
-use Rattle.numbered.specs.declared.Way.the-variants.{Own, Within, Off}
+use Rattle.likeness.specs.declared.Way.{Way}
+use Rattle.likeness.specs.declared.Way.the-variants.{Own, Within, Off}
 use Rattle.numbered.specs.inner.Likes.{Reaches, reaches-own, reaches-within, reaches-off, onward, fileWay}
 
 -- a name that leads the rest of a text ends within it

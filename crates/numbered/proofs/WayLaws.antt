@@ -18,8 +18,8 @@ use Rattle.path.specs.Path.{dot}
 use Rattle.names.specs.Names.{inside, fileFront}
 use Rattle.names.specs.inner.Leads.{leads}
 use Rattle.names.proofs.LeadsLaws.{leads-text, text-leads}
-use Rattle.numbered.specs.declared.Way.{Way}
-use Rattle.numbered.specs.declared.Way.the-variants.{Own, Within, Off}
+use Rattle.likeness.specs.declared.Way.{Way}
+use Rattle.likeness.specs.declared.Way.the-variants.{Own, Within, Off}
 use Rattle.numbered.specs.inner.Likes.{onward, fileWay}
 
 pub data Stands (m f : List ℕ) : Way → Type 0 where

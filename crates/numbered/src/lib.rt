@@ -1,43 +1,28 @@
 // How many declarations a sheet has for a message that are like one: fields of the message and extensions of it, of the same number, or of
 // the same number, type, name and type path. The way goes through the whole sheet, since an extension stands anywhere; siblings are a loop.
-mod likeness;
-
 ghost use Rattle.basis.specs.Kit.{_≡_, _+_, _-_, _≤_, length};
 ghost use Rattle.field.specs.Leaf.{Lies};
 ghost use Rattle.field.specs.Walk.{walk};
 ghost use Rattle.sheet.specs.Table.{messageTag};
 ghost use Rattle.sheet.specs.Tree.{itemsIn};
 ghost use Rattle.scope.specs.inner.Steps.{itemAt, fileAt};
-ghost use Rattle.numbered.specs.declared.Way.the-variants.{Within};
-ghost use Rattle.numbered.specs.inner.Likes.{Placed, Reaches, onward as onwardOf, itemsLike, fileWay, filesLike};
+ghost use Rattle.likeness.specs.declared.Way.the-variants.{Within};
+ghost use Rattle.likeness.specs.inner.Likes.{Placed};
+ghost use Rattle.numbered.specs.inner.Likes.{Reaches, onward as onwardOf, itemsLike, fileWay, filesLike};
 ghost use Rattle.numbered.specs.inner.Likes.{numbered as numberedOf};
 use field::Field;
 use field::Leaf;
 use field::Span;
 use field::field_at;
 use field::leaf_at;
+use likeness::Like;
+use likeness::Way;
 use likeness::in_extension;
 use likeness::in_field;
 use limits::MOST_MESSAGES;
 use names::leads;
 use octets::same;
-use sheet::declaration::Declaration;
 use sheet::table;
-
-// A declaration of another sheet, or of the same, and whether one that is like it has to have its type, name and type path besides its
-// number.
-pub struct Like {
-    pub declaration: Declaration,
-    pub whole: bool,
-}
-
-// How a scope stands to a message, by their full names: it is that message; that may stand in it, its full name going on at a place; or
-// neither.
-pub enum Way {
-    Own,
-    Within(usize),
-    Off,
-}
 
 // How a message of this name stands to it, in a scope in which it may stand, its full name going on at a place.
 fn within(message: &[u8], at: usize, name: &[u8]) -> Way

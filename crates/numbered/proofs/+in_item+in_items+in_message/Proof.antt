@@ -22,8 +22,8 @@ use Rattle.numbered.proofs.in_message.Kinds as in-message-kinds
 use Rattle.numbered.proofs.+in_item+in_items+in_message.Lts-in_message as in-message-lts
 use Rattle.field.proofs.field_at.Reads as field-at-reads
 use Rattle.field.proofs.leaf_at.Reads as leaf-at-reads
-use Rattle.numbered.proofs.likeness.in_extension.Reads as in-extension-reads
-use Rattle.numbered.proofs.likeness.in_field.Reads as in-field-reads
+use Rattle.likeness.proofs.in_extension.Reads as in-extension-reads
+use Rattle.likeness.proofs.in_field.Reads as in-field-reads
 use Rattle.numbered.proofs.onward.Reads as onward-reads
 
 abbrev μ-in-item : Measures 3 in-item-kinds.ps ℕ

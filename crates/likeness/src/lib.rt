@@ -3,9 +3,7 @@ ghost use Rattle.basis.specs.Kit.{_≡_, _&&_, _≤_, eqb};
 ghost use Rattle.octets.specs.Octets.{sameBytes};
 ghost use Rattle.field.specs.Leaf.{Lies, text};
 ghost use Rattle.sheet.specs.Declaration.{extensionAt, messageFieldAt};
-ghost use Rattle.numbered.specs.inner.Likes.{Placed, isLike, extensionLikes, fieldLikes, declaredLikes};
-use crate::Like;
-use crate::Way;
+ghost use Rattle.likeness.specs.inner.Likes.{Placed, isLike, extensionLikes, fieldLikes, declaredLikes};
 use field::Span;
 use named::extends;
 use octets::same;
@@ -13,6 +11,21 @@ use sheet::declaration::Declaration;
 use sheet::declaration::Declared;
 use sheet::declaration::extension_at;
 use sheet::declaration::message_field_at;
+
+// A declaration of another sheet, or of the same, and whether one that is like it has to have its type, name and type path besides its
+// number.
+pub struct Like {
+    pub declaration: Declaration,
+    pub whole: bool,
+}
+
+// How a scope stands to a message, by their full names: it is that message; that may stand in it, its full name going on at a place; or
+// neither.
+pub enum Way {
+    Own,
+    Within(usize),
+    Off,
+}
 
 // Whether two spans, each of its own bytes, are the same text.
 fn same_text(s: &[u8], p: Span, o: &[u8], q: Span) -> bool

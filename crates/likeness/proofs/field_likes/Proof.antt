@@ -1,9 +1,9 @@
--- `numbered::likeness::field_likes` meets its contract.
+-- `likeness::field_likes` meets its contract.
 -- Assumes nothing.
-use Rattle.numbered.proofs.LikenessLaws.{field-likes-laws}
+use Rattle.likeness.proofs.LikenessLaws.{field-likes-laws}
 use Rattle.basis.proofs.Kit.{needs}
-use Rattle.numbered.proofs.likeness.field_likes.Statement.{statement}
-use Rattle.numbered.proofs.likeness.field_likes.Tie as tie
+use Rattle.likeness.proofs.field_likes.Statement.{statement}
+use Rattle.likeness.proofs.field_likes.Tie as tie
 
 pub field-likes-spec : {M : Type 1} → statement M
 field-likes-spec = tie.close (tie.spec

@@ -10,10 +10,10 @@ use Rattle.sheet.specs.declared.declaration.Declared.{Declared}
 use Rattle.sheet.specs.declared.declaration.Declared.the-variants.{Declares, NoDeclaration}
 use Rattle.sheet.proofs.PlaceLaws.{extension-places-laws, field-places-laws}
 use Rattle.scope.specs.Scope.{extends}
-use Rattle.numbered.specs.declared.Like.{Like}
-use Rattle.numbered.specs.declared.Way.{Way}
-use Rattle.numbered.specs.declared.Way.the-variants.{Own, Within, Off}
-use Rattle.numbered.specs.inner.Likes.{isLike, fieldLikes, extensionLikes, declaredLikes}
+use Rattle.likeness.specs.declared.Like.{Like}
+use Rattle.likeness.specs.declared.Way.{Way}
+use Rattle.likeness.specs.declared.Way.the-variants.{Own, Within, Off}
+use Rattle.likeness.specs.inner.Likes.{isLike, fieldLikes, extensionLikes, declaredLikes}
 
 -- ---- same_texts and same_whole
 pub texts-first : (b c r : Bool) → r ≡ b → r ≡ false → false ≡ (b && c)

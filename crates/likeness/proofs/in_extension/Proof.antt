@@ -1,9 +1,9 @@
--- `numbered::likeness::in_extension` meets its contract.
+-- `likeness::in_extension` meets its contract.
 -- Assumes nothing.
-use Rattle.numbered.proofs.LikenessLaws.{in-extension-laws}
+use Rattle.likeness.proofs.LikenessLaws.{in-extension-laws}
 use Rattle.basis.proofs.Kit.{needs}
-use Rattle.numbered.proofs.likeness.in_extension.Statement.{statement}
-use Rattle.numbered.proofs.likeness.in_extension.Tie as tie
+use Rattle.likeness.proofs.in_extension.Statement.{statement}
+use Rattle.likeness.proofs.in_extension.Tie as tie
 
 pub in-extension-spec : {M : Type 1} → statement M
 in-extension-spec = tie.close (tie.spec

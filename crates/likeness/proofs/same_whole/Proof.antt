@@ -1,0 +1,11 @@
+-- `likeness::same_whole` meets its contract.
+-- Assumes nothing.
+use Rattle.likeness.proofs.LikenessLaws.{same-whole-laws}
+use Rattle.likeness.proofs.same_whole.Statement.{statement}
+use Rattle.likeness.proofs.same_whole.Tie as tie
+
+pub same-whole-spec : {M : Type 1} → statement M
+same-whole-spec = tie.close (tie.spec
+    (λ c. search same-whole-laws)
+    (λ c κs. search)
+    (λ c. search same-whole-laws))
