@@ -72,6 +72,7 @@ fn unknown(number: u32, wire: u8, payload: Payload) -> Front
     else {
         return Front::Wrong(Refusal::BadBytes);
     };
+    let next = at + size;
     Front::Leaf {
         entry: Entry {
             number: number,
@@ -82,7 +83,7 @@ fn unknown(number: u32, wire: u8, payload: Payload) -> Front
             value: 0,
             by: Declared::NoDeclaration,
         },
-        next: at + size,
+        next: next,
     }
 }
 
