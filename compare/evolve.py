@@ -93,17 +93,16 @@ class Case:
         if run.bytes is not None:
             self.kind = dotted(run.kind)
             self.lists = pair.listings(self.kind, run.bytes)
-            self.people = [self.for_people(told) for told in self.lists]
+            self.people = [[] if self.lists[0].refused else self.for_people(told) for told in self.lists]
             self.groups.append(self.lists[0].lines() + self.people[0] + self.beside())
             self.note_records()
 
     def for_people(self, told):
-        return people.names(told.sheet.data).lines(self.kind, self.run.bytes, told.rows) if not told.refused else []
+        return people.names(told.sheet.data).lines(self.kind, self.run.bytes, told.rows)
 
     def beside(self):
-        """The newer's records, each with the older's line for it: a record is known by the place of its payload, which no two share."""
-        if self.lists[0].refused or self.lists[1].refused:
-            return []
+        """The newer's records, up to their first fault, each with the older's line for it: a record is known by the place of its payload,
+        which no two share."""
         older = {row[4]: line.lstrip(" ") for row, line in zip(self.lists[0].rows, self.people[0])}
         return ["%s | %s" % (line, older.get(row[4], "-")) for row, line in zip(self.lists[1].rows, self.people[1])]
 
