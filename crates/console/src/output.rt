@@ -1,12 +1,23 @@
 // The lines that programs print.
 ghost use Rattle.basis.specs.Kit.{_≡_};
 ghost use lib.IntN.{natAbs};
+use field::Leaf;
+use field::Span;
+use field::part::span_in;
 use hex::digits::glyph;
 use inputs::words::least;
 use reply::Answer;
 
 pub fn text(bytes: &[u8]) {
     io::write_all(1, bytes);
+}
+
+// The text of a span. One that is none of the bytes has none: this asks nothing of callers, who have spans that no contract speaks of.
+pub fn text_at(s: &[u8], span: Span) {
+    let Leaf::At { from, to } = span_in(s, span) else {
+        return;
+    };
+    text(&s[from..to]);
 }
 
 pub fn number(n: u64) {
@@ -50,6 +61,30 @@ pub fn answer(a: Answer) {
         text(&bytes[..length]);
         text(b"\n");
     }
+}
+
+// The line `bytes`, with the bytes where there are some.
+fn bytes_line(bytes: &[u8]) {
+    text(b"bytes");
+    if bytes.len() != 0 {
+        text(b" ");
+        hex(bytes);
+    }
+    text(b"\n");
+}
+
+// The lines of an answer, and on 0 the option bytes in the lent memory, or `absent`.
+pub fn option_bytes(a: Answer, out: &[u8]) {
+    answer(a);
+    if a.reply != 0 {
+        return;
+    }
+    if a.absent != 0 {
+        text(b"absent\n");
+        return;
+    }
+    let n = least(a.length as usize, out.len());
+    bytes_line(&out[..n]);
 }
 
 fn word(w: u32) {

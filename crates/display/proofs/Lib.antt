@@ -1,1 +1,2 @@
 pub mod PlaceLaws
+pub mod SideLaws

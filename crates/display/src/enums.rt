@@ -1,5 +1,5 @@
 // The name of a value of an enum.
-use crate::name::text_at;
+use console::output::text_at;
 use field::Field;
 use field::Leaf;
 use field::Span;

@@ -4,6 +4,7 @@
 mod enums;
 mod name;
 mod row;
+mod side;
 mod value;
 mod words;
 
@@ -17,6 +18,7 @@ use levels::next;
 use levels::start;
 use limits::MOST_OPTION_BYTES;
 use row::show_row;
+use side::show_pairs;
 
 // The words of a record.
 const RECORD: usize = 8;
@@ -56,4 +58,14 @@ fn rows_over(sheet: &[u8], options_type: &[u8], bytes: &[u8], stack: &mut [usize
 pub fn rows(sheet: &[u8], options_type: &[u8], bytes: &[u8]) {
     let mut stack = [0usize; STACK_WORDS];
     rows_over(sheet, options_type, bytes, &mut stack);
+}
+
+// The records of option bytes under a newer sheet, a line each as in `rows`, with the older's for the same record beside it.
+pub fn side_by_side(newer: &[u8], older: &[u8], options_type: &[u8], bytes: &[u8]) {
+    if MOST_OPTION_BYTES < bytes.len() {
+        return;
+    }
+    let mut stack = [0usize; STACK_WORDS];
+    let mut other = [0usize; STACK_WORDS];
+    show_pairs(newer, older, options_type, bytes, &mut stack, &mut other);
 }

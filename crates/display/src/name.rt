@@ -4,21 +4,11 @@ use crate::words::CLOSED;
 use crate::words::DOT;
 use crate::words::OPENED;
 use crate::words::show_word;
-use console::output::text;
+use console::output::text_at;
 use field::Field;
-use field::Leaf;
 use field::Span;
 use field::field_at;
-use field::part::span_in;
 use sheet::table;
-
-// The text of a span. One that is none of the bytes has none: this asks nothing of callers, who have spans that no contract speaks of.
-pub fn text_at(s: &[u8], span: Span) {
-    let Leaf::At { from, to } = span_in(s, span) else {
-        return;
-    };
-    text(&s[from..to]);
-}
 
 // The package of the file and the names of the messages that a place of the sheet lies in, each with a dot behind it where it is not empty.
 // The way goes into each file and message that the place lies in, and over all that stands before it, as their names do.

@@ -1,6 +1,5 @@
 // A record as a line for people.
 use crate::name::show_full_name;
-use crate::name::text_at;
 use crate::value::show_value;
 use crate::words::BLANK;
 use crate::words::EQUALS;
@@ -9,6 +8,7 @@ use crate::words::UNKNOWN;
 use crate::words::WIRES;
 use crate::words::show_word;
 use console::output::number;
+use console::output::text_at;
 use entries::Entry;
 use entries::Row;
 use field::Span;
@@ -17,7 +17,7 @@ use sheet::declaration::Declared;
 use types::TYPE_MESSAGE;
 
 // Two blanks, and two more for each level: there are 32 at most (MOST_LEVELS).
-fn indent(level: u32) {
+pub fn indent(level: u32) {
     text_at(
         b"                                                                ",
         Span {
@@ -55,13 +55,17 @@ fn show_known(sheet: &[u8], bytes: &[u8], d: Declaration, entry: Entry) {
     }
 }
 
-pub fn show_row(sheet: &[u8], bytes: &[u8], row: Row) {
-    indent(row.level);
-    let entry = row.entry;
+// A record, without the blanks before it and the end of its line.
+pub fn show_entry(sheet: &[u8], bytes: &[u8], entry: Entry) {
     let by = entry.by;
     match by {
         Declared::NoDeclaration => show_unknown(entry.number, entry.wire),
         Declared::Declares(d) => show_known(sheet, bytes, d, entry),
     }
+}
+
+pub fn show_row(sheet: &[u8], bytes: &[u8], row: Row) {
+    indent(row.level);
+    show_entry(sheet, bytes, row.entry);
     show_word(LINE_END);
 }

@@ -1,13 +1,13 @@
 // The words that lines have, in one table: the names of types, by their numbers, and after them those of wire types and all that stands
 // between names and values.
-use crate::name::text_at;
+use console::output::text_at;
 use field::Span;
 use octets::wide;
 
 // The bytes of a row of the table: the length of the word, the word and blanks.
 const ROW: usize = 9;
 
-const ROWS: usize = 43;
+const ROWS: usize = 44;
 
 // The row of wire type 0.
 pub const WIRES: usize = 19;
@@ -39,6 +39,8 @@ pub const BACKSLASH: usize = 37;
 
 // The bytes 9 to 13 in a string: so far below its row is each.
 pub const CONTROLS: usize = 29;
+
+pub const BAR: usize = 43;
 
 // The word in that row. Groups, messages and enums go by their paths and have none; the wire types of groups are never listed.
 pub fn show_word(row: usize) {
@@ -85,7 +87,8 @@ pub fn show_word(row: usize) {
     \x02\\n      \
     \x04\\013    \
     \x04\\014    \
-    \x02\\r      ";
+    \x02\\r      \
+    \x03 |      ";
     if ROWS <= row {
         return;
     }

@@ -4,11 +4,8 @@ ghost use Rattle.basis.specs.Kit.{_≤_, length};
 use console::input::Input;
 use console::input::MOST_BYTES;
 use console::input::field_of;
-use console::output::hex;
-use console::output::text;
+use console::output::option_bytes;
 use field::Leaf;
-use inputs::words::least;
-use reply::Answer;
 
 const SHEET: u8 = 0x40;
 
@@ -17,33 +14,10 @@ const REQUEST: u8 = 0x41;
 // The room that is lent for the option bytes of a case.
 const ROOM: usize = 65_536;
 
-// The line `bytes`, with the bytes where there are some.
-fn tell_bytes(bytes: &[u8]) {
-    text(b"bytes");
-    if bytes.len() != 0 {
-        text(b" ");
-        hex(bytes);
-    }
-    text(b"\n");
-}
-
-// What an answer 0 says of the lent memory.
-fn tell(answer: Answer, out: &[u8]) {
-    if answer.absent != 0 {
-        text(b"absent\n");
-        return;
-    }
-    let n = least(answer.length as usize, out.len());
-    tell_bytes(&out[..n]);
-}
-
 // One case, its option bytes in lent room.
 fn answer_case(sheet: &[u8], request: &[u8], out: &mut [u8]) {
     let answer = resolver::resolve(sheet, request, out);
-    console::output::answer(answer);
-    if answer.reply == 0 {
-        tell(answer, out);
-    }
+    option_bytes(answer, out);
 }
 
 // The case at a place, and where the next one starts; 0 where the input is no such fields.

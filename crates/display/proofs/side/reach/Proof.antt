@@ -1,0 +1,25 @@
+-- `display::side::reach` meets its contract, by its loop's invariant and laws.
+-- Assumes nothing.
+use Rattle.display.proofs.SideLaws.{side-laws}
+use Rattle.basis.specs.Kit.{_≡_, length}
+use Rattle.display.specs.inner.Waits.{Waits, restOf}
+use Rattle.display.proofs.side.reach.Statement.{statement}
+use Rattle.display.proofs.side.reach.Tie as tie
+
+abbrev Inv-loop : tie.InvT-loop
+Inv-loop sheet options-type bytes stack₀ place event₀ stack event = (length stack ≡ length stack₀) × Waits sheet bytes stack event
+
+abbrev μ-loop : tie.MeasureT-loop
+μ-loop sheet options-type bytes stack₀ place event₀ stack event = restOf bytes event
+
+pub reach-spec : {M : Type 1} → statement M
+reach-spec = tie.close (tie.spec Inv-loop μ-loop
+    (λ c. search)
+    (λ c. search)
+    (λ c. search)
+    (λ c. search side-laws)
+    (λ c. search)
+    (λ c. search side-laws)
+    (λ c κs. search side-laws)
+    (λ c. search side-laws)
+    (λ c. search side-laws))
