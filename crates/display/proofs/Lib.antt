@@ -1,2 +1,2 @@
 pub mod PlaceLaws
-pub mod SideLaws
+pub mod WaitsLaws

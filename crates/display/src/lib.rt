@@ -2,6 +2,7 @@
 // value. What is printed is tested, not proved: contracts say what a function needs to be safe and to end. The form of the sheet was tested
 // before.
 mod enums;
+mod first;
 mod name;
 mod row;
 mod side;
@@ -10,12 +11,11 @@ mod words;
 
 ghost use Rattle.basis.specs.Kit.{_≡_, length};
 ghost use Rattle.levels.specs.inner.Stack.{stackWords};
-use fullname::LookedUp;
+use first::first_of;
 use inputs::words::least;
 use levels::Event;
 use levels::STACK_WORDS;
 use levels::next;
-use levels::start;
 use limits::MOST_OPTION_BYTES;
 use row::show_row;
 use side::show_pairs;
@@ -40,16 +40,13 @@ fn rows_over(sheet: &[u8], options_type: &[u8], bytes: &[u8], stack: &mut [usize
     if MOST_OPTION_BYTES < bytes.len() {
         return;
     }
-    let LookedUp::Message(place) = lookups::message(sheet, options_type) else {
-        return;
-    };
-    let mut cursor = start(bytes, stack, place);
+    let mut event = first_of(sheet, options_type, bytes, stack);
     loop {
-        let Event::Record { row, rest } = next(sheet, options_type, bytes, stack, cursor) else {
+        let Event::Record { row, rest } = event else {
             return;
         };
         show_row(sheet, bytes, row);
-        cursor = rest;
+        event = next(sheet, options_type, bytes, stack, rest);
     }
 }
 

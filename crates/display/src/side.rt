@@ -4,6 +4,7 @@ ghost use Rattle.basis.specs.Kit.{_≡_, _≤_, length};
 ghost use Rattle.limits.specs.Figures.{mostOptionBytes};
 ghost use Rattle.levels.specs.inner.Stack.{stackWords};
 ghost use Rattle.display.specs.inner.Waits.{Waits};
+use crate::first::first_of;
 use crate::row::indent;
 use crate::row::show_entry;
 use crate::words::BAR;
@@ -11,23 +12,8 @@ use crate::words::LINE_END;
 use crate::words::MINUS;
 use crate::words::show_word;
 use entries::Row;
-use fullname::LookedUp;
 use levels::Event;
 use levels::next;
-use levels::start;
-
-// The first record under a sheet; none where the options type is not found.
-fn first_of(sheet: &[u8], options_type: &[u8], bytes: &[u8], stack: &mut [usize]) -> Event
-    requires { ⌜ length (now stack) ≡ stackWords ⌝ }
-    requires { ⌜ length (now bytes) ≤ mostOptionBytes ⌝ }
-    ensures { λ r. ⌜ Waits (now (sheet .entry)) (now (bytes .entry)) (now (stack .exit)) r ⌝ }
-{
-    let LookedUp::Message(place) = lookups::message(sheet, options_type) else {
-        return Event::End;
-    };
-    let cursor = start(bytes, stack, place);
-    next(sheet, options_type, bytes, stack, cursor)
-}
 
 // Reads on from a record to the first that does not lie before a place.
 fn reach(

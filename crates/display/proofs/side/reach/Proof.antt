@@ -1,6 +1,6 @@
 -- `display::side::reach` meets its contract, by its loop's invariant and laws.
 -- Assumes nothing.
-use Rattle.display.proofs.SideLaws.{side-laws}
+use Rattle.display.proofs.WaitsLaws.{waits-laws}
 use Rattle.basis.specs.Kit.{_≡_, length}
 use Rattle.display.specs.inner.Waits.{Waits, restOf}
 use Rattle.display.proofs.side.reach.Statement.{statement}
@@ -17,9 +17,9 @@ reach-spec = tie.close (tie.spec Inv-loop μ-loop
     (λ c. search)
     (λ c. search)
     (λ c. search)
-    (λ c. search side-laws)
+    (λ c. search waits-laws)
     (λ c. search)
-    (λ c. search side-laws)
-    (λ c κs. search side-laws)
-    (λ c. search side-laws)
-    (λ c. search side-laws))
+    (λ c. search waits-laws)
+    (λ c κs. search waits-laws)
+    (λ c. search waits-laws)
+    (λ c. search waits-laws))

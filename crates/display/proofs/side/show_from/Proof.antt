@@ -1,6 +1,6 @@
 -- `display::side::show_from` meets its contract, by its loop's invariant and laws.
 -- Assumes nothing.
-use Rattle.display.proofs.SideLaws.{side-laws}
+use Rattle.display.proofs.WaitsLaws.{waits-laws}
 use Rattle.basis.proofs.Kit.{needs}
 use Rattle.basis.specs.Kit.{_≡_, length}
 use Rattle.display.specs.inner.Waits.{Waits, restOf}
@@ -21,7 +21,7 @@ show-from-spec = tie.close (tie.spec Inv-loop μ-loop
     (λ c. search)
     (λ c. search)
     (λ c. search)
-    (λ c κs. search side-laws)
+    (λ c κs. search waits-laws)
     (λ c κs. search)
-    (λ c. search side-laws)
-    (λ c. search (needs, side-laws)))
+    (λ c. search waits-laws)
+    (λ c. search (needs, waits-laws)))

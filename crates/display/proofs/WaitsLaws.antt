@@ -1,4 +1,4 @@
--- What the two columns know: a record that waits, and that reading on from it comes to an end.
+-- A record that waits to be printed: reading goes on after it, and comes to an end.
 -- Assumes nothing.
 use Rattle.basis.specs.Kit.{_≡_, List, ℕ, suc, _-_, _<_, length}
 use Rattle.basis.proofs.Kit.{arith}
@@ -41,4 +41,4 @@ module _ (s type bs : List ℕ) (before : Outcome Row) (c : Cursor) (st : List �
 
 pub ruleset first-laws = (message-lies, start-open, end-waits, moved-waits)
 
-pub ruleset side-laws = (end-waits, waits-open, waits-again, moved-waits, moved-fewer)
+pub ruleset waits-laws = (end-waits, waits-open, waits-again, moved-waits, moved-fewer)
