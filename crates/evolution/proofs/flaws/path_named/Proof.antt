@@ -1,73 +1,16 @@
 -- `evolution::flaws::path_named` meets its contract.
 -- Assumes nothing.
-use Rattle.evolution.proofs.FlawLaws.{names-one-is, path-named-laws, number-flaw-laws, extension-flaw-laws}
-use Rattle.evolution.proofs.LossLaws.{number-loss-laws, enum-loss-laws}
+use Rattle.evolution.proofs.FlawLaws.{path-named-laws}
 use Rattle.basis.proofs.Kit.{needs}
 use Rattle.evolution.proofs.flaws.path_named.Statement.{statement}
 use Rattle.evolution.proofs.flaws.path_named.Tie as tie
 
 pub path-named-spec : {M : Type 1} → statement M
 path-named-spec = tie.close (tie.spec
-    (λ c. search (
-      needs,
-      names-one-is,
-      path-named-laws,
-      number-flaw-laws,
-      extension-flaw-laws,
-      number-loss-laws,
-      enum-loss-laws,
-    ))
-    (λ c κs. search (
-      needs,
-      names-one-is,
-      path-named-laws,
-      number-flaw-laws,
-      extension-flaw-laws,
-      number-loss-laws,
-      enum-loss-laws,
-    ))
-    (λ c. search (
-      needs,
-      names-one-is,
-      path-named-laws,
-      number-flaw-laws,
-      extension-flaw-laws,
-      number-loss-laws,
-      enum-loss-laws,
-    ))
-    (λ c κs. search (
-      needs,
-      names-one-is,
-      path-named-laws,
-      number-flaw-laws,
-      extension-flaw-laws,
-      number-loss-laws,
-      enum-loss-laws,
-    ))
-    (λ c. search (
-      needs,
-      names-one-is,
-      path-named-laws,
-      number-flaw-laws,
-      extension-flaw-laws,
-      number-loss-laws,
-      enum-loss-laws,
-    ))
-    (λ c κs. search (
-      needs,
-      names-one-is,
-      path-named-laws,
-      number-flaw-laws,
-      extension-flaw-laws,
-      number-loss-laws,
-      enum-loss-laws,
-    ))
-    (λ c. search (
-      needs,
-      names-one-is,
-      path-named-laws,
-      number-flaw-laws,
-      extension-flaw-laws,
-      number-loss-laws,
-      enum-loss-laws,
-    )))
+    (λ c. search (needs, path-named-laws))
+    (λ c κs. search (needs, path-named-laws))
+    (λ c. search (needs, path-named-laws))
+    (λ c κs. search (needs, path-named-laws))
+    (λ c. search (needs, path-named-laws))
+    (λ c κs. search (needs, path-named-laws))
+    (λ c. search (needs, path-named-laws)))

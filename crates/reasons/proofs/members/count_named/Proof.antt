@@ -1,7 +1,6 @@
 -- `reasons::members::count_named` meets its contract, by its loop's invariant and laws.
 -- Assumes nothing.
-use Rattle.reasons.proofs.ReasonLaws.{or-no-laws}
-use Rattle.reasons.proofs.MemberLaws.{member-at-laws, one-named-laws, count-named-laws, member-flaw-laws, member-flaws-laws}
+use Rattle.reasons.proofs.MemberLaws.{count-named-laws}
 use Rattle.basis.specs.Kit.{_-_}
 use Rattle.basis.specs.Count.{count}
 use Rattle.basis.proofs.Kit.{needs}
@@ -22,93 +21,13 @@ abbrev μ-loop : tie.MeasureT-loop
 
 pub count-named-spec : {M : Type 1} → statement M
 count-named-spec = tie.close (tie.spec Inv-loop μ-loop
-    (λ c. search (
-      needs,
-      or-no-laws,
-      member-at-laws,
-      one-named-laws,
-      count-named-laws,
-      member-flaw-laws,
-      member-flaws-laws,
-    ))
-    (λ c κs. search (
-      needs,
-      or-no-laws,
-      member-at-laws,
-      one-named-laws,
-      count-named-laws,
-      member-flaw-laws,
-      member-flaws-laws,
-    ))
-    (λ c. search (
-      needs,
-      or-no-laws,
-      member-at-laws,
-      one-named-laws,
-      count-named-laws,
-      member-flaw-laws,
-      member-flaws-laws,
-    ))
-    (λ c. search (
-      needs,
-      or-no-laws,
-      member-at-laws,
-      one-named-laws,
-      count-named-laws,
-      member-flaw-laws,
-      member-flaws-laws,
-    ))
-    (λ c. search (
-      needs,
-      or-no-laws,
-      member-at-laws,
-      one-named-laws,
-      count-named-laws,
-      member-flaw-laws,
-      member-flaws-laws,
-    ))
-    (λ c κs. search (
-      needs,
-      or-no-laws,
-      member-at-laws,
-      one-named-laws,
-      count-named-laws,
-      member-flaw-laws,
-      member-flaws-laws,
-    ))
-    (λ c. search (
-      needs,
-      or-no-laws,
-      member-at-laws,
-      one-named-laws,
-      count-named-laws,
-      member-flaw-laws,
-      member-flaws-laws,
-    ))
-    (λ c. search (
-      needs,
-      or-no-laws,
-      member-at-laws,
-      one-named-laws,
-      count-named-laws,
-      member-flaw-laws,
-      member-flaws-laws,
-    ))
-    (λ c. search (
-      needs,
-      or-no-laws,
-      member-at-laws,
-      one-named-laws,
-      count-named-laws,
-      member-flaw-laws,
-      member-flaws-laws,
-    ))
-    (λ c. search (
-      needs,
-      or-no-laws,
-      member-at-laws,
-      one-named-laws,
-      count-named-laws,
-      member-flaw-laws,
-      member-flaws-laws,
-    )))
+    (λ c. search (needs, count-named-laws))
+    (λ c κs. search (needs, count-named-laws))
+    (λ c. search (needs, count-named-laws))
+    (λ c. search (needs, count-named-laws))
+    (λ c. search (needs, count-named-laws))
+    (λ c κs. search (needs, count-named-laws))
+    (λ c. search (needs, count-named-laws))
+    (λ c. search (needs, count-named-laws))
+    (λ c. search (needs, count-named-laws))
+    (λ c. search (needs, count-named-laws)))

@@ -1,109 +1,20 @@
 -- `reasons::members::member_at` meets its contract.
 -- Assumes nothing.
-use Rattle.reasons.proofs.ReasonLaws.{or-no-laws}
-use Rattle.reasons.proofs.MemberLaws.{member-at-laws, one-named-laws, count-named-laws, member-flaw-laws, member-flaws-laws}
+use Rattle.reasons.proofs.MemberLaws.{member-at-laws}
 use Rattle.basis.proofs.Kit.{needs}
 use Rattle.reasons.proofs.members.member_at.Statement.{statement}
 use Rattle.reasons.proofs.members.member_at.Tie as tie
 
 pub member-at-spec : {M : Type 1} → statement M
 member-at-spec = tie.close (tie.spec
-    (λ c. search (
-      needs,
-      or-no-laws,
-      member-at-laws,
-      one-named-laws,
-      count-named-laws,
-      member-flaw-laws,
-      member-flaws-laws,
-    ))
-    (λ c κs. search (
-      needs,
-      or-no-laws,
-      member-at-laws,
-      one-named-laws,
-      count-named-laws,
-      member-flaw-laws,
-      member-flaws-laws,
-    ))
-    (λ c. search (
-      needs,
-      or-no-laws,
-      member-at-laws,
-      one-named-laws,
-      count-named-laws,
-      member-flaw-laws,
-      member-flaws-laws,
-    ))
-    (λ c. search (
-      needs,
-      or-no-laws,
-      member-at-laws,
-      one-named-laws,
-      count-named-laws,
-      member-flaw-laws,
-      member-flaws-laws,
-    ))
-    (λ c. search (
-      needs,
-      or-no-laws,
-      member-at-laws,
-      one-named-laws,
-      count-named-laws,
-      member-flaw-laws,
-      member-flaws-laws,
-    ))
-    (λ c. search (
-      needs,
-      or-no-laws,
-      member-at-laws,
-      one-named-laws,
-      count-named-laws,
-      member-flaw-laws,
-      member-flaws-laws,
-    ))
-    (λ c κs. search (
-      needs,
-      or-no-laws,
-      member-at-laws,
-      one-named-laws,
-      count-named-laws,
-      member-flaw-laws,
-      member-flaws-laws,
-    ))
-    (λ c. search (
-      needs,
-      or-no-laws,
-      member-at-laws,
-      one-named-laws,
-      count-named-laws,
-      member-flaw-laws,
-      member-flaws-laws,
-    ))
-    (λ c. search (
-      needs,
-      or-no-laws,
-      member-at-laws,
-      one-named-laws,
-      count-named-laws,
-      member-flaw-laws,
-      member-flaws-laws,
-    ))
-    (λ c. search (
-      needs,
-      or-no-laws,
-      member-at-laws,
-      one-named-laws,
-      count-named-laws,
-      member-flaw-laws,
-      member-flaws-laws,
-    ))
-    (λ c. search (
-      needs,
-      or-no-laws,
-      member-at-laws,
-      one-named-laws,
-      count-named-laws,
-      member-flaw-laws,
-      member-flaws-laws,
-    )))
+    (λ c. search (needs, member-at-laws))
+    (λ c κs. search (needs, member-at-laws))
+    (λ c. search (needs, member-at-laws))
+    (λ c. search (needs, member-at-laws))
+    (λ c. search (needs, member-at-laws))
+    (λ c. search (needs, member-at-laws))
+    (λ c κs. search (needs, member-at-laws))
+    (λ c. search (needs, member-at-laws))
+    (λ c. search (needs, member-at-laws))
+    (λ c. search (needs, member-at-laws))
+    (λ c. search (needs, member-at-laws)))
