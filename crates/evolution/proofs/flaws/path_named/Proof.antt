@@ -7,10 +7,10 @@ use Rattle.evolution.proofs.flaws.path_named.Tie as tie
 
 pub path-named-spec : {M : Type 1} → statement M
 path-named-spec = tie.close (tie.spec
-    (λ c. search (needs, path-named-laws))
-    (λ c κs. search (needs, path-named-laws))
-    (λ c. search (needs, path-named-laws))
-    (λ c κs. search (needs, path-named-laws))
-    (λ c. search (needs, path-named-laws))
-    (λ c κs. search (needs, path-named-laws))
-    (λ c. search (needs, path-named-laws)))
+    (λ c. search needs)
+    (λ c κs. search)
+    (λ c. search path-named-laws)
+    (λ c κs. search)
+    (λ c. search path-named-laws)
+    (λ c κs. search)
+    (λ c. search path-named-laws))

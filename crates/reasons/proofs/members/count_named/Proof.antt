@@ -21,13 +21,13 @@ abbrev μ-loop : tie.MeasureT-loop
 
 pub count-named-spec : {M : Type 1} → statement M
 count-named-spec = tie.close (tie.spec Inv-loop μ-loop
-    (λ c. search (needs, count-named-laws))
-    (λ c κs. search (needs, count-named-laws))
-    (λ c. search (needs, count-named-laws))
-    (λ c. search (needs, count-named-laws))
-    (λ c. search (needs, count-named-laws))
-    (λ c κs. search (needs, count-named-laws))
-    (λ c. search (needs, count-named-laws))
-    (λ c. search (needs, count-named-laws))
-    (λ c. search (needs, count-named-laws))
-    (λ c. search (needs, count-named-laws)))
+    (λ c. search count-named-laws)
+    (λ c κs. search)
+    (λ c. search)
+    (λ c. search)
+    (λ c. search count-named-laws)
+    (λ c κs. search count-named-laws)
+    (λ c. search needs)
+    (λ c. search count-named-laws)
+    (λ c. search count-named-laws)
+    (λ c. search count-named-laws))

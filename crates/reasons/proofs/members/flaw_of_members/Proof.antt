@@ -2,7 +2,6 @@
 -- Assumes nothing.
 use Rattle.reasons.proofs.MemberLaws.{member-flaws-laws}
 use Rattle.basis.specs.Kit.{_-_}
-use Rattle.basis.proofs.Kit.{needs}
 use Rattle.field.specs.Walk.{walk}
 use Rattle.field.proofs.Seek.{Seeking}
 use Rattle.reasons.specs.declared.Reason.the-variants.{Yes}
@@ -21,15 +20,15 @@ abbrev μ-loop : tie.MeasureT-loop
 
 pub flaw-of-members-spec : {M : Type 1} → statement M
 flaw-of-members-spec = tie.close (tie.spec Inv-loop μ-loop
-    (λ c. search (needs, member-flaws-laws))
-    (λ c κs. search (needs, member-flaws-laws))
-    (λ c. search (needs, member-flaws-laws))
-    (λ c. search (needs, member-flaws-laws))
-    (λ c. search (needs, member-flaws-laws))
-    (λ c κs. search (needs, member-flaws-laws))
-    (λ c. search (needs, member-flaws-laws))
-    (λ c. search (needs, member-flaws-laws))
-    (λ c. search (needs, member-flaws-laws))
-    (λ c. search (needs, member-flaws-laws))
-    (λ c. search (needs, member-flaws-laws))
-    (λ c. search (needs, member-flaws-laws)))
+    (λ c. search member-flaws-laws)
+    (λ c κs. search)
+    (λ c. search)
+    (λ c. search)
+    (λ c. search member-flaws-laws)
+    (λ c κs. search member-flaws-laws)
+    (λ c. search)
+    (λ c. search member-flaws-laws)
+    (λ c. search)
+    (λ c. search member-flaws-laws)
+    (λ c. search member-flaws-laws)
+    (λ c. search member-flaws-laws))
