@@ -22,7 +22,7 @@ use Rattle.fullname.specs.declared.LookedUpEnum.{LookedUpEnum}
 use Rattle.fullname.specs.declared.LookedUpEnum.the-variants.{Values, NoEnum}
 use Rattle.scopes.specs.Scopes.{scopes}
 use Rattle.fullname.specs.FullName.{messagesAt, enumsAt, lookedUp, lookedUpEnum}
-use Rattle.scopes.proofs.Sheets.{file, message, extension, field, value, enum}
+use Rattle.sheet.proofs.Sheets.{file, message, extension, field, value, enum}
 
 -- of a message that is found the index of its file and the number of its first field, of an enum the number of its first value; of one that
 -- is not found, the reply's number

@@ -15,7 +15,7 @@ use Rattle.field.specs.Walk.{walkBy}
 use Rattle.sheet.specs.Table.{extensionTag, fieldTag, nameTag, extendeeTag, numberTag, typeTag, labelTag, typePathTag}
 use Rattle.sheet.specs.Declaration.{hasTypePath, typePathAt, shapeAt, extensionAt, messageFieldAt, valueAt}
 use Rattle.sheet.specs.Tree.{valueIn, itemIn, itemsIn, fileIn, treeOf}
-use Rattle.scopes.proofs.Sheets.{tagged, four, file, message, extension, field, value, enum}
+use Rattle.sheet.proofs.Sheets.{tagged, four, file, message, extension, field, value, enum}
 use Rattle.names.specs.Names.{everyDeclared, tagOf}
 use Rattle.names.specs.Clean as clean
 use Rattle.names.specs.Contained as contained

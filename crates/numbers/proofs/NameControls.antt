@@ -13,7 +13,7 @@ use Rattle.sheet.specs.Declaration.{hasTypePath, typePathAt, shapeAt, extension
 use Rattle.sheet.specs.Tree.{valueIn, itemIn, itemsIn, fileIn, treeOf}
 use Rattle.scope.specs.Scope.{Scope, holding}
 use Rattle.scopes.specs.Scopes.{scopes}
-use Rattle.scopes.proofs.Sheets.{file, message, extension, field}
+use Rattle.sheet.proofs.Sheets.{file, message, extension, field}
 use Rattle.fullname.specs.FullName.{messagesAt}
 use Rattle.numbers.specs.Number.{declarationOf}
 

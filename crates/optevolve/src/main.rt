@@ -4,8 +4,6 @@
 // against it; then, of a request, what `optlower` prints, what `optlist` prints of these bytes under the older sheet, and the records of
 // both sheets side by side.
 mod lowered;
-mod reason;
-mod words;
 
 ghost use Rattle.basis.specs.Kit.{_≤_, length};
 use console::input::Input;
@@ -14,7 +12,7 @@ use console::input::field_of;
 use field::Leaf;
 use field::leaf_at;
 use lowered::tell_request;
-use reason::tell_evolution;
+use wording::tell_evolution;
 
 const SHEET: u8 = 0x40;
 

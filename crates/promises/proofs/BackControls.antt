@@ -17,7 +17,7 @@ use Rattle.sheet.specs.Declaration.{hasTypePath, typePathAt, shapeAt, extension
 use Rattle.sheet.specs.Tree.{File, valueIn, itemIn, itemsIn, fileIn, treeOf}
 use Rattle.scope.specs.Scope.{holding}
 use Rattle.scopes.specs.Scopes.{scopes}
-use Rattle.scopes.proofs.Sheets.{file, message, field, extension}
+use Rattle.sheet.proofs.Sheets.{file, message, field, extension}
 use Rattle.fullname.specs.declared.LookedUp.the-variants.{Message as Found}
 use Rattle.fullname.specs.FullName.{messagesAt}
 use Rattle.lookups.specs.Lookups.{Message, walking}

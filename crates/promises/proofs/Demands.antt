@@ -7,6 +7,7 @@ use Rattle.reply.specs.declared.Refusal.the-variants.{NoRoom}
 use Rattle.reply.specs.declared.Answer.{Answer}
 use Rattle.reply.specs.Outcome.{Outcome, refuse, nothing, give, answerOf, leftOf, Answered}
 use Rattle.reply.specs.Outcome as outcome
+use Rattle.search.proofs.Theorems.{tried-answers, answers-tried}
 use Rattle.lookups.specs.Lookups.{walking}
 use Rattle.readback.proofs.UnderLaws.{under-reading}
 use Rattle.readback.proofs.EncodedLaws.{reading-encoded}
@@ -29,6 +30,8 @@ module _ {A : Type 0} (before after : List A) (a : Answer) where
 
 pub by-rule : (s : List ℕ) → ByRule s
 by-rule s = record {
+  looked-up-only = λ scope name c e. tried-answers s scope name c e;
+  looked-up-whenever = λ scope name h c a. answers-tried s scope name h c a;
   written = λ r b c x e. resolved-reads-back s r b c x e;
   listed = λ type bs m t e.
       let read = under-reading (walking s) s type bs m t e in

@@ -13,7 +13,7 @@ use Rattle.candidates.specs.Candidates.{ancestors, candidates}
 use Rattle.sheet.specs.Declaration.{hasTypePath, typePathAt, shapeAt, extensionAt, messageFieldAt, valueAt}
 use Rattle.sheet.specs.Tree.{valueIn, itemIn, itemsIn, fileIn, treeOf}
 use Rattle.scopes.specs.Scopes.{scopes}
-use Rattle.scopes.proofs.Sheets.{file, message, extension, field}
+use Rattle.sheet.proofs.Sheets.{file, message, extension, field}
 use Rattle.fullname.specs.declared.LookedUp.{LookedUp}
 use Rattle.fullname.specs.declared.LookedUp.the-variants.{Message as Is, NoMessage}
 use Rattle.fullname.specs.FullName.{messagesAt}

@@ -15,7 +15,7 @@ use Prim.Native.String.{String}
 use Rattle.octets.specs.Ascii.{ascii}
 use Rattle.sheet.specs.Table.{extensionTag, fieldTag, nameTag, extendeeTag, numberTag, typeTag, labelTag, typePathTag}
 use Rattle.request.specs.Table as tags
-use Rattle.scopes.proofs.Sheets.{tagged, four}
+use Rattle.sheet.proofs.Sheets.{tagged, four}
 
 -- ---- sheets
 abbrev pub fieldOptions : String

@@ -2,7 +2,8 @@
 --
 --   FromTable o before after a <-> what a call that comes to o answers, a, and leaves in the lent memory, `after`, is 01's: a refusal by its
 --                                  number, which has written nothing; Absent; elements, where there is room; and NoRoom for elements alone
---                     ByRule s <-> what is written under a sheet, what is listed, and when an extension is not found, are Encoding's and 01's
+--                     ByRule s <-> what is looked up in a sheet, what is written and what is listed under it, and when an extension is not
+--                                  found, are Encoding's and 01's
 --
 -- Assumes nothing.
 use Rattle.basis.specs.Kit.{_≡_, true, List, _++_, some, ℕ, _≤_, _<_, length, drop}
@@ -16,7 +17,10 @@ use Rattle.reply.specs.Outcome.{Outcome, refuse, nothing, give}
 use Rattle.path.specs.Path.{Path, isPath}
 use Rattle.candidates.specs.Candidates.{candidates}
 use Rattle.field.specs.Leaf.{text}
-use Rattle.search.specs.Answers.{Undeclared}
+use Rattle.search.specs.declared.extension.Candidate.{Candidate}
+use Rattle.search.specs.declared.extension.Tried.the-variants.{Answers}
+use Rattle.search.specs.Lookup.{tried}
+use Rattle.search.specs.Answers.{Undeclared, AnswersAt}
 use Rattle.request.specs.declared.name.Part.{Part}
 use Rattle.records.specs.Records.{Recs, encode}
 use Rattle.records.specs.Raw.{rawOf, rawsOf}
@@ -44,6 +48,9 @@ pub data FromTable {A : Type 0} (o : Outcome A) (before after : List A) (a : Ans
 -- "2. Lookup, bytes, .. and the listing are proved against definitions from the protobuf encoding document and 01's search rule. An
 -- extension part that is reached gets ExtensionNotFound exactly when none of 01's scopes at its candidate paths declares that name."
 pub record ByRule (s : List ℕ) : Type 0 where
+  pub looked-up-only : (scope name : List ℕ) (c : Candidate) → tried s scope name ≡ Answers c → AnswersAt s scope name c
+  pub looked-up-whenever : (scope name : List ℕ) → isPath name ≡ true → (c : Candidate) → AnswersAt s scope name c
+      → tried s scope name ≡ Answers c
   pub written : (r : List ℕ) → Bytes s → Bytes r → (x : Recs) → resolving s r ≡ records x → rawOf (encode x) ≡ some (rawsOf x)
   pub listed : (type bs : List ℕ) (m : Message) (t : Tree) → recordsOf (walking s) s type bs ≡ under m t
       → Encoded bs bs t × Knows (walking s) s m t

@@ -32,7 +32,7 @@ use Rattle.request.specs.Name.{partOf}
 use Rattle.constantform.specs.Leaves.{goodPart}
 use Rattle.requestform.specs.Form.{judgeOptionsType, judgeName}
 use Rattle.scopes.specs.Scopes.{scopes}
-use Rattle.scopes.proofs.Sheets.{tagged, four, file, message}
+use Rattle.sheet.proofs.Sheets.{tagged, four, file, message}
 use Rattle.numbers.specs.Number.{declarationOf}
 use Rattle.fullname.specs.FullName.{messagesAt}
 use Rattle.search.specs.Lookup.{foundAt, tried, extResolveField}

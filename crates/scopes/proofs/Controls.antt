@@ -12,7 +12,7 @@ use Rattle.path.specs.Path.{onFirst, split, components, spell}
 use Rattle.sheet.specs.Declaration.{hasTypePath, typePathAt, shapeAt, extensionAt, messageFieldAt, valueAt}
 use Rattle.sheet.specs.Tree.{valueIn, itemIn, itemsIn, fileIn, treeOf}
 use Rattle.scopes.specs.Scopes.{scopes}
-use Rattle.scopes.proofs.Sheets.{file, message}
+use Rattle.sheet.proofs.Sheets.{file, message}
 
 -- a sheet, a path in it, and the indices of the files of the scopes there
 record Case : Type 0 where

@@ -1,5 +1,4 @@
 pub mod PlacedLaws
 pub mod ScopeFiles
 pub mod Standing
-pub mod Sheets
 pub mod Controls

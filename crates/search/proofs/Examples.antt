@@ -17,7 +17,7 @@ use Rattle.search.specs.declared.extension.Compared.{Compared}
 use Rattle.search.specs.declared.extension.Compared.the-variants.{Extends, ExtendsOther, Refused}
 use Rattle.scopes.specs.Scopes.{scopes}
 use Rattle.search.specs.Lookup.{foundAt, tried, extResolveField}
-use Rattle.scopes.proofs.Sheets.{file, message, extension}
+use Rattle.sheet.proofs.Sheets.{file, message, extension}
 
 -- ---- the sheets
 abbrev options : String

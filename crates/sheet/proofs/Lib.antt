@@ -4,4 +4,5 @@ pub mod PlaceLaws
 pub mod TreeLaws
 pub mod MemberLaws
 pub mod LyingLaws
+pub mod Sheets
 pub mod Controls

@@ -1,12 +1,8 @@
 // Whether sheets are clean and one is contained in the other, as lines, with the first reason against it in words.
+mod words;
+
 ghost use Rattle.basis.specs.Kit.{_≤_, length};
 ghost use Rattle.limits.specs.Figures.{mostSheet};
-use crate::words::CLEAN;
-use crate::words::CONTAINED;
-use crate::words::NO;
-use crate::words::YES;
-use crate::words::row_of;
-use crate::words::show_word;
 use console::output::text_at;
 use evolution::why_unclean;
 use evolution::why_uncontained;
@@ -16,6 +12,12 @@ use reasons::Reason;
 use reasons::Why;
 use roster::Nth;
 use roster::nth_declared;
+use words::CLEAN;
+use words::CONTAINED;
+use words::NO;
+use words::YES;
+use words::row_of;
+use words::show_word;
 
 // The full name of the i-th declaration, with room for it.
 fn show_name(sheet: &[u8], i: usize, room: &mut [u8])

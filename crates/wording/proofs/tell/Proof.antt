@@ -1,9 +1,9 @@
--- `optevolve::reason::tell` meets its contract. The room's length is a law and not computed: its elements take antt seconds.
+-- `wording::tell` meets its contract. The room's length is a law and not computed: its elements take antt seconds.
 -- Assumes nothing.
 use Rattle.basis.specs.Kit.{sym, ℕ}
 use lib.ListN.{length-replicate}
-use Rattle.optevolve.proofs.reason.tell.Statement.{statement}
-use Rattle.optevolve.proofs.reason.tell.Tie as tie
+use Rattle.wording.proofs.tell.Statement.{statement}
+use Rattle.wording.proofs.tell.Tie as tie
 
 pub tell-spec : {M : Type 1} → statement M
 tell-spec = tie.close (tie.spec
