@@ -17,8 +17,9 @@ use Rattle.varint.specs.declared.Read.the-variants.{Varint, Bad}
 use Rattle.varint.specs.Varint.{readVarint, atPlace, varintAt}
 use Rattle.wire.specs.Tag.{numberOf, wireTypeOf, tagGood}
 use Rattle.payloads.specs.Extent.{Extent, payloadAt}
-use Rattle.payloads.specs.Value.{said}
+use Rattle.payloads.specs.Value.{said, valueOf}
 use Rattle.payloads.specs.inner.Placed.{placed, payloadIn}
+use Rattle.taken.specs.inner.Taking.{unknownTaken, plainTaken, knownTaken}
 use Rattle.sheet.specs.declared.declaration.Declaration.{Declaration}
 use Rattle.fullname.specs.declared.LookedUp.{LookedUp}
 use Rattle.fullname.specs.declared.LookedUp.the-variants.{Message as Found, NoMessage}
@@ -27,15 +28,15 @@ use Rattle.entries.specs.declared.Entry.{Entry}
 use Rattle.entries.specs.declared.Front.{Front}
 use Rattle.entries.specs.declared.Front.the-variants.{Leaf, Wrong}
 use Rattle.entries.specs.Item.{Item, some, wrong, declared, entered, entry, plain, byDeclaration, byTag, item}
-use Rattle.entries.specs.inner.Fronts.{unknownOf, onMessage, enteredOf, entryOf, plainOf, knownOf, byDeclared, behindTag}
+use Rattle.entries.specs.inner.Fronts.{unknownOf, onMessage, enteredOf, entryOf, knownFront, knownOf, byDeclared, behindTag}
 use Rattle.entries.specs.inner.Fronts.{Shows, leaf, inside, wrongly}
 use Rattle.entries.proofs.PartLaws.{part-behind}
 
 -- ---- behind a good tag of n bytes
-shows-either : (s : List ℕ) (at : ℕ) (b : Bool) (i j : Item) (f g : Front) → Shows s at i f → Shows s at j g
-    → Shows s at (elim b [ true ↦ i | false ↦ j ]) (elim b [ true ↦ f | false ↦ g ])
-shows-either s at true i j f g p q = p
-shows-either s at false i j f g p q = q
+shows-either : {A : Type 0} (s : List ℕ) (at : ℕ) (f : A → Front) (b : Bool) (i j : Item) (x y : A) → Shows s at i (f x) → Shows s at j (f y)
+    → Shows s at (elim b [ true ↦ i | false ↦ j ]) (f (elim b [ true ↦ x | false ↦ y ]))
+shows-either s at f true i j x y p q = p
+shows-either s at f false i j x y p q = q
 
 shows-message : (s : List ℕ) (at : ℕ) (e : Entry) (p : Span) (skip : ℕ) → e .place ≡ at + skip → (u : LookedUp)
     → Shows s at (entered e (text s p) skip (e .size) u) (onMessage e p u)
@@ -52,7 +53,9 @@ module _ (L : Lookups) (s : List ℕ) (m : Message) (at : ℕ) (bs : List ℕ) (
     here = entry L s m at bs d t n x
 
     abbrev there : Entry
-    there = entryOf d (numberOf t) w (at + n + x .before) (x .size) (said w (take (x .size) (drop (x .before) (drop n bs))))
+    there =
+        entryOf d (numberOf t) w (at + n + x .before) (x .size)
+        (valueOf (d .shape .typ) (said w (take (x .size) (drop (x .before) (drop n bs)))))
 
     same-entry : there ≡ here
     same-entry = rw (add-assoc, drop-drop)
@@ -66,16 +69,18 @@ module _ (L : Lookups) (s : List ℕ) (m : Message) (at : ℕ) (bs : List ℕ) (
     shows-inside = rw same-entry (shows-message s at here (d .shape .path) (n + x .before) refl (L .message (text s (d .shape .path))))
 
   shows-plain : (d : Declaration) (x : Option Extent)
-      → Shows s at (plain L s m at bs d t n x) (plainOf L s d (numberOf t) w (placed w (drop n bs) (at + n) x))
+      → Shows s at (plain L s m at bs d t n x)
+      (knownFront L s d (numberOf t) w (plainTaken (d .shape .typ) (placed w (drop n bs) (at + n) x)))
   shows-plain d none = wrongly
-  shows-plain d (is x) = shows-either s at (eqb (d .shape .typ) TYPE_MESSAGE) _ _ _ _ (shows-inside d x) (shows-leaf d x)
+  shows-plain d (is x) = shows-either s at (λ f. f) (eqb (d .shape .typ) TYPE_MESSAGE) _ _ _ _ (shows-inside d x) (shows-leaf d x)
 
   shows-declared : (d : Option Declaration) (x : Option Extent)
       → Shows s at (byDeclaration L s m at bs d t n x) (byDeclared L s d (numberOf t) w (placed w (drop n bs) (at + n) x))
-  unfolding unknownOf knownOf
+  unfolding unknownOf unknownTaken knownOf knownTaken
   shows-declared none none = wrongly
   shows-declared none (is x) = simp add-assoc leaf
-  shows-declared (is d) x = shows-either s at (eqb (wireOf (d .shape .typ)) w) _ _ _ _ (shows-plain d x) wrongly
+  shows-declared (is d) x =
+      shows-either s at (knownFront L s d (numberOf t) w) (eqb (wireOf (d .shape .typ)) w) _ _ _ _ (shows-plain d x) wrongly
 
 -- ---- the item by its tag
 module _ (L : Lookups) (s : List ℕ) (m : Message) (at : ℕ) (bs : List ℕ) where

@@ -15,6 +15,8 @@ use Rattle.payloads.specs.declared.Payload.{Payload}
 use Rattle.payloads.specs.declared.Payload.the-variants.{Whole, Cut}
 use Rattle.payloads.specs.inner.Placed.{payloadIn}
 use Rattle.payloads.proofs.PayloadFacts.{payload-after, payload-inside}
+use Rattle.payloads.specs.Value.{valueOf}
+use Rattle.taken.specs.inner.Taking.{PayloadIn, unknownTaken, plainTaken, knownTaken}
 use Rattle.sheet.specs.declared.declaration.Declaration.{Declaration}
 use Rattle.sheet.specs.declared.declaration.Declared.{Declared}
 use Rattle.sheet.specs.declared.declaration.Declared.the-variants.{Declares}
@@ -31,7 +33,7 @@ use Rattle.entries.specs.declared.Entry.{Entry}
 use Rattle.entries.specs.declared.Front.{Front}
 use Rattle.entries.specs.declared.Front.the-variants.{Wrong}
 use Rattle.entries.specs.Item.{declared}
-use Rattle.entries.specs.inner.Fronts.{message, PayloadIn, unknownOf, onMessage, enteredOf, entryOf, plainOf, knownOf, byDeclared}
+use Rattle.entries.specs.inner.Fronts.{message, unknownOf, onMessage, enteredOf, entryOf, knownFront, knownOf, byDeclared}
 use Rattle.entries.specs.inner.Fronts.{behindTag, FrontLies}
 use Rattle.entries.proofs.Either.{either}
 use Rattle.entries.proofs.FrontLaws.{front-laws}
@@ -49,7 +51,7 @@ payload-between w bs next end h (Whole at size v) q =
 -- ---- the record behind a tag
 module _ (s : List ℕ) (at next end : ℕ) (h : at < next) where
   unknown-lies : (k w : ℕ) (p : Payload) → Between next end p → FrontLies s at end (unknownOf k w p)
-  unfolding unknownOf FrontLies
+  unfolding unknownOf unknownTaken FrontLies
   unknown-lies k w Cut b = tt
   unknown-lies k w (Whole a size v) b = (omega arith, omega arith)
 
@@ -60,17 +62,20 @@ module _ (s : List ℕ) (at next end : ℕ) (h : at < next) where
     message-found e i j (NoMessage w) q = tt
     message-found e i j (Found p) q = (i, j, l, message-lies s (text s (d .shape .path)) (Found p) q p refl)
 
-    plain-lies : (k w : ℕ) (p : Payload) → Between next end p → FrontLies s at end (plainOf (walking s) s d k w p)
+    plain-lies : (k w : ℕ) (p : Payload) → Between next end p
+        → FrontLies s at end (knownFront (walking s) s d k w (plainTaken (d .shape .typ) p))
     unfolding enteredOf FrontLies
     plain-lies k w Cut b = tt
     plain-lies k w (Whole a size v) b =
         either (FrontLies s at end) (eqb (d .shape .typ) TYPE_MESSAGE) _ _
-        (message-found (entryOf d k w a size v) (omega arith) (omega arith) (walking s .message (text s (d .shape .path))) refl)
+        (message-found (entryOf d k w a size (valueOf (d .shape .typ) v)) (omega arith) (omega arith)
+        (walking s .message (text s (d .shape .path))) refl)
         (omega arith, omega arith)
 
     known-lies : (k w : ℕ) (p : Payload) → Between next end p → FrontLies s at end (knownOf (walking s) s d k w p)
-    unfolding knownOf FrontLies
-    known-lies k w p b = either (FrontLies s at end) (eqb (wireOf (d .shape .typ)) w) _ _ (plain-lies k w p b) tt
+    unfolding knownOf knownTaken FrontLies
+    known-lies k w p b =
+        either (λ x. FrontLies s at end (knownFront (walking s) s d k w x)) (eqb (wireOf (d .shape .typ)) w) _ _ (plain-lies k w p b) tt
 
   declared-lies : (k w : ℕ) (p : Payload) → Between next end p → (o : Option Declaration)
       → ((d : Declaration) → o ≡ is d → Lies (d .shape .path) s) → FrontLies s at end (byDeclared (walking s) s o k w p)

@@ -1,26 +1,28 @@
 // One record of option bytes, read under a message of the sheet: what declares its number, its payload and its value; a known message's own
 // place in the sheet.
-ghost use Rattle.basis.specs.Kit.{_≡_, true, _+_, _≤_, length};
+ghost use Rattle.basis.specs.Kit.{_≡_, true, _≤_, length};
 ghost use Rattle.limits.specs.Figures.{mostOptionBytes};
 ghost use Rattle.octets.specs.Octets.{part};
 ghost use Rattle.field.specs.Leaf.{Lies};
 ghost use Rattle.wire.specs.Tag.{tagGood};
 ghost use Rattle.scope.specs.inner.Answers.{InSheet};
+ghost use Rattle.taken.specs.inner.Taking.{PayloadIn};
 ghost use Rattle.lookups.specs.Lookups.{walking};
 ghost use Rattle.entries.specs.Item.{item};
-ghost use Rattle.entries.specs.inner.Fronts.{message as messageOf, unknownOf, knownOf, enteredOf, behindTag, PayloadIn, Shows, FrontLies};
+ghost use Rattle.entries.specs.inner.Fronts.{message as messageOf, unknownOf, knownOf, enteredOf, behindTag, Shows, FrontLies};
 use field::Span;
 use fullname::LookedUp;
 use numbers::declaration_of;
 use payloads::Payload;
 use payloads::payload_at;
-use payloads::value_of;
 use reply::Refusal;
 use scope::lookup::LookupScope;
 use sheet::declaration::Declaration;
 use sheet::declaration::Declared;
+use taken::Taken;
+use taken::take_known;
+use taken::take_unknown;
 use types::TYPE_MESSAGE;
-use types::wire_of;
 use varint::Read;
 use varint::varint_at;
 use wire::tag::number_of;
@@ -64,26 +66,25 @@ fn unknown(number: u32, wire: u8, payload: Payload) -> Front
     requires { ⌜ PayloadIn mostOptionBytes payload ⌝ }
     ensures { λ r. ⌜ r ≡ unknownOf number wire payload ⌝ }
 {
-    let Payload::Whole {
-        at,
-        size,
-        number: _,
-    } = payload
-    else {
-        return Front::Wrong(Refusal::BadBytes);
-    };
-    let next = at + size;
-    Front::Leaf {
-        entry: Entry {
-            number: number,
-            typ: 0,
-            wire: wire,
-            place: at as u32,
-            size: size as u32,
-            value: 0,
-            by: Declared::NoDeclaration,
+    match take_unknown(payload) {
+        Taken::Wrong(why) => Front::Wrong(why),
+        Taken::Record {
+            place,
+            size,
+            value,
+            next,
+        } => Front::Leaf {
+            entry: Entry {
+                number: number,
+                typ: 0,
+                wire: wire,
+                place: place,
+                size: size,
+                value: value,
+                by: Declared::NoDeclaration,
+            },
+            next: next,
         },
-        next: next,
     }
 }
 
@@ -109,32 +110,31 @@ fn known(sheet: &[u8], d: Declaration, number: u32, wire: u8, payload: Payload) 
     ensures { λ r. ⌜ r ≡ knownOf (walking (now (sheet .entry))) (now (sheet .entry)) d number wire payload ⌝ }
 {
     let typ = octets::wide(d.shape.typ);
-    if wire_of(typ) != wire {
-        return Front::Wrong(Refusal::WireMismatch);
-    }
-    let Payload::Whole {
-        at,
-        size,
-        number: said,
-    } = payload
-    else {
-        return Front::Wrong(Refusal::BadBytes);
-    };
-    let entry = Entry {
-        number: number,
-        typ: d.shape.typ,
-        wire: wire,
-        place: at as u32,
-        size: size as u32,
-        value: value_of(typ, said),
-        by: Declared::Declares(d),
-    };
-    if typ == TYPE_MESSAGE {
-        return entered(sheet, entry, d.shape.path);
-    }
-    Front::Leaf {
-        entry: entry,
-        next: at + size,
+    match take_known(typ, wire, payload) {
+        Taken::Wrong(why) => Front::Wrong(why),
+        Taken::Record {
+            place,
+            size,
+            value,
+            next,
+        } => {
+            let entry = Entry {
+                number: number,
+                typ: d.shape.typ,
+                wire: wire,
+                place: place,
+                size: size,
+                value: value,
+                by: Declared::Declares(d),
+            };
+            if typ == TYPE_MESSAGE {
+                return entered(sheet, entry, d.shape.path);
+            }
+            Front::Leaf {
+                entry: entry,
+                next: next,
+            }
+        }
     }
 }
 

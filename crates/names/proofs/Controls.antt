@@ -1,9 +1,5 @@
 -- Closed cases of full names, of clean sheets and of contained ones, which the checker computes: of each sentence of 01 sheets that it
 -- passes, at its border, and sheets that it alone refuses.
---
---     fieldTo l n k t p == a field of the label l, the name n, the number k, the type t and the type path p, left out where it is empty
---   extensionTo n m k t p == an optional extension of the name n and of the message m, likewise
---
 -- Assumes nothing.
 use Rattle.basis.specs.Kit.{_≡_, refl, Bool, true, false, List, [], _∷_, _++_, map, ℕ}
 use Prim.Native.String.{String}
@@ -12,10 +8,9 @@ use Rattle.octets.specs.Ascii.{ascii}
 use Rattle.field.specs.Field.{fieldAt}
 use Rattle.field.specs.Leaf.{leafAt}
 use Rattle.field.specs.Walk.{walkBy}
-use Rattle.sheet.specs.Table.{extensionTag, fieldTag, nameTag, extendeeTag, numberTag, typeTag, labelTag, typePathTag}
 use Rattle.sheet.specs.Declaration.{hasTypePath, typePathAt, shapeAt, extensionAt, messageFieldAt, valueAt}
 use Rattle.sheet.specs.Tree.{valueIn, itemIn, itemsIn, fileIn, treeOf}
-use Rattle.sheet.proofs.Sheets.{tagged, four, file, message, extension, field, value, enum}
+use Rattle.sheet.proofs.Sheets.{file, message, extensionTo, fieldWith, extension, field, value, enum}
 use Rattle.names.specs.Names.{everyDeclared, tagOf}
 use Rattle.names.specs.Clean as clean
 use Rattle.names.specs.Contained as contained
@@ -60,19 +55,6 @@ unfolding declared
 declared-all = refl
 
 -- ---- clean
-abbrev typePath : List ℕ → List ℕ
-typePath [] = []
-typePath (c ∷ cs) = tagged typePathTag (c ∷ cs)
-
-abbrev shaped : ℕ → ℕ → ℕ → String → List ℕ
-shaped l n t p = tagged numberTag (four n) ++ tagged typeTag (t ∷ []) ++ tagged labelTag (l ∷ []) ++ typePath (ascii p)
-
-abbrev fieldTo : ℕ → String → ℕ → ℕ → String → List ℕ
-fieldTo l name n t p = tagged fieldTag (tagged nameTag (ascii name) ++ shaped l n t p)
-
-abbrev extensionTo : String → String → ℕ → ℕ → String → List ℕ
-extensionTo name m n t p = tagged extensionTag (tagged nameTag (ascii name) ++ tagged extendeeTag (ascii m) ++ shaped 1 n t p)
-
 record Case : Type 0 where
   sheet : List ℕ
   says : Bool
@@ -91,7 +73,7 @@ cleanly x = clean.clean (x .sheet)
 
 -- a type of the path p, in a message M beside an enum E
 abbrev to : Bool → ℕ → String → Case
-to a t p = is a (message "M" (fieldTo 1 "f" 1 t p) ++ enum "E" [])
+to a t p = is a (message "M" (fieldWith 1 "f" 1 t p) ++ enum "E" [])
 
 abbrev cleans : List Case
 cleans =
@@ -165,7 +147,7 @@ keeps =
     kept true one one
     ∷ kept true [] one
     -- a label, an enum's values, and where an extension stands may differ
-    ∷ kept true (with (fieldTo 1 "f" 1 13 "")) (with (fieldTo 3 "f" 1 13 ""))
+    ∷ kept true (with (fieldWith 1 "f" 1 13 "")) (with (fieldWith 3 "f" 1 13 ""))
     ∷ kept true (enum "E" (value "v" 0)) (enum "E" (value "w" 1))
     ∷ kept true (with (field "f" 1)) (with [] ++ extension "f" "M" 1)
     ∷ kept true (with [] ++ extension "f" "M" 1) (with (field "f" 1))
@@ -185,9 +167,9 @@ keeps =
     ∷ kept false (with (message "N" (field "f" 1))) (with (message "N" [] ++ field "f" 1))
     -- another name, type or type path
     ∷ kept false (with (field "f" 1)) (with (field "g" 1))
-    ∷ kept false (with (fieldTo 1 "f" 1 13 "")) (with (fieldTo 1 "f" 1 12 ""))
-    ∷ kept false (with (fieldTo 1 "f" 1 11 "M")) (with (fieldTo 1 "f" 1 11 "N"))
-    ∷ kept true (with (fieldTo 1 "f" 1 11 "M")) (with (fieldTo 1 "f" 1 11 "M"))
+    ∷ kept false (with (fieldWith 1 "f" 1 13 "")) (with (fieldWith 1 "f" 1 12 ""))
+    ∷ kept false (with (fieldWith 1 "f" 1 11 "M")) (with (fieldWith 1 "f" 1 11 "N"))
+    ∷ kept true (with (fieldWith 1 "f" 1 11 "M")) (with (fieldWith 1 "f" 1 11 "M"))
     -- of sheets that are not clean each declaration is kept, whatever else the newer has
     ∷ kept true (with (field "f" 1)) (with (field "g" 1 ++ field "f" 1))
     ∷ kept false (with (field "g" 1 ++ field "f" 1)) (with (field "f" 1))

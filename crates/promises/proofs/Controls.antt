@@ -4,8 +4,8 @@ use Rattle.basis.specs.Kit.{_≡_, refl, List, [], _∷_, _++_, map, ℕ}
 use Rattle.octets.specs.Ascii.{ascii}
 use Rattle.judged.specs.declared.Place.the-variants.{Nowhere, Inside}
 use Rattle.promises.proofs.Asking.{Example, asks, bytes, refused, stepped}
-use Rattle.sheet.proofs.Sheets.{file, message, value, enum}
-use Rattle.promises.proofs.Sheets.{extension, extensionTo, field, fieldTo, fieldWith}
+use Rattle.sheet.proofs.Sheets.{file, message, value, enum, extensionTo, fieldWith}
+use Rattle.promises.proofs.Sheets.{extension, field, fieldTo}
 use Rattle.promises.proofs.Sheets.{request, option, direct, ext, boolean, unsigned, signed, float, string, ident, messageOf}
 use Rattle.promises.proofs.Sheets.{pair, pairExt, pairUrl, list}
 

@@ -4,7 +4,7 @@ use Rattle.basis.specs.Kit.{_≡_, refl, List, [], _∷_, _++_, map, ℕ}
 use Rattle.judged.specs.declared.Place.the-variants.{Inside}
 use Rattle.promises.proofs.Asking.{Example, asks, bytes, absent, refused, answer}
 use Rattle.sheet.proofs.Sheets.{file, message}
-use Rattle.promises.proofs.Sheets.{fieldOptions, messageOptions, extension, field}
+use Rattle.promises.proofs.Sheets.{fieldOptions, messageOptions, extension}
 use Rattle.promises.proofs.Sheets.{request, option, direct, ext, unsigned}
 use Rattle.promises.proofs.Sheets.{list}
 

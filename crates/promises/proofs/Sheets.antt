@@ -1,21 +1,18 @@
 -- Builders of sheets with types and labels, and of requests, for the examples and the closed cases: written as 01's table of tags has them.
--- What a sheet has besides comes from the crate `scopes`.
+-- What a sheet has besides comes from the crate `sheet`.
 --
---                eight n == the eight bytes of a number
---           shaped k t l p == number, type, label and type path, which is left out where p is empty
---        extension n m k t == an optional extension of the name n, the number k and the type t, of the message m
---         extensionTo .. p == likewise, with the type path p
---           field, fieldTo == a field of a message, likewise; fieldWith by its label
---      request c t options == a request of the scope c and the options type t
---       option parts const == an option; direct and ext are parts, pair, pairExt and pairUrl the pairs of a message constant
+--               eight n == the eight bytes of a number
+--     extension n m k t == an optional extension of the name n, the number k and the type t, of the message m
+--        field, fieldTo == a field of a message, likewise
+--   request c t options == a request of the scope c and the options type t
+--    option parts const == an option; direct and ext are parts, pair, pairExt and pairUrl the pairs of a message constant
 --
 -- Assumes nothing.
 use Rattle.basis.specs.Kit.{List, [], _∷_, _++_, ℕ, _/_, _%_}
 use Prim.Native.String.{String}
 use Rattle.octets.specs.Ascii.{ascii}
-use Rattle.sheet.specs.Table.{extensionTag, fieldTag, nameTag, extendeeTag, numberTag, typeTag, labelTag, typePathTag}
 use Rattle.request.specs.Table as tags
-use Rattle.sheet.proofs.Sheets.{tagged, four}
+use Rattle.sheet.proofs.Sheets.{tagged, four, extensionTo, fieldWith}
 
 -- ---- sheets
 abbrev pub fieldOptions : String
@@ -27,21 +24,8 @@ messageOptions = "google.protobuf.MessageOptions"
 abbrev pub eight : ℕ → List ℕ
 eight n = four (n / 4294967296) ++ four (n % 4294967296)
 
-abbrev pub typePath : List ℕ → List ℕ
-typePath [] = []
-typePath (c ∷ cs) = tagged typePathTag (c ∷ cs)
-
-abbrev pub shaped : ℕ → ℕ → ℕ → String → List ℕ
-shaped n t l p = tagged numberTag (four n) ++ tagged typeTag (t ∷ []) ++ tagged labelTag (l ∷ []) ++ typePath (ascii p)
-
-abbrev pub extensionTo : String → String → ℕ → ℕ → String → List ℕ
-extensionTo name m n t p = tagged extensionTag (tagged nameTag (ascii name) ++ tagged extendeeTag (ascii m) ++ shaped n t 1 p)
-
 abbrev pub extension : String → String → ℕ → ℕ → List ℕ
 extension name m n t = extensionTo name m n t ""
-
-abbrev pub fieldWith : ℕ → String → ℕ → ℕ → String → List ℕ
-fieldWith l name n t p = tagged fieldTag (tagged nameTag (ascii name) ++ shaped n t l p)
 
 abbrev pub fieldTo : String → ℕ → ℕ → String → List ℕ
 fieldTo name n t p = fieldWith 1 name n t p

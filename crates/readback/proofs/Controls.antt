@@ -36,6 +36,7 @@ use Rattle.entries.specs.Reading.{Listed, listed, refused, recordsFrom, reading
 use Rattle.readback.specs.Seen.{seen, nested}
 use Rattle.payloads.specs.Value.{Fits}
 use Rattle.readback.specs.Typed.{DeclaredAs, Typed, Content, contents}
+use Rattle.readback.specs.Older.{told}
 use Rattle.readback.specs.Encoded.{raws}
 use Rattle.readback.specs.Rows.{First, Stand}
 
@@ -117,6 +118,36 @@ tell : contents 0 rs
     ∷ says 1 1 17 1 (2 ∷ []) ∷ says 1 2 11 0 [] ∷ says 1 4 7 7 (7 ∷ 0 ∷ 0 ∷ 0 ∷ []) ∷ says 0 4 7 8 (8 ∷ 0 ∷ 0 ∷ 0 ∷ []) ∷ []
 unfolding encode headOf payload varint varintWithin littleOf zigzagOf wireOf low32Of
 tell = refl
+
+-- ---- what one who reads under a sheet is told of them
+tells : List ℕ → List Content
+unfolding encode headOf payload varint varintWithin littleOf zigzagOf wireOf low32Of declarationOf sameBytes treeOf fileIn itemsIn itemIn
+    valueIn extensionAt messageFieldAt valueAt shapeAt typePathAt hasTypePath walkBy leafAt fieldAt bigAt
+tells s = told (knowing s) s (m s) 0 rs
+
+abbrev letters : List ℕ
+letters = ascii "hi"
+
+abbrev held : List ℕ
+held = 8 ∷ 2 ∷ 18 ∷ 0 ∷ 37 ∷ 7 ∷ 0 ∷ 0 ∷ 0 ∷ []
+
+-- all that they say
+told-newer : tells newer ≡ contents 0 rs
+unfolding tells encode headOf payload varint varintWithin littleOf zigzagOf wireOf low32Of
+told-newer = refl
+
+-- the numbers 3 and 4 are unknown, at both levels: their payloads stay, types and values go
+told-older : tells older
+    ≡ says 0 1 17 minusTwo (3 ∷ []) ∷ says 0 3 0 0 letters ∷ says 0 2 11 0 held ∷ says 1 1 17 1 (2 ∷ []) ∷ says 1 2 11 0 []
+    ∷ says 1 4 0 0 (7 ∷ 0 ∷ 0 ∷ 0 ∷ []) ∷ says 0 4 0 0 (8 ∷ 0 ∷ 0 ∷ 0 ∷ []) ∷ []
+unfolding tells
+told-older = refl
+
+-- the number 2 too, and what it holds is left out
+told-oldest : tells oldest
+    ≡ says 0 1 17 minusTwo (3 ∷ []) ∷ says 0 3 0 0 letters ∷ says 0 2 0 0 held ∷ says 0 4 0 0 (8 ∷ 0 ∷ 0 ∷ 0 ∷ []) ∷ []
+unfolding tells
+told-oldest = refl
 
 -- ---- the newer sheet does type them
 abbrev Is : Option Declaration → (typ : ℕ) → Type 0

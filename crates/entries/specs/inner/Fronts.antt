@@ -1,7 +1,6 @@
 -- The record at a place, as the code answers it.
 --
 --                   message name p ==  the message of that full name at that place
---                      PayloadIn n p <-> a payload lies before the place n
 --                      unknownOf k w p ==  a record of the number k that nothing declares, of the wire type w and the payload p
 --                   enteredOf L s e p ==  a known message of the path p, whose record is e
 --                 knownOf L s d k w p ==  a record of the number k that d declares
@@ -12,15 +11,15 @@
 -- Assumes nothing.
 use Rattle.basis.specs.Kit.{_≡_, true, false, List, [], _∷_, Option, none, some as is, ℕ, _+_, _≤_, _<_, eqb}
 use Rattle.reply.specs.declared.Refusal.{Refusal}
-use Rattle.reply.specs.declared.Refusal.the-variants.{BadBytes, WireMismatch}
 use Rattle.field.specs.declared.Span.{Span}
 use Rattle.field.specs.Leaf.{text, Lies}
-use Rattle.types.specs.Types.{wireOf, TYPE_MESSAGE}
+use Rattle.types.specs.Types.{TYPE_MESSAGE}
 use Rattle.wire.specs.Tag.{numberOf, wireTypeOf}
 use Rattle.payloads.specs.declared.Payload.{Payload}
-use Rattle.payloads.specs.declared.Payload.the-variants.{Whole, Cut}
-use Rattle.payloads.specs.Value.{valueOf}
 use Rattle.payloads.specs.inner.Placed.{payloadIn}
+use Rattle.taken.specs.declared.Taken.{Taken}
+use Rattle.taken.specs.declared.Taken.the-variants as taken
+use Rattle.taken.specs.inner.Taking.{unknownTaken, knownTaken}
 use Rattle.sheet.specs.declared.declaration.Declaration.{Declaration}
 use Rattle.sheet.specs.declared.declaration.Declared.the-variants.{Declares, NoDeclaration}
 use Rattle.scope.specs.declared.lookup.LookupScope.{LookupScope}
@@ -36,21 +35,20 @@ use Rattle.entries.specs.Item.{Item, some, into, wrong, declared}
 abbrev pub message : (name : List ℕ) → LookupScope → Message
 message n p = record { name = n; place = p }
 
-unfoldable pub PayloadIn : (most : ℕ) → Payload → Type 0
-PayloadIn most Cut = Unit {0}
-PayloadIn most (Whole at size v) = at + size ≤ most
-
-unfoldable pub unknownOf : (number wire : ℕ) → Payload → Front
-unknownOf k w Cut = Wrong BadBytes
-unknownOf k w (Whole at size v) = Leaf (record {
+abbrev pub unknownFront : (number wire : ℕ) → Taken → Front
+unknownFront k w (taken.Wrong r) = Wrong r
+unknownFront k w (taken.Record at size v next) = Leaf (record {
   number = k;
   typ = 0;
   wire = w;
   place = at;
   size = size;
-  value = 0;
+  value = v;
   by = NoDeclaration;
-}) (at + size)
+}) next
+
+unfoldable pub unknownOf : (number wire : ℕ) → Payload → Front
+unknownOf k w p = unknownFront k w (unknownTaken p)
 
 abbrev pub onMessage : Entry → Span → LookedUp → Front
 onMessage e p (NoMessage w) = Wrong w
@@ -59,26 +57,26 @@ onMessage e p (Found q) = Inside e p q
 unfoldable pub enteredOf : Lookups → (s : List ℕ) → Entry → Span → Front
 enteredOf L s e p = onMessage e p (L .message (text s p))
 
-abbrev pub entryOf : Declaration → (number wire at size said : ℕ) → Entry
+abbrev pub entryOf : Declaration → (number wire at size value : ℕ) → Entry
 entryOf d k w at size v = record {
   number = k;
   typ = d .shape .typ;
   wire = w;
   place = at;
   size = size;
-  value = valueOf (d .shape .typ) v;
+  value = v;
   by = Declares d;
 }
 
-abbrev pub plainOf : Lookups → (s : List ℕ) → Declaration → (number wire : ℕ) → Payload → Front
-plainOf L s d k w Cut = Wrong BadBytes
-plainOf L s d k w (Whole at size v) = elim (eqb (d .shape .typ) TYPE_MESSAGE) [
+abbrev pub knownFront : Lookups → (s : List ℕ) → Declaration → (number wire : ℕ) → Taken → Front
+knownFront L s d k w (taken.Wrong r) = Wrong r
+knownFront L s d k w (taken.Record at size v next) = elim (eqb (d .shape .typ) TYPE_MESSAGE) [
   | true ↦ enteredOf L s (entryOf d k w at size v) (d .shape .path)
-  | false ↦ Leaf (entryOf d k w at size v) (at + size)
+  | false ↦ Leaf (entryOf d k w at size v) next
 ]
 
 unfoldable pub knownOf : Lookups → (s : List ℕ) → Declaration → (number wire : ℕ) → Payload → Front
-knownOf L s d k w p = elim (eqb (wireOf (d .shape .typ)) w) [ true ↦ plainOf L s d k w p | false ↦ Wrong WireMismatch ]
+knownOf L s d k w p = knownFront L s d k w (knownTaken (d .shape .typ) w p)
 
 abbrev pub byDeclared : Lookups → (s : List ℕ) → Option Declaration → (number wire : ℕ) → Payload → Front
 byDeclared L s none k w p = unknownOf k w p
