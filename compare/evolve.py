@@ -101,21 +101,27 @@ class Case:
         return people.names(told.sheet.data).lines(self.kind, self.run.bytes, told.rows)
 
     def beside(self):
-        """The newer's records, up to their first fault, each with the older's line for it: a record is known by the place of its payload,
-        which no two share."""
-        older = {row[4]: line.lstrip(" ") for row, line in zip(self.lists[0].rows, self.people[0])}
-        return ["%s | %s" % (line, older.get(row[4], "-")) for row, line in zip(self.lists[1].rows, self.people[1])]
+        """The newer's records, up to their first fault, each with the older's line for it, and between them those that the older alone
+        has: a record is known by the place of its payload, which no two share."""
+        older, newer = ({row[4]: (row[0], line) for row, line in zip(told.rows, lines)} for told, lines in zip(self.lists, self.people))
+        out = []
+        for place in sorted(older.keys() | newer.keys()):
+            line = newer[place][1] if place in newer else "  " * (older[place][0] + 1) + "-"
+            out.append("%s | %s" % (line, older[place][1].lstrip(" ") if place in older else "-"))
+        return out
 
     def note_records(self):
         older, newer = self.lists
         self.seen |= {("listing", "older", older.refused or 0), ("listing", "newer", newer.refused or 0)}
-        if older.refused or newer.refused:
+        if older.refused:
             return
         there, written = {row[4] for row in older.rows}, {row[4] for row in newer.rows}
+        if not there <= written:
+            self.seen.add(("older alone", "from a fault of the newer on" if newer.refused else "inside what the newer does not enter"))
+        if newer.refused:
+            return
         for row in older.rows:
-            if row[4] not in written:
-                self.seen.add(("older alone",))
-            else:
+            if row[4] in written:
                 self.seen.add(("known at level" if row[2] else "unknown at level", row[0]))
                 self.seen.add(("known", row[2]) if row[2] else ("unknown", row[3]))
         self.seen |= {("left out at level", row[0]) for row in newer.rows if row[4] not in there}
@@ -406,7 +412,8 @@ def steps_wanted():
     yield "left out at level", [("left out at level", n) for n in range(1, 31)]
     yield "known, by type", [("known", n) for n in range(1, 19) if n != 10]
     yield "unknown, by wire type", [("unknown", n) for n in (0, 1, 2, 5)]
-    yield "records that only the older lists", [("older alone",)]
+    yield "records that only the older lists", [
+        ("older alone", how) for how in ("inside what the newer does not enter", "from a fault of the newer on")]
     yield "demand 3 spoken of", [("demand 3", "spoken of", "holds")]
     reasons = ("older not clean", "newer not clean", "both not clean", "not contained")
     yield "not spoken of, and what it says", [

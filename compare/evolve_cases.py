@@ -203,6 +203,7 @@ record 0 6 13 0 5 1 2 0
     v 1 uint32 = 1
   (p.y) 6 uint32 = 2
   (p.x) 5 bytes = "\010\001" | (p.x) 5 p.M
+    - | v 1 uint32 = 1
   (p.y) 6 uint32 = 2 | (p.y) 6 uint32 = 2
 """, asked(opt("(x)", s(b"\x08\x01")), opt("(y)", u(2))))
 case(file("p", ext("w", 6), ext("z", 5)) + F, file("p", ext("w", 6), ext("x", 5, 9), ext("z", 5)) + F, """
@@ -218,6 +219,7 @@ record 0 5 13 0 3 1 7 0
   (p.w) 6 uint32 = 1
   (p.z) 5 uint32 = 7
   (p.w) 6 uint32 = 1 | (p.w) 6 uint32 = 1
+  - | (p.z) 5 uint32 = 7
 """, asked(opt("(w)", u(1)), opt("(z)", u(7))))
 # ---- after the newer sheet: 41, 40 or the end
 case(b"", b"", YES)

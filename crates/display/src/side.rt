@@ -1,5 +1,6 @@
 // The records of the same option bytes under two sheets, side by side: one is that of the other sheet where place and level are the same.
-// Places rise from record to record, so the older's are read on up to the place of the newer's, and those that the newer lacks are passed.
+// Places rise from record to record, so the older's are read on up to the place of the newer's; those that the newer lacks have a line of
+// their own.
 ghost use Rattle.basis.specs.Kit.{_≡_, _≤_, length};
 ghost use Rattle.limits.specs.Figures.{mostOptionBytes};
 ghost use Rattle.levels.specs.inner.Stack.{stackWords};
@@ -15,8 +16,20 @@ use entries::Row;
 use levels::Event;
 use levels::next;
 
-// Reads on from a record to the first that does not lie before a place.
-fn reach(
+// A place behind all others.
+const PAST: u32 = 4_294_967_295;
+
+// The line of a record that the older alone has.
+fn show_alone(sheet: &[u8], bytes: &[u8], row: Row) {
+    indent(row.level);
+    show_word(MINUS);
+    show_word(BAR);
+    show_entry(sheet, bytes, row.entry);
+    show_word(LINE_END);
+}
+
+// The lines of those that the older alone has before a place, from a record on; and the first that does not lie before it.
+fn show_before(
     sheet: &[u8],
     options_type: &[u8],
     bytes: &[u8],
@@ -38,8 +51,33 @@ fn reach(
                 rest: rest,
             };
         }
+        show_alone(sheet, bytes, row);
         event = next(sheet, options_type, bytes, stack, rest);
     }
+}
+
+// What waits of the older behind a place: the record there has been shown.
+fn behind(
+    sheet: &[u8],
+    options_type: &[u8],
+    bytes: &[u8],
+    stack: &mut [usize],
+    event: Event,
+    place: u32,
+) -> Event
+    requires { ⌜ Waits (now sheet) (now bytes) (now stack) event ⌝ }
+    ensures { λ r. ⌜ Waits (now (sheet .entry)) (now (bytes .entry)) (now (stack .exit)) r ⌝ }
+{
+    let Event::Record { row, rest } = event else {
+        return Event::End;
+    };
+    if row.entry.place != place {
+        return Event::Record {
+            row: row,
+            rest: rest,
+        };
+    }
+    next(sheet, options_type, bytes, stack, rest)
 }
 
 // The older's record beside the newer's, where it is the same one.
@@ -68,7 +106,7 @@ fn show_pair(newer: &[u8], older: &[u8], bytes: &[u8], row: Row, event: Event) {
     show_word(LINE_END);
 }
 
-// The same, after the older is read on to that record; and what waits of it then.
+// The same, after the older is read on to that record; and what waits of it behind.
 fn show_line(
     newer: &[u8],
     older: &[u8],
@@ -81,12 +119,13 @@ fn show_line(
     requires { ⌜ Waits (now older) (now bytes) (now stack) from ⌝ }
     ensures { λ r. ⌜ Waits (now (older .entry)) (now (bytes .entry)) (now (stack .exit)) r ⌝ }
 {
-    let event = reach(older, options_type, bytes, stack, from, row.entry.place);
+    let event = show_before(older, options_type, bytes, stack, from, row.entry.place);
     show_pair(newer, older, bytes, row, event);
-    event
+    behind(older, options_type, bytes, stack, event, row.entry.place)
 }
 
-// The lines of the records of the newer from the first on, and of the older likewise.
+// The lines of the records of the newer from the first on, and of the older likewise; at the end of the newer's, of all that the older has
+// besides.
 fn show_from(
     newer: &[u8],
     older: &[u8],
@@ -104,6 +143,7 @@ fn show_from(
     let mut right = beside;
     loop {
         let Event::Record { row, rest } = left else {
+            show_before(older, options_type, bytes, other, right, PAST);
             return;
         };
         left = next(newer, options_type, bytes, stack, rest);
@@ -111,7 +151,7 @@ fn show_from(
     }
 }
 
-// The lines of all records of the newer, up to the first fault, with room for the levels of either sheet.
+// The lines of all records of either sheet, of each up to its first fault, with room for the levels of both.
 pub fn show_pairs(
     newer: &[u8],
     older: &[u8],

@@ -18,6 +18,7 @@ pub show-from-spec : {M : Type 1} → statement M
 show-from-spec = tie.close (tie.spec Inv-loop μ-loop
     (λ c. search)
     (λ c. search)
+    (λ c κs. search)
     (λ c. search)
     (λ c. search)
     (λ c. search)
