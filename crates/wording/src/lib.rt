@@ -2,7 +2,6 @@
 mod words;
 
 ghost use Rattle.basis.specs.Kit.{_≤_, length};
-ghost use Rattle.limits.specs.Figures.{mostSheet};
 use console::output::text_at;
 use evolution::why_unclean;
 use evolution::why_uncontained;
@@ -37,7 +36,7 @@ fn show_reason(sheet: &[u8], why: Why, about: Span) {
     show_word(row as usize * 2 + 1);
 }
 
-// As `tell`, with room for a full name.
+// As `tell_line`, with room for a full name.
 fn tell_over(sheet: &[u8], reason: Reason, room: &mut [u8])
     requires { ⌜ length (now sheet) ≤ length (now room) ⌝ }
 {
@@ -50,29 +49,14 @@ fn tell_over(sheet: &[u8], reason: Reason, room: &mut [u8])
     show_reason(sheet, why, about);
 }
 
-// The rest of a line that says yes or no of a sheet.
-fn tell(sheet: &[u8], reason: Reason)
-    requires { ⌜ length (now sheet) ≤ mostSheet ⌝ }
-{
-    let mut room = [0u8; MOST_SHEET];
-    tell_over(sheet, reason, &mut room);
-}
-
-fn tell_clean(sheet: &[u8]) {
-    // one that was judged has no more
+// The line of a word that says yes or no of a sheet. One that was judged has no more bytes.
+fn tell_line(word: usize, sheet: &[u8], reason: Reason) {
     if MOST_SHEET < sheet.len() {
         return;
     }
-    show_word(CLEAN);
-    tell(sheet, why_unclean(sheet));
-}
-
-fn tell_contained(older: &[u8], newer: &[u8]) {
-    if MOST_SHEET < older.len() {
-        return;
-    }
-    show_word(CONTAINED);
-    tell(older, why_uncontained(older, newer));
+    let mut room = [0u8; MOST_SHEET];
+    show_word(word);
+    tell_over(sheet, reason, &mut room);
 }
 
 // The lines of two sheets, and whether neither is refused.
@@ -82,8 +66,8 @@ pub fn tell_evolution(older: &[u8], newer: &[u8]) -> bool {
     if answer.reply != 0 {
         return false;
     }
-    tell_clean(older);
-    tell_clean(newer);
-    tell_contained(older, newer);
+    tell_line(CLEAN, older, why_unclean(older));
+    tell_line(CLEAN, newer, why_unclean(newer));
+    tell_line(CONTAINED, older, why_uncontained(older, newer));
     true
 }
