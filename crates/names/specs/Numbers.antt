@@ -1,7 +1,8 @@
 -- Every number that a sheet declares for a message: by a field of that message, or by an extension of it.
 --
 --            Number == a declaration of a number, and the message that it is for, by its full name
---     numbersOf s b == those of the fields of a message, or of an extension
+--   numbersBy s n w == those of the fields of a message of the full name n, or of an extension
+--     numbersOf s b == those of the declaration b
 --   numbersAll s bs == those of all of bs
 --     everyNumber s == all that the sheet declares, a message's own before those of what it holds
 --

@@ -3,6 +3,8 @@
 --        CleanSheet s <-> the sheet is well-formed and clean
 --       optionsType r ==  the options type that the request names
 --        declares s t <=> the sheet declares a message of the full name t
+--      toldIn s t x u ==  what the records x hold as the sheet s has it, u being what the look-up of the options type t came to; nothing
+--                         where it found no message
 --     toldUnder s t x ==  what the records x hold as the sheet s has it, under the options type t: in order, each number that s does not
 --                         declare at its message marked unknown, what lies inside it left out
 --   ListedUnder s t x <-> the bytes of the records x are listed under the sheet s and the options type t, not refused, and the rows hold

@@ -7,6 +7,7 @@
 --                       the older finds the same
 --      Keeps ..     <-> it is so of every number that both declare at the same message
 --        toldAs o x ==  what a record holds, x, as the older has it, o being what it declares the number by, if anything
+--    within s d u f ==  what f makes of the message that u says is found; nothing where none is
 --   insideOf .. o f ==  what f makes of the message that the type path of o names; nothing where o is none
 --   told L s m l rs ==  what the records rs, at the level l inside the message m, hold as the older has it
 --

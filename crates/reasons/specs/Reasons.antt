@@ -6,10 +6,13 @@
 --           orNo b w k p ==  this reason, where b does not hold
 --           reasons f xs ==  the first of the reasons that f gives of xs
 --     reasonsFrom f k bs ==  the first of those that f gives of declarations, the k-th first
+--            memberWhy w ==  what is amiss where two fields, or two values, share a name
 --   memberFlaws s w k ns ==  the first of the names ns that another one of them is too
+--           extendeeOf w ==  where the extendee of an extension stands
 --   pathFlaw, numberFlaw ==  what is amiss with a type path, or with a number
 --           flawOf s k b ==  what is not clean about the k-th declaration, b
 --          cleanReason s ==  the first flaw of the sheet
+--              lossWhy w ==  what is amiss where the newer has no message, or no enum, of its full name
 --     numberLoss s t k x ==  whether the newer t has not kept a number of the older s
 --         lossOf s t k b ==  what of the k-th declaration of the older, b, the newer has not kept
 --    containedReason s t ==  the first loss

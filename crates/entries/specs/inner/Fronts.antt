@@ -1,12 +1,17 @@
 -- The record at a place, as the code answers it.
 --
---                   message name p ==  the message of that full name at that place
---                      unknownOf k w p ==  a record of the number k that nothing declares, of the wire type w and the payload p
---                   enteredOf L s e p ==  a known message of the path p, whose record is e
---                 knownOf L s d k w p ==  a record of the number k that d declares
---          behindTag L s m bs t at end ==  the record behind the good tag t, which ends at `at`
---                       Shows s at i r <-> the code's answer r is the item i at the place `at`
---                    FrontLies s at end r <-> the record lies behind `at` and before `end`, a message's path and place in the sheet
+--                message name p ==  the message of that full name at that place
+--            unknownFront k w x ==  a record of the number k that nothing declares, of the wire type w, of which x is taken
+--               unknownOf k w p ==  a record of the number k that nothing declares, of the wire type w and the payload p
+--               onMessage e p u ==  a known message of the path p, whose record is e, u being what the look-up of p came to
+--             enteredOf L s e p ==  a known message of the path p, whose record is e
+--          entryOf d k w at n v ==  the record of the number k that d declares, of the payload of n bytes at a place, and the value v
+--        knownFront L s d k w x ==  a record of the number k that d declares, of which x is taken
+--           knownOf L s d k w p ==  a record of the number k that d declares
+--        byDeclared L s o k w p ==  a record of the number k, o being what declares it, if anything
+--   behindTag L s m bs t at end ==  the record behind the good tag t, which ends at `at`
+--                Shows s at i r <-> the code's answer r is the item i at the place `at`
+--          FrontLies s at end r <-> the record lies behind `at` and before `end`, a message's path and place in the sheet
 --
 -- Assumes nothing.
 use Rattle.basis.specs.Kit.{_≡_, true, false, List, [], _∷_, Option, none, some as is, ℕ, _+_, _≤_, _<_, eqb}

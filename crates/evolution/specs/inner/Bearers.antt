@@ -1,12 +1,15 @@
 -- What is amiss with a declaration, as code has it: what bears the name, and the name.
 --
---       DeclaredLies s d <-> name, extendee and type path of the declaration lie in the sheet
---         BearerLies s b <-> so does what bears a name
---          numberFor m d ==  the number that d declares for the message m
---         onDeclared f x ==  what f makes of a declaration, Yes where there is none
---           fieldsAt s p ==  the fields of a message whose body is p
---     bearerFlaw s n k b ==  what is not clean about the k-th declaration, of the full name n
---   bearerLoss s t n k b ==  what of it the newer has not kept
+--                       DeclaredLies s d <-> name, extendee and type path of the declaration lie in the sheet
+--                         BearerLies s b <-> so does what bears a name
+--                          numberFor m d ==  the number that d declares for the message m
+--                         onDeclared f x ==  what f makes of a declaration, Yes where there is none
+--                           fieldsAt s p ==  the fields of a message whose body is p
+--   messageFlaw, enumFlaw, extensionFlaw ==  what is not clean about a message, an enum, an extension, its full name aside
+--                       restFlaw s n k b ==  that of what bears the name n
+--                     bearerFlaw s n k b ==  what is not clean about the k-th declaration, of the full name n
+--                  messageLoss, enumLoss ==  what of a message or an enum the newer has not kept
+--                   bearerLoss s t n k b ==  what of it the newer has not kept
 --
 -- Assumes nothing.
 use Rattle.basis.specs.Kit.{List, ℕ}

@@ -1,6 +1,8 @@
 -- The names of what a message or an enum declares itself, as the code reads them: fields by their tag, or values by theirs.
 --
+--    fieldName, valueName == the name of what was read, where it is a field or a value
 --      memberAt k s t a e == the name of the field or value that a field of the tag t is, where its tag is k
+--           leafOnto l ns == the names ns, and before them l, where there is one
 --         membersIn k s w == the names among the fields w
 --   memberFlaw s w k ns l == what is amiss with a member of the name l, where there is one, among the names ns
 --
