@@ -23,6 +23,9 @@ use Rattle.reasons.specs.declared.Reason.the-variants.{Yes}
 use Rattle.reasons.specs.Reasons.{holds, orNo, memberFlaws, memberWhy, numberFlaw, flawOf, cleanReason}
 use Rattle.reasons.specs.Reasons.{numberLoss, lossOf, containedReason}
 use Rattle.reasons.proofs.ReasonLaws.{holds-or-no, holds-also, holds-reasons, holds-reasons-from}
+use Rattle.evolution.specs.declared.first.Question.{Question}
+use Rattle.evolution.specs.declared.first.Question.the-variants.{Clean, Contained}
+use Rattle.evolution.specs.inner.Bearers.{firstReason, whyNot}
 use Rattle.evolution.specs.Calls.{cleanAnswer, containedAnswer, whyUnclean, whyUncontained}
 
 -- ---- clean
@@ -64,33 +67,32 @@ module _ (s t : List ℕ) where
   contained-holds = holds-reasons-from (lossOf s t) (keptAt s t) loss-holds 0 (everyDeclared s)
 
 -- ---- the reasons
-module _ (s : List ℕ) where
-  pub unclean-long : mostSheet < length s → Yes ≡ whyUnclean s
-  unfolding whyUnclean
-  unclean-long h = rw (lt-ltb mostSheet (length s) h) refl
+module _ (q : Question) (s t : List ℕ) where
+  pub why-long : mostSheet < length s → Yes ≡ whyNot q s t
+  unfolding whyNot
+  why-long h = rw (lt-ltb mostSheet (length s) h) refl
 
-  unclean-is : length s ≤ mostSheet → whyUnclean s ≡ cleanReason s
-  unfolding whyUnclean
-  unclean-is h = rw (le-ltb mostSheet (length s) h) refl
+  pub why-short : length s ≤ mostSheet → (r : Reason) → r ≡ firstReason q s t → r ≡ whyNot q s t
+  unfolding whyNot
+  why-short h r p = p ∙ rw (le-ltb mostSheet (length s) h) refl
 
-  pub unclean-short : length s ≤ mostSheet → (r : Reason) → r ≡ cleanReason s → r ≡ whyUnclean s
-  unclean-short h r p = p ∙ sym (unclean-is h)
+pub ruleset why-not-laws = (why-long, why-short)
 
-pub ruleset unclean-laws = (unclean-long, unclean-short)
+pub unclean-is : (s : List ℕ) (r : Reason) → r ≡ whyNot Clean s s → r ≡ whyUnclean s
+unfolding whyNot whyUnclean
+unclean-is s r p = p
 
-module _ (s t : List ℕ) where
-  pub uncontained-long : mostSheet < length s → Yes ≡ whyUncontained s t
-  unfolding whyUncontained
-  uncontained-long h = rw (lt-ltb mostSheet (length s) h) refl
+pub uncontained-is : (s t : List ℕ) (r : Reason) → r ≡ whyNot Contained s t → r ≡ whyUncontained s t
+unfolding whyNot whyUncontained
+uncontained-is s t r p = p
 
-  uncontained-is : length s ≤ mostSheet → whyUncontained s t ≡ containedReason s t
-  unfolding whyUncontained
-  uncontained-is h = rw (le-ltb mostSheet (length s) h) refl
+unclean-short : (s : List ℕ) → length s ≤ mostSheet → whyUnclean s ≡ cleanReason s
+unfolding whyUnclean
+unclean-short s h = rw (le-ltb mostSheet (length s) h) refl
 
-  pub uncontained-short : length s ≤ mostSheet → (r : Reason) → r ≡ containedReason s t → r ≡ whyUncontained s t
-  uncontained-short h r p = p ∙ sym (uncontained-is h)
-
-pub ruleset uncontained-laws = (uncontained-long, uncontained-short)
+uncontained-short : (s t : List ℕ) → length s ≤ mostSheet → whyUncontained s t ≡ containedReason s t
+unfolding whyUncontained
+uncontained-short s t h = rw (le-ltb mostSheet (length s) h) refl
 
 -- ---- the calls
 module _ (s : List ℕ) (v : Verdict) (q : Says (judgeSheet s) v) where
@@ -102,7 +104,7 @@ module _ (s : List ℕ) (v : Verdict) (q : Says (judgeSheet s) v) where
 
   pub clean-asked : v ≡ Fine → (r : Reason) → r ≡ whyUnclean s → (b : Bool) → b ≡ holds r → (a : Answer) → a ≡ decided b
       → a ≡ cleanAnswer s
-  clean-asked g r p b h a u = u ∙ rw (sym (q .is) ∙ g) (ap decided (h ∙ ap holds (p ∙ unclean-is s (short g)) ∙ clean-holds s))
+  clean-asked g r p b h a u = u ∙ rw (sym (q .is) ∙ g) (ap decided (h ∙ ap holds (p ∙ unclean-short s (short g)) ∙ clean-holds s))
 
 pub ruleset clean-laws = (clean-refused, clean-asked)
 
@@ -117,6 +119,6 @@ module _ (s t : List ℕ) (v : Verdict) (q : Says (judgeSheet s) v) where
     pub contained-asked : v′ ≡ Fine → (r : Reason) → r ≡ whyUncontained s t → (b : Bool) → b ≡ holds r → (a : Answer) → a ≡ decided b
         → a ≡ containedAnswer s t
     contained-asked g′ r p b h a u =
-        u ∙ rw (sym (q .is) ∙ g, sym (q′ .is) ∙ g′) (ap decided (h ∙ ap holds (p ∙ uncontained-is s t (short s v q g)) ∙ contained-holds s t))
+        u ∙ rw (sym (q .is) ∙ g, sym (q′ .is) ∙ g′) (ap decided (h ∙ ap holds (p ∙ uncontained-short s t (short s v q g)) ∙ contained-holds s t))
 
 pub ruleset contained-laws = (older-refused, newer-refused, contained-asked)

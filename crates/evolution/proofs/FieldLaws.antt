@@ -13,11 +13,15 @@ use Rattle.sheet.specs.Tree.{itemsIn}
 use Rattle.sheet.specs.Members.{fieldsOf}
 use Rattle.sheet.proofs.MemberLaws.{listed, fields-item}
 use Rattle.scope.specs.inner.Steps.{declarationAt}
+use Rattle.reasons.specs.declared.Why.{Why}
 use Rattle.reasons.specs.declared.Reason.{Reason}
-use Rattle.reasons.specs.declared.Reason.the-variants.{Yes}
+use Rattle.reasons.specs.declared.Reason.the-variants.{Yes, No}
 use Rattle.reasons.specs.Reasons.{also, reasons}
-use Rattle.reasons.proofs.ReasonLaws.{also-no}
 use Rattle.evolution.specs.inner.Bearers.{onDeclared, fieldsAt}
+
+-- ---- a reason that was found is the first
+pub also-stays : (r : Reason) (w : Why) (k : ℕ) (p : Span) → r ≡ No w k p → (q : Reason) → also r q ≡ r
+also-stays r w k p g q = rw g refl
 
 -- ---- one field
 module _ (f : Declaration → Reason) (r x : Declared) (q : r ≡ x) where
@@ -46,7 +50,7 @@ module _ (f : Declaration → Reason) where
       (λ t a e w. ap (reasons f) (fields-item 0 s t a e (itemsIn 0 s w)) ∙ listed-reason (elim (eqb t fieldTag) [ true ↦ messageFieldAt s a e | false ↦ NoDeclaration ]) (fieldsOf (itemsIn 0 s w)))
       (walk s (p .from) (p .to)))
 
-pub ruleset fields-laws = (fields-is, also-no, seek-laws)
+pub ruleset fields-laws = (fields-is, also-stays, seek-laws)
 
 -- the fields of a message do not depend on how deep messages may lie in it
 pub fields-any : (d d′ : ℕ) (s : List ℕ) (w : Walk) → fieldsOf (itemsIn d s w) ≡ fieldsOf (itemsIn d′ s w)

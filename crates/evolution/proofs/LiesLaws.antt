@@ -80,7 +80,14 @@ module _ (s : List ℕ) (b : Bearer) (k : BearerLies s b) where
       go (Enum q) h g = never cc
       go (Extension e) (extension-lies h) g = let u : d ≡ e = cc in rw u h
 
-pub ruleset bearer-lies-laws = (bearer-message, bearer-enum, bearer-extension)
+  module _ (d : Declaration) (g : b ≡ Extension d) where
+    pub extended-ordered : d .extendee .from ≤ d .extendee .to
+    extended-ordered = bearer-extension d g .extendee .0
+
+    pub extended-within : d .extendee .to ≤ length s
+    extended-within = bearer-extension d g .extendee .1
+
+pub ruleset bearer-lies-laws = (bearer-message, bearer-enum, bearer-extension, extended-ordered, extended-within)
 
 pub stands-lies : (s : List ℕ) (w : What) → Stands s w → BearerLies s (shown w)
 stands-lies s (message c) k = message-lies (k .0)

@@ -16,15 +16,16 @@ use Rattle.names.proofs.FewLaws.{declared-few}
 use Rattle.reasons.specs.declared.Why.{Why}
 use Rattle.reasons.specs.declared.Reason.{Reason}
 use Rattle.reasons.specs.declared.Reason.the-variants.{Yes, No}
-use Rattle.reasons.specs.Reasons.{also, reasonsFrom, flawOf, lossOf, cleanReason, containedReason}
+use Rattle.reasons.specs.Reasons.{also, reasonsFrom}
 use Rattle.roster.specs.declared.Bearer.{Bearer}
 use Rattle.roster.specs.declared.Nth.{Nth}
 use Rattle.roster.specs.declared.Nth.the-variants.{Is, Beyond}
 use Rattle.roster.specs.inner.Nth.{shown, nth, nameOr, Finds}
-use Rattle.evolution.specs.inner.Bearers.{BearerLies, bearerFlaw, bearerLoss}
+use Rattle.evolution.specs.declared.first.Question.{Question}
+use Rattle.evolution.specs.inner.Bearers.{BearerLies, bearerReason, reasonOf, firstReason}
 use Rattle.evolution.proofs.LiesLaws.{stands-lies}
-use Rattle.evolution.proofs.FlawLaws.{flaw-stands}
-use Rattle.evolution.proofs.LossLaws.{loss-stands}
+use Rattle.evolution.proofs.FieldLaws.{also-stays}
+use Rattle.evolution.proofs.EitherLaws.{reason-stands}
 
 -- the i-th of a list, and what follows it
 record Ith (P : Named → Type 0) (bs : List Named) (i : ℕ) (q : List ℕ) (x : Bearer) (n : ℕ) : Type 0 where
@@ -99,56 +100,27 @@ module _ (s : List ℕ) (f : ℕ → Named → Reason) (i : ℕ) (first before a
     pub asking-less : length (everyDeclared s) - (i + 1) < length (everyDeclared s) - i
     asking-less = omega (arith, found .within)
 
-    -- what the i-th has, as the code looks at it, is what f has of it
-    module _ (u : Reason) (p : u ≡ f i (found .one)) where
-      hit : (w : Why) (j : ℕ) (y : Span) → u ≡ No w j y → No w j y ≡ reasonsFrom f 0 (everyDeclared s)
-      hit w j y h =
-          sym (k .left ∙ ap (reasonsFrom f i) (found .rest) ∙ ap (λ z. also z (reasonsFrom f (suc i) (drop (suc i) (everyDeclared s))))
-          (sym p ∙ h))
+-- ---- what the i-th has, as the code looks at it, is what the list of all has of it
+module _ (q : Question) (s t : List ℕ) (i : ℕ) (first before after : List ℕ) (k : Asking s (reasonOf q s t) first before i) (r : Nth)
+    (h : Finds (everyDeclared s) i 0 before after r) (x : Bearer) (n : ℕ) (g : r ≡ Is x n) (u : Reason)
+    (p : u ≡ bearerReason q s t (take n after) i x) where
+  abbrev it : Ith (λ b. Stands s (b .what)) (everyDeclared s) i (take 0 before) x n
+  it = found s (reasonOf q s t) i first before after k r h x n g
 
-      next : u ≡ Yes → Asking s f first after (i + 1)
-      next h =
-          let e : i + 1 ≡ suc i = omega arith in
-          record {
-            left =
-                rw e (k .left ∙ ap (reasonsFrom f i) (found .rest)
-                ∙ ap (λ z. also z (reasonsFrom f (suc i) (drop (suc i) (everyDeclared s)))) (sym p ∙ h));
-            fits = rw (q .sized) (k .fits);
-            sized = q .sized ∙ k .sized;
-          }
+  reason-is : u ≡ reasonOf q s t i (it .one)
+  reason-is =
+      p ∙ ap₂ (λ y b. bearerReason q s t y i b) (named s (reasonOf q s t) i first before after k r h x n g) (it .is)
+      ∙ reason-stands s t (it .one .name) i q (it .one .what) (it .holds)
 
--- ---- first_flaw
-module _ (s : List ℕ) (i : ℕ) (first before after : List ℕ) (k : Asking s (flawOf s) first before i) (r : Nth)
-    (q : Finds (everyDeclared s) i 0 before after r) (x : Bearer) (n : ℕ) (g : r ≡ Is x n) (u : Reason)
-    (p : u ≡ bearerFlaw s (take n after) i x) where
-  flaw-is : u ≡ flawOf s i (found s (flawOf s) i first before after k r q x n g .one)
-  flaw-is =
-      let y = found s (flawOf s) i first before after k r q x n g in
-      p ∙ ap₂ (λ t b. bearerFlaw s t i b) (named s (flawOf s) i first before after k r q x n g) (y .is)
-      ∙ flaw-stands s (y .one .name) i (y .one .what) (y .holds)
+  split : reasonsFrom (reasonOf q s t) 0 (everyDeclared s) ≡ also u (reasonsFrom (reasonOf q s t) (suc i) (drop (suc i) (everyDeclared s)))
+  split = k .left ∙ ap (reasonsFrom (reasonOf q s t) i) (it .rest) ∙ rw reason-is refl
 
-  pub flaw-hit : (w : Why) (j : ℕ) (y : Span) → u ≡ No w j y → No w j y ≡ cleanReason s
-  flaw-hit = hit s (flawOf s) i first before after k r q x n g u flaw-is
+  pub reason-hit : (w : Why) (j : ℕ) (y : Span) → u ≡ No w j y → u ≡ firstReason q s t
+  reason-hit w j y e = sym (split ∙ also-stays u w j y e _)
 
-  pub flaw-next : u ≡ Yes → Asking s (flawOf s) first after (i + 1)
-  flaw-next = next s (flawOf s) i first before after k r q x n g u flaw-is
+  pub reason-next : u ≡ Yes → Asking s (reasonOf q s t) first after (i + 1)
+  reason-next e =
+      let z : i + 1 ≡ suc i = omega arith in
+      record { left = rw z (split ∙ rw e refl); fits = rw (h .sized) (k .fits); sized = h .sized ∙ k .sized }
 
-pub ruleset first-flaw-laws = (asking-start, asking-room, asking-end, asking-lies, asking-count, asking-size, asking-fits, asking-less, flaw-hit, flaw-next)
-
--- ---- first_loss
-module _ (s t : List ℕ) (i : ℕ) (first before after : List ℕ) (k : Asking s (lossOf s t) first before i) (r : Nth)
-    (q : Finds (everyDeclared s) i 0 before after r) (x : Bearer) (n : ℕ) (g : r ≡ Is x n) (u : Reason)
-    (p : u ≡ bearerLoss s t (take n after) i x) where
-  loss-is : u ≡ lossOf s t i (found s (lossOf s t) i first before after k r q x n g .one)
-  loss-is =
-      let y = found s (lossOf s t) i first before after k r q x n g in
-      p ∙ ap₂ (λ z b. bearerLoss s t z i b) (named s (lossOf s t) i first before after k r q x n g) (y .is)
-      ∙ loss-stands s t (y .one .name) i (y .one .what) (y .holds)
-
-  pub loss-hit : (w : Why) (j : ℕ) (y : Span) → u ≡ No w j y → No w j y ≡ containedReason s t
-  loss-hit = hit s (lossOf s t) i first before after k r q x n g u loss-is
-
-  pub loss-next : u ≡ Yes → Asking s (lossOf s t) first after (i + 1)
-  loss-next = next s (lossOf s t) i first before after k r q x n g u loss-is
-
-pub ruleset first-loss-laws = (asking-start, asking-room, asking-end, asking-lies, asking-count, asking-size, asking-fits, asking-less, loss-hit, loss-next)
+pub ruleset first-reason-laws = (asking-start, asking-room, asking-end, asking-lies, asking-count, asking-size, asking-fits, asking-less, reason-hit, reason-next)

@@ -1,11 +1,14 @@
 // Whether a sheet is clean, and whether one is contained in another: yes or no, and the first reason why not.
+mod first;
 mod flaws;
 mod losses;
 
 ghost use Rattle.basis.specs.Kit.{_≡_, _≤_, length};
 ghost use Rattle.limits.specs.Figures.{mostSheet};
 ghost use Rattle.evolution.specs.Calls.{cleanAnswer, containedAnswer, whyUnclean, whyUncontained};
-ghost use Rattle.reasons.specs.Reasons.{cleanReason, containedReason};
+ghost use Rattle.evolution.specs.inner.Bearers.{firstReason, whyNot};
+use crate::first::Question;
+use crate::first::first_reason;
 use limits::MOST_SHEET;
 use reasons::Reason;
 use reasons::holds;
@@ -13,42 +16,37 @@ use reply::Answer;
 use reply::Verdict;
 use sheetform::check_sheet;
 
-// The first flaw of a sheet that is short enough.
-fn flaw_in_room(sheet: &[u8]) -> Reason
+// The first reason, of a sheet that is short enough.
+fn reason_in_room(sheet: &[u8], newer: &[u8], question: Question) -> Reason
     requires { ⌜ length (now sheet) ≤ mostSheet ⌝ }
-    ensures { λ r. ⌜ r ≡ cleanReason (now (sheet .entry)) ⌝ }
+    ensures { λ r. ⌜ r ≡ firstReason question (now (sheet .entry)) (now (newer .entry)) ⌝ }
 {
     let mut room = [0u8; MOST_SHEET];
-    flaws::first_flaw(sheet, &mut room)
+    first_reason(sheet, newer, question, &mut room)
 }
 
-// The first loss, likewise.
-fn loss_in_room(older: &[u8], newer: &[u8]) -> Reason
-    requires { ⌜ length (now older) ≤ mostSheet ⌝ }
-    ensures { λ r. ⌜ r ≡ containedReason (now (older .entry)) (now (newer .entry)) ⌝ }
-{
-    let mut room = [0u8; MOST_SHEET];
-    losses::first_loss(older, newer, &mut room)
-}
-
-// Why a sheet is not clean. Of one that is too long there is nothing to say: `clean` refuses it.
-pub fn why_unclean(sheet: &[u8]) -> Reason
-    ensures { λ r. ⌜ r ≡ whyUnclean (now (sheet .entry)) ⌝ }
+// The first reason. Of a sheet that is too long there is nothing to say: the calls refuse it.
+fn why_not(sheet: &[u8], newer: &[u8], question: Question) -> Reason
+    ensures { λ r. ⌜ r ≡ whyNot question (now (sheet .entry)) (now (newer .entry)) ⌝ }
 {
     if MOST_SHEET < sheet.len() {
         return Reason::Yes;
     }
-    flaw_in_room(sheet)
+    reason_in_room(sheet, newer, question)
 }
 
-// Why the older sheet is not contained in the newer one, likewise.
+// Why a sheet is not clean.
+pub fn why_unclean(sheet: &[u8]) -> Reason
+    ensures { λ r. ⌜ r ≡ whyUnclean (now (sheet .entry)) ⌝ }
+{
+    why_not(sheet, sheet, Question::Clean)
+}
+
+// Why the older sheet is not contained in the newer one.
 pub fn why_uncontained(older: &[u8], newer: &[u8]) -> Reason
     ensures { λ r. ⌜ r ≡ whyUncontained (now (older .entry)) (now (newer .entry)) ⌝ }
 {
-    if MOST_SHEET < older.len() {
-        return Reason::Yes;
-    }
-    loss_in_room(older, newer)
+    why_not(older, newer, Question::Contained)
 }
 
 // Whether the sheet is clean.

@@ -7,5 +7,5 @@ use Rattle.evolution.proofs.losses.loss_of_number.Tie as tie
 pub loss-of-number-spec : {M : Type 1} → statement M
 loss-of-number-spec = tie.close (tie.spec
     (λ c κs. search)
-    (λ c. search number-loss-laws)
+    (λ c κs. search)
     (λ c. search number-loss-laws))
