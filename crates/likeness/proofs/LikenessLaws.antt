@@ -15,23 +15,19 @@ use Rattle.likeness.specs.declared.Way.{Way}
 use Rattle.likeness.specs.declared.Way.the-variants.{Own, Within, Off}
 use Rattle.likeness.specs.inner.Likes.{isLike, fieldLikes, extensionLikes, declaredLikes}
 
--- ---- same_texts and same_whole
-pub texts-first : (b c r : Bool) → r ≡ b → r ≡ false → false ≡ (b && c)
-texts-first b c r q p = rw (← q, p)
-
-pub texts-second : (b c r : Bool) → r ≡ b → r ≡ true → (v : Bool) → v ≡ c → v ≡ (b && c)
-texts-second b c r q p v u = rw (← q, p) u
-
-pub ruleset same-texts-laws = (texts-first, texts-second, not-true, not-false)
-
+-- ---- same_whole
 module _ (x y : ℕ) (b c : Bool) where
   pub whole-other : (x ≡ y → ⊥) → false ≡ (eqb x y && b && c)
   whole-other h = rw (ne-eqb x y h)
 
-  pub whole-same : x ≡ y → (v : Bool) → v ≡ (b && c) → v ≡ (eqb x y && b && c)
-  whole-same h v u = rw (eq-eqb x y h) u
+  module _ (h : x ≡ y) (r : Bool) (q : r ≡ b) where
+    pub whole-renamed : r ≡ false → false ≡ (eqb x y && b && c)
+    whole-renamed p = rw (eq-eqb x y h, ← q, p)
 
-pub ruleset same-whole-laws = (whole-other, whole-same)
+    pub whole-named : r ≡ true → (v : Bool) → v ≡ c → v ≡ (eqb x y && b && c)
+    whole-named p v u = rw (eq-eqb x y h, ← q, p) u
+
+pub ruleset same-whole-laws = (whole-other, whole-renamed, whole-named, not-true, not-false)
 
 -- ---- is_like
 module _ (l : Like) (o s : List ℕ) (d : Declaration) where
@@ -57,52 +53,57 @@ module _ (l : Like) (o s : List ℕ) (d : Declaration) where
 
 pub ruleset is-like-laws = (like-number-other, like-number, like-whole, not-true, not-false)
 
--- ---- field_likes
-module _ (l : Like) (o s : List ℕ) (w : Way) (d : Declaration) where
-  module _ (h : w ≡ Own) (b : Bool) (q : b ≡ isLike l o s d) where
-    pub field-like : b ≡ true → 1 ≡ fieldLikes l o s w d
-    unfolding fieldLikes
-    field-like p = rw (h, ← q, p)
-
-    pub field-unlike : b ≡ false → 0 ≡ fieldLikes l o s w d
-    unfolding fieldLikes
-    field-unlike p = rw (h, ← q, p)
-
-  pub field-within : (at : ℕ) → w ≡ Within at → 0 ≡ fieldLikes l o s w d
+-- ---- in_field
+module _ (l : Like) (o s : List ℕ) (w : Way) (u : Declared) where
+  pub field-within : (at : ℕ) → w ≡ Within at → 0 ≡ declaredLikes (fieldLikes l o s w) u
   unfolding fieldLikes
-  field-within at h = rw h
+  field-within at h = rw h (go u)
+    where
+      go : (u : Declared) → 0 ≡ declaredLikes (fieldLikes l o s (Within at)) u
+      go NoDeclaration = refl
+      go (Declares d) = refl
 
-  pub field-off : w ≡ Off → 0 ≡ fieldLikes l o s w d
+  pub field-off : w ≡ Off → 0 ≡ declaredLikes (fieldLikes l o s w) u
   unfolding fieldLikes
-  field-off h = rw h
+  field-off h = rw h (go u)
+    where
+      go : (u : Declared) → 0 ≡ declaredLikes (fieldLikes l o s Off) u
+      go NoDeclaration = refl
+      go (Declares d) = refl
 
-pub ruleset field-likes-laws = (field-like, field-unlike, field-within, field-off)
-
--- ---- extension_likes
-module _ (m : List ℕ) (l : Like) (o s : List ℕ) (d : Declaration) (c : Bool) (q : c ≡ extends s m d) where
-  pub extension-other : c ≡ false → 0 ≡ extensionLikes m l o s d
-  unfolding extensionLikes
-  extension-other p = rw (← q, p)
-
-  module _ (h : c ≡ true) (b : Bool) (u : b ≡ isLike l o s d) where
-    pub extension-like : b ≡ true → 1 ≡ extensionLikes m l o s d
-    unfolding extensionLikes
-    extension-like p = rw (← q, h, ← u, p)
-
-    pub extension-unlike : b ≡ false → 0 ≡ extensionLikes m l o s d
-    unfolding extensionLikes
-    extension-unlike p = rw (← q, h, ← u, p)
-
-pub ruleset extension-likes-laws = (extension-other, extension-like, extension-unlike, not-true, not-false)
-
--- ---- in_field and in_extension
 module _ (f : Declaration → ℕ) (u r : Declared) (q : r ≡ u) where
-  pub declared-likes-none : r ≡ NoDeclaration → 0 ≡ declaredLikes f u
-  declared-likes-none g = rw (← q, g)
+  pub likes-none : r ≡ NoDeclaration → 0 ≡ declaredLikes f u
+  likes-none g = rw (← q, g)
 
-  pub declared-likes-some : (d : Declaration) → r ≡ Declares d → (n : ℕ) → n ≡ f d → n ≡ declaredLikes f u
-  declared-likes-some d g n p = rw (← q, g) p
+  likes-some : (d : Declaration) → r ≡ Declares d → (n : ℕ) → n ≡ f d → n ≡ declaredLikes f u
+  likes-some d g n p = rw (← q, g) p
 
-pub ruleset in-field-laws = (declared-likes-none, declared-likes-some, field-places-laws)
+module _ (l : Like) (o s : List ℕ) (w : Way) (h : w ≡ Own) (u r : Declared) (q : r ≡ u) (d : Declaration) (g : r ≡ Declares d)
+    (b : Bool) (p : b ≡ isLike l o s d) where
+  pub field-like : b ≡ true → 1 ≡ declaredLikes (fieldLikes l o s w) u
+  unfolding fieldLikes
+  field-like e = likes-some (fieldLikes l o s w) u r q d g 1 (rw (h, ← p, e) refl)
 
-pub ruleset in-extension-laws = (declared-likes-none, declared-likes-some, extension-places-laws)
+  pub field-unlike : b ≡ false → 0 ≡ declaredLikes (fieldLikes l o s w) u
+  unfolding fieldLikes
+  field-unlike e = likes-some (fieldLikes l o s w) u r q d g 0 (rw (h, ← p, e) refl)
+
+pub ruleset in-field-laws = (field-within, field-off, likes-none, field-like, field-unlike, field-places-laws, not-true, not-false)
+
+-- ---- in_extension
+module _ (m : List ℕ) (l : Like) (o s : List ℕ) (u r : Declared) (q : r ≡ u) (d : Declaration) (g : r ≡ Declares d) (c : Bool)
+    (k : c ≡ extends s m d) where
+  pub extension-other : c ≡ false → 0 ≡ declaredLikes (extensionLikes m l o s) u
+  unfolding extensionLikes
+  extension-other e = likes-some (extensionLikes m l o s) u r q d g 0 (rw (← k, e) refl)
+
+  module _ (h : c ≡ true) (b : Bool) (p : b ≡ isLike l o s d) where
+    pub extension-like : b ≡ true → 1 ≡ declaredLikes (extensionLikes m l o s) u
+    unfolding extensionLikes
+    extension-like e = likes-some (extensionLikes m l o s) u r q d g 1 (rw (← k, h, ← p, e) refl)
+
+    pub extension-unlike : b ≡ false → 0 ≡ declaredLikes (extensionLikes m l o s) u
+    unfolding extensionLikes
+    extension-unlike e = likes-some (extensionLikes m l o s) u r q d g 0 (rw (← k, h, ← p, e) refl)
+
+pub ruleset in-extension-laws = (likes-none, extension-other, extension-like, extension-unlike, extension-places-laws, not-true, not-false)

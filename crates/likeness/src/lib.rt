@@ -40,22 +40,7 @@ fn same_text(s: &[u8], p: Span, o: &[u8], q: Span) -> bool
     same(&s[from..to], &o[a..e])
 }
 
-// Whether two declarations, each of its own sheet, have one name and type path.
-fn same_texts(s: &[u8], d: Declaration, o: &[u8], e: Declaration) -> bool
-    requires { ⌜ Lies (d .name) (now s) ⌝ }
-    requires { ⌜ Lies (d .shape .path) (now s) ⌝ }
-    requires { ⌜ Lies (e .name) (now o) ⌝ }
-    requires { ⌜ Lies (e .shape .path) (now o) ⌝ }
-    ensures { λ r. ⌜ r ≡ (sameBytes (text (now (o .entry)) (e .name)) (text (now (s .entry)) (d .name))
-        && sameBytes (text (now (o .entry)) (e .shape .path)) (text (now (s .entry)) (d .shape .path))) ⌝ }
-{
-    if !same_text(o, e.name, s, d.name) {
-        return false;
-    }
-    same_text(o, e.shape.path, s, d.shape.path)
-}
-
-// Whether they have one type besides.
+// Whether two declarations, each of its own sheet, have one type, name and type path.
 fn same_whole(s: &[u8], d: Declaration, o: &[u8], e: Declaration) -> bool
     requires { ⌜ Lies (d .name) (now s) ⌝ }
     requires { ⌜ Lies (d .shape .path) (now s) ⌝ }
@@ -68,7 +53,10 @@ fn same_whole(s: &[u8], d: Declaration, o: &[u8], e: Declaration) -> bool
     if e.shape.typ != d.shape.typ {
         return false;
     }
-    same_texts(s, d, o, e)
+    if !same_text(o, e.name, s, d.name) {
+        return false;
+    }
+    same_text(o, e.shape.path, s, d.shape.path)
 }
 
 // Whether the declaration d of s is like that of o.
@@ -87,53 +75,28 @@ fn is_like(s: &[u8], d: Declaration, o: &[u8], like: Like) -> bool
     same_whole(s, d, o, like.declaration)
 }
 
-// 1 where a field of a scope that stands so to the message is like it.
-fn field_likes(s: &[u8], d: Declaration, way: Way, o: &[u8], like: Like) -> usize
-    requires { ⌜ Lies (d .name) (now s) ⌝ }
-    requires { ⌜ Lies (d .shape .path) (now s) ⌝ }
-    requires { ⌜ Placed (now o) like ⌝ }
-    ensures { λ r. ⌜ (r ≡ fieldLikes like (now (o .entry)) (now (s .entry)) way d) × (r ≤ 1) ⌝ }
-{
-    match way {
-        Way::Own => {
-            if is_like(s, d, o, like) {
-                return 1;
-            }
-            0
-        }
-        Way::Within(_) => 0,
-        Way::Off => 0,
-    }
-}
-
-// 1 where an extension is of the message and is like it.
-fn extension_likes(s: &[u8], d: Declaration, message: &[u8], o: &[u8], like: Like) -> usize
-    requires { ⌜ Lies (d .name) (now s) ⌝ }
-    requires { ⌜ Lies (d .extendee) (now s) ⌝ }
-    requires { ⌜ Lies (d .shape .path) (now s) ⌝ }
-    requires { ⌜ Placed (now o) like ⌝ }
-    ensures { λ r. ⌜ (r ≡ extensionLikes (now (message .entry)) like (now (o .entry)) (now (s .entry)) d) × (r ≤ 1) ⌝ }
-{
-    if !extends(s, message, d) {
-        return 0;
-    }
-    if is_like(s, d, o, like) { 1 } else { 0 }
-}
-
-// The same of what a payload says of a field: 0 where it says of none.
+// 1 where a scope stands so to the message that it is that, and the field that a payload says of is like it.
 pub fn in_field(s: &[u8], item: Span, way: Way, o: &[u8], like: Like) -> usize
     requires { ⌜ Lies item (now s) ⌝ }
     requires { ⌜ Placed (now o) like ⌝ }
     ensures { λ r. ⌜ (r ≡ declaredLikes (fieldLikes like (now (o .entry)) (now (s .entry)) way)
         (messageFieldAt (now (s .entry)) (item .from) (item .to))) × (r ≤ 1) ⌝ }
 {
+    match way {
+        Way::Own => {}
+        Way::Within(_) => return 0,
+        Way::Off => return 0,
+    }
     let Declared::Declares(d) = message_field_at(s, item.from, item.to) else {
         return 0;
     };
-    field_likes(s, d, way, o, like)
+    if !is_like(s, d, o, like) {
+        return 0;
+    }
+    1
 }
 
-// The same of what a payload says of an extension: 0 where it says of none.
+// 1 where the extension that a payload says of is one of the message and is like it.
 pub fn in_extension(s: &[u8], item: Span, message: &[u8], o: &[u8], like: Like) -> usize
     requires { ⌜ Lies item (now s) ⌝ }
     requires { ⌜ Placed (now o) like ⌝ }
@@ -143,5 +106,8 @@ pub fn in_extension(s: &[u8], item: Span, message: &[u8], o: &[u8], like: Like) 
     let Declared::Declares(d) = extension_at(s, item.from, item.to) else {
         return 0;
     };
-    extension_likes(s, d, message, o, like)
+    if !extends(s, message, d) {
+        return 0;
+    }
+    if is_like(s, d, o, like) { 1 } else { 0 }
 }

@@ -7,9 +7,12 @@ use Rattle.likeness.proofs.in_extension.Tie as tie
 
 pub in-extension-spec : {M : Type 1} → statement M
 in-extension-spec = tie.close (tie.spec
-    (λ c κs. search)
-    (λ c. search)
-    (λ c. search)
+    (λ c κs. search (needs, in-extension-laws))
     (λ c. search (needs, in-extension-laws))
-    (λ c κs. search in-extension-laws)
-    (λ c. search in-extension-laws))
+    (λ c. search (needs, in-extension-laws))
+    (λ c. search (needs, in-extension-laws))
+    (λ c κs. search (needs, in-extension-laws))
+    (λ c. search (needs, in-extension-laws))
+    (λ c κs. search (needs, in-extension-laws))
+    (λ c. search (needs, in-extension-laws))
+    (λ c. search (needs, in-extension-laws)))
