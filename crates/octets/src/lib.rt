@@ -20,20 +20,12 @@ pub fn byte_at(s: &[u8], at: usize) -> usize
     wide(s[at])
 }
 
-// The byte at a place, as it is.
-pub fn octet_at(s: &[u8], at: usize) -> u8
-    requires { ⌜ at < length (now s) ⌝ }
-    ensures { λ r. ⌜ r ≡ getD (now (s .entry)) at 0 ⌝ }
-{
-    s[at]
-}
-
 // Two bytes, the higher first.
 pub fn u16_at(s: &[u8], at: usize) -> usize
     requires { ⌜ at + 2 ≤ length (now s) ⌝ }
     ensures { λ r. ⌜ (r ≡ bigAt 2 (now (s .entry)) at) × (r < 2 ^ 16) ⌝ }
 {
-    byte_at(s, at) * 256 + byte_at(s, at + 1)
+    (s[at] as usize) * 256 + (s[at + 1] as usize)
 }
 
 // Four bytes, the highest first.

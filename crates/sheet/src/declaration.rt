@@ -59,11 +59,11 @@ pub fn has_type_path(typ: usize) -> bool
 }
 
 // The type path where the type has one, and nothing after it.
-fn type_path_at(s: &[u8], at: usize, end: usize, typ: usize) -> Leaf
+fn type_path_at(s: &[u8], at: usize, end: usize, typ: u8) -> Leaf
     requires { ⌜ (at ≤ end) × (end ≤ length (now s)) ⌝ }
     ensures { λ r. ⌜ r ≡ typePathAt typ (now (s .entry)) at end ⌝ }
 {
-    if !has_type_path(typ) {
+    if !has_type_path(typ as usize) {
         if at != end {
             return Leaf::Not;
         }
@@ -96,14 +96,14 @@ fn shape_at(s: &[u8], at: usize, end: usize) -> Shaped
     let Leaf::At { from: l, to: paths } = sized_at(s, labels, end, table::LABEL, 1) else {
         return Shaped::NoShape;
     };
-    let typ = octets::octet_at(s, t);
-    let Leaf::At { from, to } = type_path_at(s, paths, end, typ as usize) else {
+    let typ = s[t];
+    let Leaf::At { from, to } = type_path_at(s, paths, end, typ) else {
         return Shaped::NoShape;
     };
     Shaped::Shapes(Shape {
         number: octets::u32_at(s, n),
         typ: typ,
-        label: octets::octet_at(s, l),
+        label: s[l],
         path: Span { from: from, to: to },
     })
 }
