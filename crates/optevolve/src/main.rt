@@ -3,16 +3,17 @@
 // answered in its turn. On 0 it prints whether each sheet is clean and whether the older is contained in the newer, with the first reason
 // against it; then, of a request, what `optlower` prints, what `optlist` prints of these bytes under the older sheet, and the records of
 // both sheets side by side.
+mod compared;
 mod lowered;
 
 ghost use Rattle.basis.specs.Kit.{_≤_, length};
+use compared::tell_evolution;
 use console::input::Input;
 use console::input::MOST_BYTES;
 use console::input::field_of;
 use field::Leaf;
 use field::leaf_at;
 use lowered::tell_request;
-use wording::tell_evolution;
 
 const SHEET: u8 = 0x40;
 

@@ -1,18 +1,14 @@
-// Whether sheets are clean and one is contained in the other, as lines, with the first reason against it in words.
-mod words;
+// Whether a sheet is clean, or contained in another, as a line, with the first reason against it in words.
+pub mod words;
 
 ghost use Rattle.basis.specs.Kit.{_≤_, length};
 use console::output::text_at;
-use evolution::why_unclean;
-use evolution::why_uncontained;
 use field::Span;
 use limits::MOST_SHEET;
 use reasons::Reason;
 use reasons::Why;
 use roster::Nth;
 use roster::nth_declared;
-use words::CLEAN;
-use words::CONTAINED;
 use words::NO;
 use words::YES;
 use words::row_of;
@@ -50,24 +46,11 @@ fn tell_over(sheet: &[u8], reason: Reason, room: &mut [u8])
 }
 
 // The line of a word that says yes or no of a sheet. One that was judged has no more bytes.
-fn tell_line(word: usize, sheet: &[u8], reason: Reason) {
+pub fn tell_line(word: usize, sheet: &[u8], reason: Reason) {
     if MOST_SHEET < sheet.len() {
         return;
     }
     let mut room = [0u8; MOST_SHEET];
     show_word(word);
     tell_over(sheet, reason, &mut room);
-}
-
-// The lines of two sheets, and whether neither is refused.
-pub fn tell_evolution(older: &[u8], newer: &[u8]) -> bool {
-    let answer = evolution::contained(older, newer);
-    console::output::answer(answer);
-    if answer.reply != 0 {
-        return false;
-    }
-    tell_line(CLEAN, older, why_unclean(older));
-    tell_line(CLEAN, newer, why_unclean(newer));
-    tell_line(CONTAINED, older, why_uncontained(older, newer));
-    true
 }
