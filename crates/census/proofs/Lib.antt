@@ -1,0 +1,5 @@
+pub mod WayLaws
+pub mod OnwardLaws
+pub mod BearersLaws
+pub mod NumbersLaws
+pub mod ItemLaws

@@ -1,0 +1,19 @@
+-- `census::bears` meets its contract.
+-- Assumes nothing.
+use Rattle.census.proofs.ItemLaws.{bears-laws}
+use Rattle.basis.proofs.Kit.{needs}
+use Rattle.census.proofs.bears.Statement.{statement}
+use Rattle.census.proofs.bears.Tie as tie
+
+pub bears-spec : {M : Type 1} → statement M
+bears-spec = tie.close (tie.spec
+    (λ c κs. search (needs, bears-laws))
+    (λ c. search (needs, bears-laws))
+    (λ c. search (needs, bears-laws))
+    (λ c. search (needs, bears-laws))
+    (λ c. search (needs, bears-laws))
+    (λ c. search (needs, bears-laws))
+    (λ c. search (needs, bears-laws))
+    (λ c κs. search (needs, bears-laws))
+    (λ c κs. search (needs, bears-laws))
+    (λ c. search (needs, bears-laws)))

@@ -1,0 +1,18 @@
+-- `census::in_other` meets its contract.
+-- Assumes nothing.
+use Rattle.census.proofs.ItemLaws.{in-other-laws}
+use Rattle.basis.proofs.Kit.{needs}
+use Rattle.census.proofs.in_other.Statement.{statement}
+use Rattle.census.proofs.in_other.Tie as tie
+
+pub in-other-spec : {M : Type 1} → statement M
+in-other-spec = tie.close (tie.spec
+    (λ c. search (needs, in-other-laws))
+    (λ c. search (needs, in-other-laws))
+    (λ c κs. search (needs, in-other-laws))
+    (λ c. search (needs, in-other-laws))
+    (λ c κs. search (needs, in-other-laws))
+    (λ c. search (needs, in-other-laws))
+    (λ c κs. search (needs, in-other-laws))
+    (λ c. search (needs, in-other-laws))
+    (λ c. search (needs, in-other-laws)))
