@@ -7,13 +7,13 @@ use Rattle.census.proofs.bears.Tie as tie
 
 pub bears-spec : {M : Type 1} → statement M
 bears-spec = tie.close (tie.spec
-    (λ c κs. search (needs, bears-laws))
+    (λ c κs. search)
+    (λ c. search)
+    (λ c. search)
     (λ c. search (needs, bears-laws))
-    (λ c. search (needs, bears-laws))
-    (λ c. search (needs, bears-laws))
-    (λ c. search (needs, bears-laws))
-    (λ c. search (needs, bears-laws))
-    (λ c. search (needs, bears-laws))
-    (λ c κs. search (needs, bears-laws))
-    (λ c κs. search (needs, bears-laws))
-    (λ c. search (needs, bears-laws)))
+    (λ c. search bears-laws)
+    (λ c. search bears-laws)
+    (λ c. search bears-laws)
+    (λ c κs. search)
+    (λ c κs. search)
+    (λ c. search bears-laws))

@@ -7,8 +7,8 @@ use Rattle.census.proofs.file_way.Tie as tie
 
 pub file-way-spec : {M : Type 1} → statement M
 file-way-spec = tie.close (tie.spec
-    (λ c. search (needs, file-way-laws))
-    (λ c κs. search (needs, file-way-laws))
-    (λ c. search (needs, file-way-laws))
-    (λ c. search (needs, file-way-laws))
-    (λ c. search (needs, file-way-laws)))
+    (λ c. search file-way-laws)
+    (λ c κs. search needs)
+    (λ c. search needs)
+    (λ c. search file-way-laws)
+    (λ c. search file-way-laws))

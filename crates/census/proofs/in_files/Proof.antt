@@ -2,7 +2,6 @@
 -- Assumes nothing.
 use Rattle.census.proofs.ItemLaws.{fileAsked, in-files-laws}
 use Rattle.basis.specs.Kit.{_-_}
-use Rattle.basis.proofs.Kit.{needs}
 use Rattle.field.proofs.Tally.{Tally, total}
 use Rattle.sheet.specs.Tree.{treeOf}
 use Rattle.census.specs.inner.Census.{filesAsked}
@@ -17,13 +16,13 @@ abbrev μ-loop : tie.MeasureT-loop
 
 pub in-files-spec : {M : Type 1} → statement M
 in-files-spec = tie.close (tie.spec Inv-loop μ-loop
-    (λ c. search (needs, in-files-laws))
-    (λ c κs. search (needs, in-files-laws))
-    (λ c. search (needs, in-files-laws))
-    (λ c. search (needs, in-files-laws))
-    (λ c. search (needs, in-files-laws))
-    (λ c κs. search (needs, in-files-laws))
-    (λ c. search (needs, in-files-laws))
-    (λ c. search (needs, in-files-laws))
-    (λ c. search (needs, in-files-laws))
-    (λ c. search (needs, in-files-laws)))
+    (λ c. search in-files-laws)
+    (λ c κs. search)
+    (λ c. search)
+    (λ c. search)
+    (λ c. search in-files-laws)
+    (λ c κs. search in-files-laws)
+    (λ c. search in-files-laws)
+    (λ c. search in-files-laws)
+    (λ c. search in-files-laws)
+    (λ c. search in-files-laws))

@@ -7,12 +7,12 @@ use Rattle.census.proofs.in_other.Tie as tie
 
 pub in-other-spec : {M : Type 1} → statement M
 in-other-spec = tie.close (tie.spec
-    (λ c. search (needs, in-other-laws))
-    (λ c. search (needs, in-other-laws))
-    (λ c κs. search (needs, in-other-laws))
-    (λ c. search (needs, in-other-laws))
-    (λ c κs. search (needs, in-other-laws))
-    (λ c. search (needs, in-other-laws))
-    (λ c κs. search (needs, in-other-laws))
-    (λ c. search (needs, in-other-laws))
+    (λ c. search)
+    (λ c. search)
+    (λ c κs. search)
+    (λ c. search in-other-laws)
+    (λ c κs. search in-other-laws)
+    (λ c. search in-other-laws)
+    (λ c κs. search in-other-laws)
+    (λ c. search in-other-laws)
     (λ c. search (needs, in-other-laws)))

@@ -7,13 +7,13 @@ use Rattle.census.proofs.own.Tie as tie
 
 pub own-spec : {M : Type 1} → statement M
 own-spec = tie.close (tie.spec
+    (λ c. search)
+    (λ c. search)
+    (λ c. search needs)
     (λ c. search (needs, own-laws))
+    (λ c. search)
+    (λ c. search)
+    (λ c. search)
     (λ c. search (needs, own-laws))
-    (λ c. search (needs, own-laws))
-    (λ c. search (needs, own-laws))
-    (λ c. search (needs, own-laws))
-    (λ c. search (needs, own-laws))
-    (λ c. search (needs, own-laws))
-    (λ c. search (needs, own-laws))
-    (λ c. search (needs, own-laws))
-    (λ c. search (needs, own-laws)))
+    (λ c. search needs)
+    (λ c. search needs))
