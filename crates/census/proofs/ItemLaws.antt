@@ -5,9 +5,11 @@
 --       fileAsked m x o s t a e == how many are in a field of a sheet
 --
 -- Assumes nothing.
-use Rattle.basis.specs.Kit.{_≡_, refl, sym, ap, _∙_, Bool, true, false, _&&_, List, [], ℕ, zero, suc, _+_, _-_, _≤_, eqb, length}
+use Rattle.basis.specs.Kit.{_≡_, refl, sym, ap, _∙_, Bool, true, false, _&&_, List, [], ℕ, zero, suc, _+_, _-_, _*_, _≤_, _<_, eqb, ltb, length}
 use Rattle.basis.proofs.Kit.{arith, eq-eqb, ne-eqb, not-true, not-false, w64, Fits}
 use Rattle.basis.proofs.Never.{never}
+use mathlib.Core.Bool.{not}
+use borrow.Author.Tests.{ltb-true, ltb-false, eqb-true}
 use mir.Facts.{fits-le}
 use Rattle.limits.specs.Figures.{mostMessages}
 use Rattle.octets.specs.Octets.{part}
@@ -23,7 +25,7 @@ use Rattle.sheet.specs.declared.declaration.Declared.the-variants.{Declares, No
 use Rattle.sheet.specs.Table.{fileTag, messageTag, extensionTag, enumTag, fieldTag, packageTag, nameTag}
 use Rattle.sheet.specs.Declaration.{extensionAt, messageFieldAt}
 use Rattle.sheet.specs.Tree.{Items, none, File, enumIn, itemIn, messageIn, itemsIn, fileIn, filesIn, treeOf}
-use Rattle.sheet.proofs.TreeLaws.{item-message, message-beyond, message-unnamed, message-named, enum-named, enum-unnamed, item-enum}
+use Rattle.sheet.proofs.TreeLaws.{item-message, message-unnamed, message-named, enum-named, enum-unnamed, item-enum}
 use Rattle.sheet.proofs.TreeLaws.{item-extension, item-no-extension, item-field, item-no-field}
 use Rattle.sheet.proofs.TreeLaws.{file-other, file-unnamed, file-named, tree-files}
 use Rattle.sheet.proofs.MemberLaws.{item-cases, file-cases}
@@ -205,29 +207,48 @@ pub ruleset in-other-laws = (in-other-bears, in-other-extension, in-other-field,
 pub few-one : (y k : ℕ) → y ≤ 1 → y ≤ k + 1
 few-one y k h = omega arith
 
--- only a message depends on the levels left
-level-other : (d : ℕ) (s : List ℕ) (t a e : ℕ) → (t ≡ messageTag → ⊥) → itemAt 0 s t a e ≡ itemAt d s t a e
+-- a message with no level left is passed over, as what is none
+level-other : (d : ℕ) (s : List ℕ) (t a e : ℕ) → (eqb t messageTag && ltb 0 d) ≡ false → itemAt 0 s t a e ≡ itemAt d s t a e
 unfolding itemIn
-level-other d s t a e h = simp (itemIn, ne-eqb t messageTag h)
+level-other d s t a e h = go (eqb t messageTag) refl h
+  where
+    go : (b : Bool) → eqb t messageTag ≡ b → (b && ltb 0 d) ≡ false → itemAt 0 s t a e ≡ itemAt d s t a e
+    go false q h = simp (itemIn, q)
+    go true q h = let z : d ≡ 0 = omega (arith, ltb-false 0 d h) in rw z
+
+module _ (d t : ℕ) (h : not (eqb t messageTag && ltb 0 d) ≡ false) where
+  pub level-left : 1 ≤ d
+  level-left = go (eqb t messageTag) (not-false (eqb t messageTag && ltb 0 d) h)
+    where
+      go : (b : Bool) → (b && ltb 0 d) ≡ true → 1 ≤ d
+      go true h = ltb-true 0 d h
+      go false h = never cc
+
+  pub level-falls : (k : ℕ) → 2 * d ≡ k → 2 * (d - 1) + 1 < k
+  level-falls k q = omega (arith, level-left)
 
 module _ (m : List ℕ) (x : Asked) (o s : List ℕ) (w : Way) (d t a e : ℕ) where
-  pub in-item-other : (t ≡ messageTag → ⊥) → (y : ℕ) → y ≡ itemsAsked m x o s w (itemAt 0 s t a e)
+  pub in-item-other : (eqb t messageTag && ltb 0 d) ≡ false → (y : ℕ) → y ≡ itemsAsked m x o s w (itemAt 0 s t a e)
       → y ≡ itemsAsked m x o s w (itemAt d s t a e)
   in-item-other h y p = p ∙ ap (itemsAsked m x o s w) (level-other d s t a e h)
 
-  module _ (h : t ≡ messageTag) where
-    pub in-item-beyond : d ≡ 0 → 0 ≡ itemsAsked m x o s w (itemAt d s t a e)
-    in-item-beyond z = rw (item-message (messageIn d s) s t a e none h, message-beyond d s a e none z)
+  module _ (h : (eqb t messageTag && ltb 0 d) ≡ true) (r : Leaf) (q : r ≡ leafAt nameTag anyBytes s a e) where
+    is-message : t ≡ messageTag
+    is-message = go (eqb t messageTag) refl h
+      where
+        go : (b : Bool) → eqb t messageTag ≡ b → (b && ltb 0 d) ≡ true → t ≡ messageTag
+        go true q h = eqb-true t messageTag q
+        go false q h = never cc
 
-    module _ (r : Leaf) (q : r ≡ leafAt nameTag anyBytes s a e) where
-      pub in-item-unnamed : r ≡ Not → 0 ≡ itemsAsked m x o s w (itemAt d s t a e)
-      in-item-unnamed g = rw (item-message (messageIn d s) s t a e none h, message-unnamed d s a e none r q g)
+    pub in-item-unnamed : r ≡ Not → 0 ≡ itemsAsked m x o s w (itemAt d s t a e)
+    in-item-unnamed g = rw (item-message (messageIn d s) s t a e none is-message, message-unnamed d s a e none r q g)
 
-      pub in-item-named : (d ≡ 0 → ⊥) → (n b : ℕ) → r ≡ At n b → (v : Way) → v ≡ onward m w (part s n b)
-          → (y : ℕ) → y ≡ own x messageTag v → (u : ℕ) → u ≡ itemsAsked m x o s v (itemsIn (d - 1) s (walk s b e))
-          → y + u ≡ itemsAsked m x o s w (itemAt d s t a e)
-      in-item-named z n b g v k y p u p′ =
-          rw (item-message (messageIn d s) s t a e none h, message-named d s a e none z r q n b g, p, p′, k) (omega arith)
+    pub in-item-named : (n b : ℕ) → r ≡ At n b → (v : Way) → v ≡ onward m w (part s n b)
+        → (y : ℕ) → y ≡ own x messageTag v → (u : ℕ) → u ≡ itemsAsked m x o s v (itemsIn (d - 1) s (walk s b e))
+        → y + u ≡ itemsAsked m x o s w (itemAt d s t a e)
+    in-item-named n b g v k y p u p′ =
+        let z : d ≡ 0 → ⊥ = λ z. omega (arith, level-left d t (rw h)) in
+        rw (item-message (messageIn d s) s t a e none is-message, message-named d s a e none z r q n b g, p, p′, k) (omega arith)
 
 -- a message itself, and what it holds
 module _ (s : List ℕ) (a e : ℕ) (r : Leaf) (q : r ≡ leafAt nameTag anyBytes s a e) (n b : ℕ) (g : r ≡ At n b) (y u : ℕ) (h : y ≤ 1)
@@ -240,15 +261,18 @@ module _ (s : List ℕ) (a e : ℕ) (r : Leaf) (q : r ≡ leafAt nameTag anyByte
 
 pub ruleset in-item-laws = (
   in-item-other,
-  in-item-beyond,
   in-item-unnamed,
   in-item-named,
+  level-left,
+  level-falls,
   message-few,
   message-fits,
   few-one,
   leaf-inside,
   leaf-ordered,
   leaf-within,
+  not-true,
+  not-false,
 )
 
 -- ---- in_items

@@ -123,7 +123,7 @@ fn bears(s: &[u8], tag: u8, item: Span, text: &[u8], way: Way, asked: Asked) -> 
     own(asked, tag, next)
 }
 
-// How many count in a field of a scope that stands so, where it is no message.
+// How many count in a field of a scope that stands so, where it is no message that is looked into.
 fn in_other(s: &[u8], tag: u8, item: Span, text: &[u8], way: Way, o: &[u8], asked: Asked) -> usize
     requires { ⌜ Lies item (now s) ⌝ }
     requires { ⌜ Reaches (now text) way ⌝ }
@@ -160,19 +160,15 @@ fn in_item(
     ensures { λ r. ⌜ (r ≡ itemsAsked (now (text .entry)) asked (now (o .entry)) (now (s .entry)) way
         (itemAt left (now (s .entry)) tag (item .from) (item .to))) × (r ≤ item .to - item .from + 1) ⌝ }
 {
-    if tag != table::MESSAGE {
+    if !((tag == table::MESSAGE) & (0 < left)) {
         return in_other(s, tag, item, text, way, o, asked);
     }
-    if left == 0 {
-        return 0;
-    }
-    let end = item.to;
-    let Leaf::At { from, to: body } = leaf_at(s, item.from, end, table::NAME) else {
+    let Leaf::At { from, to: body } = leaf_at(s, item.from, item.to, table::NAME) else {
         return 0;
     };
     let inside = Span {
         from: body,
-        to: end,
+        to: item.to,
     };
     let next = onward(text, way, &s[from..body]);
     own(asked, table::MESSAGE, next) + in_items(s, inside, left - 1, text, next, o, asked)
@@ -224,13 +220,12 @@ fn in_file(s: &[u8], tag: u8, item: Span, text: &[u8], o: &[u8], asked: Asked) -
     if tag != table::FILE {
         return 0;
     }
-    let end = item.to;
-    let Leaf::At { from, to: body } = leaf_at(s, item.from, end, table::PACKAGE) else {
+    let Leaf::At { from, to: body } = leaf_at(s, item.from, item.to, table::PACKAGE) else {
         return 0;
     };
     let inside = Span {
         from: body,
-        to: end,
+        to: item.to,
     };
     let way = file_way(text, &s[from..body]);
     in_items(s, inside, MOST_MESSAGES, text, way, o, asked)
