@@ -50,6 +50,29 @@ itemAsked m x o s w d t a e = itemsAsked m x o s w (itemAt d s t a e)
 abbrev pub fileAsked : (m : List ℕ) (x : Asked) (o s : List ℕ) (tag from to : ℕ) → ℕ
 fileAsked m x o s t a e = filesAsked m x o s (fileAt s t a e)
 
+-- ---- open_to
+module _ (x : Asked) (w : Way) (a e : ℕ) where
+  pub open-numbers : (l : Like) → x ≡ Numbers l → e ≡ openTo x w a e
+  open-numbers l h = rw h
+
+  module _ (k : ℕ) (h : x ≡ Bearers k) where
+    pub open-own : w ≡ Own → a ≡ openTo x w a e
+    open-own z = rw (h, z)
+
+    pub open-within : (at : ℕ) → w ≡ Within at → e ≡ openTo x w a e
+    open-within at z = rw (h, z)
+
+    pub open-off : w ≡ Off → a ≡ openTo x w a e
+    open-off z = rw (h, z)
+
+pub ruleset open-laws = (open-numbers, open-own, open-within, open-off)
+
+open-bounds : (x : Asked) (w : Way) (a e : ℕ) → a ≤ e → Lying e a (openTo x w a e)
+open-bounds (Bearers k) Own a e h = record { ordered = omega arith; inside = h }
+open-bounds (Bearers k) (Within at) a e h = record { ordered = h; inside = omega arith }
+open-bounds (Bearers k) Off a e h = record { ordered = omega arith; inside = h }
+open-bounds (Numbers l) w a e h = record { ordered = h; inside = omega arith }
+
 -- ---- a field, and what follows it
 module _ (m : List ℕ) (x : Asked) (o s : List ℕ) where
   item-adds : (w : Way) (d t a e : ℕ) (rest : Items)
@@ -77,10 +100,11 @@ module _ (m : List ℕ) (x : Asked) (o s : List ℕ) where
   files-total (step t a e k) = file-adds t a e (filesIn s k) ∙ ap (λ n. fileAsked m x o s t a e + n) (files-total k)
 
   -- ---- how the loops start
-  pub items-start : (w : Way) (d from to end : ℕ) → from ≤ to → to ≤ end → end ≤ length s
-      → Tally (itemsAsked m x o s w (itemsIn d s (walk s from to))) (total (itemAsked m x o s w d)) s from to 0 from
-  items-start w d from to end h g k =
-      tally-start _ (total (itemAsked m x o s w d)) s from to (items-total w d (walk s from to)) h (omega arith)
+  pub items-start : (w : Way) (d a e u : ℕ) → u ≡ openTo x w a e → a ≤ e → e ≤ length s
+      → Tally (itemsAsked m x o s w (itemsIn d s (walk s a u))) (total (itemAsked m x o s w d)) s a u 0 a
+  items-start w d a e u q h k =
+      let z = open-bounds x w a e h in
+      tally-start _ (total (itemAsked m x o s w d)) s a u (items-total w d (walk s a u)) (omega (arith, z .ordered, q)) (omega (arith, z .inside, q))
 
   pub files-start : (to : ℕ) → to ≡ length s → Tally (filesAsked m x o s (treeOf s)) (total (fileAsked m x o s)) s 0 to 0 0
   files-start to q =
@@ -89,19 +113,35 @@ module _ (m : List ℕ) (x : Asked) (o s : List ℕ) where
       (ap (filesAsked m x o s) (tree-files s) ∙ files-total (walk s 0 (length s))) (omega arith) (omega arith))
 
 -- ---- own
-module _ (x : Asked) (g : ℕ) (w : Way) (k : ℕ) (h : x ≡ Bearers k) where
-  pub own-unwanted : wanted k g ≡ false → 0 ≡ own x g w
-  own-unwanted y = rw h (go w)
-    where
-      go : (w : Way) → 0 ≡ own (Bearers k) g w
-      go Own = rw y
-      go (Within at) = refl
-      go Off = refl
+module _ (x : Asked) (g : ℕ) (w : Way) where
+  pub own-numbers : (l : Like) → x ≡ Numbers l → 0 ≡ own x g w
+  own-numbers l h = rw h
 
-  pub own-wanted : wanted k g ≡ true → w ≡ Own → 1 ≡ own x g w
-  own-wanted y z = rw (h, z, y)
+  module _ (k : ℕ) (h : x ≡ Bearers k) where
+    pub own-unwanted : wanted k g ≡ false → 0 ≡ own x g w
+    own-unwanted y = rw h (go w)
+      where
+        go : (w : Way) → 0 ≡ own (Bearers k) g w
+        go Own = rw y
+        go (Within at) = refl
+        go Off = refl
 
-pub ruleset own-laws = (own-unwanted, own-wanted, not-true, not-false)
+    pub own-wanted : wanted k g ≡ true → w ≡ Own → 1 ≡ own x g w
+    own-wanted y z = rw (h, z, y)
+
+    pub own-within : (at : ℕ) → w ≡ Within at → 0 ≡ own x g w
+    own-within at z = rw (h, z)
+
+    pub own-off : w ≡ Off → 0 ≡ own x g w
+    own-off z = rw (h, z)
+
+pub none-few : 0 ≤ 1
+none-few = omega arith
+
+pub one-few : 1 ≤ 1
+one-few = omega arith
+
+pub ruleset own-laws = (own-numbers, own-unwanted, own-wanted, own-within, own-off, none-few, one-few, not-true, not-false)
 
 -- ---- name_at
 module _ (s : List ℕ) (t a e : ℕ) where
@@ -280,8 +320,8 @@ pub open-counts : (m : List ℕ) (x : Asked) (o s : List ℕ) (w : Way) (d a e u
     → (y : ℕ) → y ≡ itemsAsked m x o s w (itemsIn d s (walk s a u)) → y ≡ itemsAsked m x o s w (itemsIn d s (walk s a e))
 open-counts m x o s w d a e u q y p = rw q at p ∙ open-whole m x o s w d a e
 
-pub open-few : (y a e u : ℕ) → u ≤ e → y ≤ u - a → y ≤ e - a
-open-few y a e u h p = omega arith
+pub open-few : (x : Asked) (w : Way) (a e u : ℕ) → u ≡ openTo x w a e → a ≤ e → (y : ℕ) → y ≤ u - a → y ≤ e - a
+open-few x w a e u q h y p = let z = open-bounds x w a e h in omega (arith, z .inside, q)
 
 pub ruleset in-items-laws = (items-start, open-counts, open-few, tally-laws)
 

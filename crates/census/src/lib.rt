@@ -76,8 +76,7 @@ fn own(asked: Asked, tag: u8, way: Way) -> usize
 // Up to where what a scope that stands so holds may count: not at all, where declarations that bear the full name are asked for and that does
 // not go on in it.
 fn open_to(asked: Asked, way: Way, body: Span) -> usize
-    requires { ⌜ body .from ≤ body .to ⌝ }
-    ensures { λ r. ⌜ (r ≡ openTo asked way (body .from) (body .to)) × (body .from ≤ r) × (r ≤ body .to) ⌝ }
+    ensures { λ r. ⌜ r ≡ openTo asked way (body .from) (body .to) ⌝ }
 {
     let Asked::Bearers(_) = asked else {
         return body.to;

@@ -1,7 +1,6 @@
 -- `census::own` meets its contract.
 -- Assumes nothing.
 use Rattle.census.proofs.ItemLaws.{own-laws}
-use Rattle.basis.proofs.Kit.{needs}
 use Rattle.census.proofs.own.Statement.{statement}
 use Rattle.census.proofs.own.Tie as tie
 
@@ -9,11 +8,11 @@ pub own-spec : {M : Type 1} → statement M
 own-spec = tie.close (tie.spec
     (λ c. search)
     (λ c. search)
-    (λ c. search needs)
-    (λ c. search (needs, own-laws))
+    (λ c. search own-laws)
+    (λ c. search own-laws)
     (λ c. search)
     (λ c. search)
     (λ c. search)
-    (λ c. search (needs, own-laws))
-    (λ c. search needs)
-    (λ c. search needs))
+    (λ c. search own-laws)
+    (λ c. search own-laws)
+    (λ c. search own-laws))
