@@ -19,9 +19,8 @@ use Rattle.names.specs.Names.{What, message, enumeration, extension, anyKind, e
 use Rattle.names.specs.Numbers.{Number, everyNumber}
 use Rattle.names.specs.Clean.{namesOne, cleanPath, sameNumber}
 use Rattle.names.proofs.StandsLaws.{Stands}
-use Rattle.bearers.specs.inner.Bearing.{bearing}
+use Rattle.census.specs.inner.Census.{bearing, numbered}
 use Rattle.likeness.specs.inner.Likes.{isLike}
-use Rattle.numbered.specs.inner.Likes.{numbered}
 use Rattle.reasons.specs.declared.Why.{Why}
 use Rattle.reasons.specs.declared.Why.the-variants as why
 use Rattle.reasons.specs.declared.Reason.{Reason}

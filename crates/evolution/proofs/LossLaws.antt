@@ -13,9 +13,8 @@ use Rattle.names.specs.Names.{What, message, enumeration, extension, everyDecla
 use Rattle.names.specs.Numbers.{Number, everyNumber}
 use Rattle.names.specs.Contained.{alike, isIn}
 use Rattle.names.proofs.StandsLaws.{Stands}
-use Rattle.bearers.specs.inner.Bearing.{bearing}
+use Rattle.census.specs.inner.Census.{bearing, numbered}
 use Rattle.likeness.specs.inner.Likes.{isLike}
-use Rattle.numbered.specs.inner.Likes.{numbered}
 use Rattle.reasons.specs.declared.Why.the-variants as why
 use Rattle.reasons.specs.declared.Reason.{Reason}
 use Rattle.reasons.specs.declared.Reason.the-variants.{Yes, No}
