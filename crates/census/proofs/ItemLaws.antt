@@ -50,6 +50,10 @@ itemAsked m x o s w d t a e = itemsAsked m x o s w (itemAt d s t a e)
 abbrev pub fileAsked : (m : List ℕ) (x : Asked) (o s : List ℕ) (tag from to : ℕ) → ℕ
 fileAsked m x o s t a e = filesAsked m x o s (fileAt s t a e)
 
+-- nothing is never too many
+pub none-few : (k : ℕ) → 0 ≤ k
+none-few k = omega arith
+
 -- ---- open_to
 module _ (x : Asked) (w : Way) (a e : ℕ) where
   pub open-numbers : (l : Like) → x ≡ Numbers l → e ≡ openTo x w a e
@@ -135,9 +139,6 @@ module _ (x : Asked) (g : ℕ) (w : Way) where
     pub own-off : w ≡ Off → 0 ≡ own x g w
     own-off z = rw (h, z)
 
-pub none-few : 0 ≤ 1
-none-few = omega arith
-
 pub one-few : 1 ≤ 1
 one-few = omega arith
 
@@ -195,7 +196,7 @@ pub bears-own : (x : Asked) (g : ℕ) (m : List ℕ) (w : Way) (n : List ℕ) (v
     → y ≡ own x g (onward m w n)
 bears-own x g m w n v u y p = rw u at p
 
-pub ruleset bears-laws = (bears-none, bears-some, bears-own, name-ordered, name-within)
+pub ruleset bears-laws = (bears-none, bears-some, bears-own, none-few, name-ordered, name-within)
 
 -- ---- in_other
 pub asked-placed : (o : List ℕ) (x : Asked) (l : Like) → x ≡ Numbers l → AskedOf o x → Placed o l
@@ -241,7 +242,7 @@ module _ (m : List ℕ) (x : Asked) (o s : List ℕ) (w : Way) (t a e : ℕ) whe
         (item-cases (λ f. 0 ≡ itemsAsked m (Numbers l) o s w (f none)) s a e refl 0 t
         (λ _ z. absurd (z refl)) (λ y. absurd (f y)) (λ _ n b _. refl) (λ y. absurd (g y)))
 
-pub ruleset in-other-laws = (in-other-bears, in-other-extension, in-other-field, in-other-none, asked-placed)
+pub ruleset in-other-laws = (in-other-bears, in-other-extension, in-other-field, in-other-none, asked-placed, none-few)
 
 -- ---- in_item
 pub few-one : (y k : ℕ) → y ≤ 1 → y ≤ k + 1
@@ -307,6 +308,7 @@ pub ruleset in-item-laws = (
   level-falls,
   message-few,
   message-fits,
+  none-few,
   few-one,
   leaf-inside,
   leaf-ordered,
@@ -344,7 +346,7 @@ module _ (m : List ℕ) (x : Asked) (o s : List ℕ) (t a e : ℕ) where
         → (y : ℕ) → y ≡ itemsAsked m x o s v (itemsIn mostMessages s (walk s b e)) → y ≡ filesAsked m x o s (fileAt s t a e)
     in-file-named n b g v u y p = rw (file-named s t a e [] h r q n b g, p, u) (omega arith)
 
-pub ruleset in-file-laws = (in-file-other, in-file-unnamed, in-file-named, file-few, leaf-inside, leaf-ordered, leaf-within)
+pub ruleset in-file-laws = (in-file-other, in-file-unnamed, in-file-named, none-few, file-few, leaf-inside, leaf-ordered, leaf-within)
 
 -- ---- in_files
 pub ruleset in-files-laws = (files-start, tally-laws)

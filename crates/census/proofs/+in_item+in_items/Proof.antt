@@ -60,7 +60,7 @@ pub +in-item+in-items-spec : {M : Type 1} → statement M
     (λ c κs. search)
     (λ c. search)
     (λ c. search)
-    (λ c. search (needs, in-item-laws))
+    (λ c. search in-item-laws)
     (λ c. search in-item-laws)
     (λ c. search in-item-laws)
     (λ c. search in-item-laws)
@@ -68,7 +68,7 @@ pub +in-item+in-items-spec : {M : Type 1} → statement M
     (λ c κs. search)
     (λ c. search in-item-laws)
     (λ c κs. (search in-item-laws, (search in-item-laws, (search, search))))
-    (λ c. search needs)
+    (λ c. search in-item-laws)
     (λ c. search in-item-laws))
     λ t. in-items-lts.spec (open-to-reads.Asked, open-to-reads.Learnt, field-at-reads.Asked, field-at-reads.Learnt,
       in-item-below t, in-item.Post) (in-items-at t) in-items.Post in-items-Inv-loop in-items-μ-loop
@@ -78,7 +78,7 @@ pub +in-item+in-items-spec : {M : Type 1} → statement M
     (λ c. search)
     (λ c. search)
     (λ c. search in-items-laws)
-    (λ c κs. search (needs, in-items-laws))
+    (λ c κs. (search needs, (search in-items-laws, (search, search))))
     (λ c. search in-items-laws)
     (λ c. search in-items-laws)
     (λ c. search in-items-laws)

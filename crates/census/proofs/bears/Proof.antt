@@ -1,7 +1,6 @@
 -- `census::bears` meets its contract.
 -- Assumes nothing.
 use Rattle.census.proofs.ItemLaws.{bears-laws}
-use Rattle.basis.proofs.Kit.{needs}
 use Rattle.census.proofs.bears.Statement.{statement}
 use Rattle.census.proofs.bears.Tie as tie
 
@@ -10,7 +9,7 @@ bears-spec = tie.close (tie.spec
     (λ c κs. search)
     (λ c. search)
     (λ c. search)
-    (λ c. search (needs, bears-laws))
+    (λ c. search bears-laws)
     (λ c. search bears-laws)
     (λ c. search bears-laws)
     (λ c. search bears-laws)

@@ -1,7 +1,6 @@
 -- `census::in_other` meets its contract.
 -- Assumes nothing.
 use Rattle.census.proofs.ItemLaws.{in-other-laws}
-use Rattle.basis.proofs.Kit.{needs}
 use Rattle.census.proofs.in_other.Statement.{statement}
 use Rattle.census.proofs.in_other.Tie as tie
 
@@ -15,4 +14,4 @@ in-other-spec = tie.close (tie.spec
     (λ c. search in-other-laws)
     (λ c κs. search in-other-laws)
     (λ c. search in-other-laws)
-    (λ c. search (needs, in-other-laws)))
+    (λ c. search in-other-laws))
