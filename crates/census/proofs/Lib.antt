@@ -2,4 +2,5 @@ pub mod WayLaws
 pub mod OnwardLaws
 pub mod BearersLaws
 pub mod NumbersLaws
+pub mod OtherLaws
 pub mod ItemLaws

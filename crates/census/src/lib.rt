@@ -73,8 +73,8 @@ fn own(asked: Asked, tag: u8, way: Way) -> usize
     }
 }
 
-// Up to where what a scope that stands so holds may count: not at all, where declarations that bear the full name are asked for and that does
-// not go on in it.
+// Up to where what a scope that stands so holds may count: from its start on nothing does, where declarations that bear the full name are
+// asked for and that does not go on in it.
 fn open_to(asked: Asked, way: Way, body: Span) -> usize
     ensures { λ r. ⌜ r ≡ openTo asked way (body .from) (body .to) ⌝ }
 {
@@ -174,7 +174,15 @@ fn in_item(
 }
 
 // How many count in what a scope that stands so holds.
-fn in_items(s: &[u8], body: Span, left: usize, text: &[u8], way: Way, o: &[u8], asked: Asked) -> usize
+fn in_items(
+    s: &[u8],
+    body: Span,
+    left: usize,
+    text: &[u8],
+    way: Way,
+    o: &[u8],
+    asked: Asked,
+) -> usize
     requires { ⌜ Lies body (now s) ⌝ }
     requires { ⌜ Reaches (now text) way ⌝ }
     requires { ⌜ AskedOf (now o) asked ⌝ }

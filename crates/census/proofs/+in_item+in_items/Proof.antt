@@ -52,9 +52,19 @@ in-items-μ-loop s left text way o asked end n₀ p₀ n p = end - p
 
 pub +in-item+in-items-spec : {M : Type 1} → statement M
 +in-item+in-items-spec = close μ-in-item μ-in-items
-    (λ t. in-item-lts.spec (in-other-reads.Asked, in-other-reads.Learnt, leaf-at-reads.Asked, leaf-at-reads.Learnt,
-      onward-reads.Asked, onward-reads.Learnt, own-reads.Asked, own-reads.Learnt, in-items-below t, in-items.Post)
-      (in-item-at t) in-item.Post
+    (λ t. in-item-lts.spec (
+      in-other-reads.Asked,
+      in-other-reads.Learnt,
+      leaf-at-reads.Asked,
+      leaf-at-reads.Learnt,
+      onward-reads.Asked,
+      onward-reads.Learnt,
+      own-reads.Asked,
+      own-reads.Learnt,
+      in-items-below t,
+      in-items.Post,
+    )
+    (in-item-at t) in-item.Post
     (λ c κs. search)
     (λ c. search in-item-laws)
     (λ c κs. search)
@@ -70,8 +80,14 @@ pub +in-item+in-items-spec : {M : Type 1} → statement M
     (λ c κs. (search in-item-laws, (search in-item-laws, (search, search))))
     (λ c. search in-item-laws)
     (λ c. search in-item-laws))
-    λ t. in-items-lts.spec (open-to-reads.Asked, open-to-reads.Learnt, field-at-reads.Asked, field-at-reads.Learnt,
-      in-item-below t, in-item.Post) (in-items-at t) in-items.Post in-items-Inv-loop in-items-μ-loop
+    λ t. in-items-lts.spec (
+      open-to-reads.Asked,
+      open-to-reads.Learnt,
+      field-at-reads.Asked,
+      field-at-reads.Learnt,
+      in-item-below t,
+      in-item.Post,
+    ) (in-items-at t) in-items.Post in-items-Inv-loop in-items-μ-loop
     (λ c κs. search)
     (λ c. search in-items-laws)
     (λ c κs. search)

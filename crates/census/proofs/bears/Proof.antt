@@ -1,6 +1,6 @@
 -- `census::bears` meets its contract.
 -- Assumes nothing.
-use Rattle.census.proofs.ItemLaws.{bears-laws}
+use Rattle.census.proofs.OtherLaws.{bears-laws}
 use Rattle.census.proofs.bears.Statement.{statement}
 use Rattle.census.proofs.bears.Tie as tie
 

@@ -1,6 +1,6 @@
 -- `census::in_other` meets its contract.
 -- Assumes nothing.
-use Rattle.census.proofs.ItemLaws.{in-other-laws}
+use Rattle.census.proofs.OtherLaws.{in-other-laws}
 use Rattle.census.proofs.in_other.Statement.{statement}
 use Rattle.census.proofs.in_other.Tie as tie
 

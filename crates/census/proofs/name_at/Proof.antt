@@ -1,6 +1,6 @@
 -- `census::name_at` meets its contract.
 -- Assumes nothing.
-use Rattle.census.proofs.ItemLaws.{name-laws}
+use Rattle.census.proofs.OtherLaws.{name-laws}
 use Rattle.census.proofs.name_at.Statement.{statement}
 use Rattle.census.proofs.name_at.Tie as tie
 

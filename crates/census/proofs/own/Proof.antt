@@ -1,6 +1,6 @@
 -- `census::own` meets its contract.
 -- Assumes nothing.
-use Rattle.census.proofs.ItemLaws.{own-laws}
+use Rattle.census.proofs.OtherLaws.{own-laws}
 use Rattle.census.proofs.own.Statement.{statement}
 use Rattle.census.proofs.own.Tie as tie
 
