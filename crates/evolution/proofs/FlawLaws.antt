@@ -12,9 +12,8 @@ use Rattle.sheet.specs.Table.{messageTag, enumTag}
 use Rattle.names.specs.Names.{anyKind, everyDeclared}
 use Rattle.names.specs.Numbers.{everyNumber}
 use Rattle.names.specs.Clean.{namesOne, cleanPath, sameNumber}
-use Rattle.bearers.specs.inner.Bearing.{bearing}
 use Rattle.likeness.specs.inner.Likes.{isLike}
-use Rattle.numbered.specs.inner.Likes.{numbered}
+use Rattle.census.specs.inner.Census.{bearing, numbered}
 use Rattle.reasons.specs.declared.Why.the-variants as why
 use Rattle.reasons.specs.declared.Reason.{Reason}
 use Rattle.reasons.specs.declared.Reason.the-variants.{No}

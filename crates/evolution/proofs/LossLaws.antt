@@ -14,9 +14,8 @@ use Rattle.sheet.specs.Table.{messageTag, enumTag}
 use Rattle.names.specs.Names.{everyDeclared, ofKind, bears}
 use Rattle.names.specs.Numbers.{Number, everyNumber}
 use Rattle.names.specs.Contained.{alike}
-use Rattle.bearers.specs.inner.Bearing.{bearing}
 use Rattle.likeness.specs.inner.Likes.{isLike}
-use Rattle.numbered.specs.inner.Likes.{numbered}
+use Rattle.census.specs.inner.Census.{bearing, numbered}
 use Rattle.reasons.specs.declared.Why.{Why}
 use Rattle.reasons.specs.declared.Why.the-variants as why
 use Rattle.reasons.specs.declared.Reason.{Reason}

@@ -2,10 +2,10 @@
 ghost use Rattle.basis.specs.Kit.{_≡_};
 ghost use Rattle.reasons.specs.Reasons.{numberLoss};
 ghost use Rattle.evolution.specs.inner.Bearers.{DeclaredLies, numberFor, nameLoss, ownLoss};
-use bearers::bearers;
+use census::bearers;
+use census::numbered;
 use field::Span;
 use likeness::Like;
-use numbered::numbered;
 use reasons::Reason;
 use reasons::Why;
 use reasons::or_no;

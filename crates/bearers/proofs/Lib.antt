@@ -1,3 +1,0 @@
-pub mod FrontLaws
-pub mod BearingLaws
-pub mod WayLaws

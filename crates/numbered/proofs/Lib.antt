@@ -1,4 +1,0 @@
-pub mod WayLaws
-pub mod EveryLaws
-pub mod OnwardLaws
-pub mod ItemLaws
