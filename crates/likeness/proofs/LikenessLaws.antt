@@ -27,7 +27,7 @@ module _ (x y : ℕ) (b c : Bool) where
     pub whole-named : r ≡ true → (v : Bool) → v ≡ c → v ≡ (eqb x y && b && c)
     whole-named p v u = rw (eq-eqb x y h, ← q, p) u
 
-pub ruleset same-whole-laws = (whole-other, whole-renamed, whole-named, not-true, not-false)
+pub ruleset same-whole-laws = (whole-other, whole-renamed, whole-named)
 
 -- ---- is_like
 module _ (l : Like) (o s : List ℕ) (d : Declaration) where
@@ -88,7 +88,7 @@ module _ (l : Like) (o s : List ℕ) (w : Way) (h : w ≡ Own) (u r : Declared) 
   unfolding fieldLikes
   field-unlike e = likes-some (fieldLikes l o s w) u r q d g 0 (rw (h, ← p, e) refl)
 
-pub ruleset in-field-laws = (field-within, field-off, likes-none, field-like, field-unlike, field-places-laws, not-true, not-false)
+pub ruleset in-field-laws = (field-within, field-off, likes-none, field-like, field-unlike, field-places-laws)
 
 -- ---- in_extension
 module _ (m : List ℕ) (l : Like) (o s : List ℕ) (u r : Declared) (q : r ≡ u) (d : Declaration) (g : r ≡ Declares d) (c : Bool)
@@ -106,4 +106,4 @@ module _ (m : List ℕ) (l : Like) (o s : List ℕ) (u r : Declared) (q : r ≡ 
     unfolding extensionLikes
     extension-unlike e = likes-some (extensionLikes m l o s) u r q d g 0 (rw (← k, h, ← p, e) refl)
 
-pub ruleset in-extension-laws = (likes-none, extension-other, extension-like, extension-unlike, extension-places-laws, not-true, not-false)
+pub ruleset in-extension-laws = (likes-none, extension-other, extension-like, extension-unlike, extension-places-laws)

@@ -50,13 +50,12 @@ fn same_whole(s: &[u8], d: Declaration, o: &[u8], e: Declaration) -> bool
         && sameBytes (text (now (o .entry)) (e .name)) (text (now (s .entry)) (d .name))
         && sameBytes (text (now (o .entry)) (e .shape .path)) (text (now (s .entry)) (d .shape .path))) ⌝ }
 {
-    if e.shape.typ != d.shape.typ {
-        return false;
+    if e.shape.typ == d.shape.typ {
+        if same_text(o, e.name, s, d.name) {
+            return same_text(o, e.shape.path, s, d.shape.path);
+        }
     }
-    if !same_text(o, e.name, s, d.name) {
-        return false;
-    }
-    same_text(o, e.shape.path, s, d.shape.path)
+    false
 }
 
 // Whether the declaration d of s is like that of o.
@@ -90,10 +89,7 @@ pub fn in_field(s: &[u8], item: Span, way: Way, o: &[u8], like: Like) -> usize
     let Declared::Declares(d) = message_field_at(s, item.from, item.to) else {
         return 0;
     };
-    if !is_like(s, d, o, like) {
-        return 0;
-    }
-    1
+    if is_like(s, d, o, like) { 1 } else { 0 }
 }
 
 // 1 where the extension that a payload says of is one of the message and is like it.
@@ -106,8 +102,10 @@ pub fn in_extension(s: &[u8], item: Span, message: &[u8], o: &[u8], like: Like) 
     let Declared::Declares(d) = extension_at(s, item.from, item.to) else {
         return 0;
     };
-    if !extends(s, message, d) {
-        return 0;
+    if extends(s, message, d) {
+        if is_like(s, d, o, like) {
+            return 1;
+        }
     }
-    if is_like(s, d, o, like) { 1 } else { 0 }
+    0
 }

@@ -12,7 +12,7 @@ in-extension-spec = tie.close (tie.spec
     (λ c. search (needs, in-extension-laws))
     (λ c. search (needs, in-extension-laws))
     (λ c κs. search (needs, in-extension-laws))
-    (λ c. search (needs, in-extension-laws))
     (λ c κs. search (needs, in-extension-laws))
+    (λ c. search (needs, in-extension-laws))
     (λ c. search (needs, in-extension-laws))
     (λ c. search (needs, in-extension-laws)))

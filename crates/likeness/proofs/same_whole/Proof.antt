@@ -7,8 +7,8 @@ use Rattle.likeness.proofs.same_whole.Tie as tie
 
 pub same-whole-spec : {M : Type 1} → statement M
 same-whole-spec = tie.close (tie.spec
-    (λ c. search (needs, same-whole-laws))
+    (λ c κs. search (needs, same-whole-laws))
     (λ c κs. search (needs, same-whole-laws))
     (λ c. search (needs, same-whole-laws))
-    (λ c κs. search (needs, same-whole-laws))
+    (λ c. search (needs, same-whole-laws))
     (λ c. search (needs, same-whole-laws)))
