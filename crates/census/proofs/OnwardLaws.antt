@@ -1,4 +1,4 @@
--- The ways through the functions that tell how a scope stands to a message.
+-- The ways through the functions that tell how a scope stands to a full name.
 -- Assumes nothing.
 use Rattle.basis.specs.Kit.{_≡_, refl, sym, ap, _∙_, Bool, true, false, List, [], _∷_, _++_, ℕ, suc, _+_, _-_, _≤_, length, drop}
 use Rattle.basis.proofs.Kit.{arith, w64, Fits}
@@ -30,7 +30,7 @@ module _ (m : List ℕ) (at : ℕ) (n : List ℕ) (h : at ≤ length m) (b : Boo
   pub leads-reaches : Reaches m (Within (at + length n + 1))
   leads-reaches = reaches-within (at + length n + 1) leads-ends
 
--- ---- within
+-- ---- onward, in a scope in which the full name goes on
 rest-all : (m : List ℕ) (at : ℕ) → part m at (length m) ≡ drop at m
 rest-all m at = take-all (length m - at) (drop at m) (omega (arith, length-drop at m))
 
