@@ -11,7 +11,7 @@ use Rattle.reply.specs.declared.Refusal.{Refusal}
 use Rattle.reply.specs.declared.Verdict.{Verdict}
 use Rattle.reply.specs.declared.Verdict.the-variants.{Fine, Refused as Bad}
 use Rattle.reply.specs.declared.Answer.{Answer}
-use Rattle.reply.specs.Reply.{nowhere, refusedBy}
+use Rattle.reply.specs.Reply.{bare, refusedBy}
 use Rattle.reply.specs.Outcome.{give, Answered}
 use Rattle.reply.proofs.Outcomes.{answered-refused}
 use Rattle.reply.proofs.VerdictLaws.{first-fine-front}
@@ -114,7 +114,7 @@ module _ (f : Found) (name-at name-size extendee-at extendee-size path-at path-s
 module _ (s c p l : List ℕ) (r : Resolved) (q : r ≡ findingTested s c p) (a : Answer) where
   pub tested-refused : (w : Refusal) → r ≡ Refused w → a ≡ refusedBy w → Answered (findTested s c p) l l a
   unfolding findTested
-  tested-refused w g e = rw e (answered-refused (findTested s c p) l (nowhere w) (ap worded (sym q ∙ g)))
+  tested-refused w g e = rw e (answered-refused (findTested s c p) l (bare w) (ap worded (sym q ∙ g)))
 
   pub tested-found : (f : Found) → r ≡ Field f → (l′ : List ℕ) → Answered (give (wordsOf f)) l l′ a → Answered (findTested s c p) l l′ a
   unfolding findTested
@@ -124,7 +124,7 @@ module _ (s c p l : List ℕ) (r : Resolved) (q : r ≡ findingTested s c p) (a 
 module _ (s c p l : List ℕ) (v : Verdict) (q : v ≡ judgeSheet s) (a : Answer) where
   pub find-refused : (w : Refusal) → v ≡ Bad w → a ≡ refusedBy w → Answered (findWords s c p) l l a
   unfolding findWords findingBy judgeAll
-  find-refused w g e = rw e (answered-refused (findWords s c p) l (nowhere w) (rw (← q, g)))
+  find-refused w g e = rw e (answered-refused (findWords s c p) l (bare w) (rw (← q, g)))
 
   pub find-found : v ≡ Fine → (l′ : List ℕ) → Answered (findTested s c p) l l′ a → Answered (findWords s c p) l l′ a
   find-found g l′ h = rw (words-tested s c p (sym q ∙ g)) h

@@ -8,13 +8,13 @@ use native.Mathlib.Decide.{decLt}
 use lib.Seq.{length-take-le, drop-length}
 use Rattle.basis.proofs.Never.{never}
 use Rattle.reply.specs.declared.Refusal.the-variants.{NoRoom}
+use Rattle.reply.specs.declared.Cause.{Cause}
 use Rattle.reply.specs.declared.Answer.{Answer}
-use Rattle.reply.specs.Reply.{refusedBy, doneWith, absentAnswer}
+use Rattle.reply.specs.Reply.{refusedFor, refusedBy, doneWith, absentAnswer}
 use Rattle.reply.specs.Outcome.{Outcome, refuse, give, within, answerOf, leftOf, Answered}
 use Rattle.reply.proofs.Outcomes.{answered-no-room, answered-done}
 use Rattle.octets.proofs.Overlay.{sets-out}
 use Rattle.emit.proofs.WriteLaws.{sets-front}
-use Rattle.judged.specs.declared.Stop.{Stop}
 use Rattle.judged.specs.declared.Judged.{Judged}
 use Rattle.judged.specs.declared.Judged.the-variants.{Fine, Absent, Refused}
 use Rattle.judged.specs.inner.Answering.{Judges, fine, absent, refuses, answerIn}
@@ -25,7 +25,7 @@ module _ (room : ℕ) (v : Judged) (a : Answer) where
   unfolding answerIn
   answer-absent g e = rw g e
 
-  pub answer-refused : (w : Stop) → v ≡ Refused w → a ≡ refusedBy (w .why) → a ≡ answerIn room v
+  pub answer-refused : (w : Cause) → v ≡ Refused w → a ≡ refusedFor w → a ≡ answerIn room v
   unfolding answerIn
   answer-refused w g e = rw g e
 
@@ -62,7 +62,7 @@ module _ {o : Outcome ℕ} {before : List ℕ} (a : Answer) where
       go (fine bytes) g = never cc
       go (refuses w) g = never cc
 
-  pub judged-refused : (w : Stop) → Judges o (Refused w) → a ≡ answerIn (length before) (Refused w) → Answered o before before a
+  pub judged-refused : (w : Cause) → Judges o (Refused w) → a ≡ answerIn (length before) (Refused w) → Answered o before before a
   judged-refused w k e = record { answer = e ∙ answer-in k (length before); left = go k refl }
     where
       go : {p : Outcome ℕ} {v : Judged} → Judges p v → v ≡ Refused w → before ≡ leftOf (within (length before) p) before

@@ -9,7 +9,7 @@ use Rattle.reply.specs.declared.Refusal.the-variants.{BeyondLimit}
 use Rattle.reply.specs.declared.Verdict.{Verdict}
 use Rattle.reply.specs.declared.Verdict.the-variants.{Fine, Refused}
 use Rattle.reply.specs.declared.Answer.{Answer}
-use Rattle.reply.specs.Reply.{nowhere, refusedBy as refusedAnswer}
+use Rattle.reply.specs.Reply.{bare, refusedBy as refusedAnswer}
 use Rattle.reply.specs.Outcome.{refuse, unless, Answered}
 use Rattle.reply.proofs.Outcomes.{answered-refused}
 use Rattle.reply.proofs.VerdictLaws.{first-fine-rest, judged-fine}
@@ -76,7 +76,7 @@ module _ (v : Verdict) (s type bs : List ℕ) where
 module _ (s type bs : List ℕ) (r : LookedUp) (q : r ≡ admitted (judgeLength s) s type bs) where
   pub tested-refused : (w : Refusal) → r ≡ NoMessage w → (l : List ℕ) (a : Answer) → a ≡ refusedAnswer w
       → Answered (listingTested s type bs) l l a
-  tested-refused w g l a e = rw e (answered-refused _ l (nowhere w) (listing-none (judgeLength s) s type bs w (sym q ∙ g)))
+  tested-refused w g l a e = rw e (answered-refused _ l (bare w) (listing-none (judgeLength s) s type bs w (sym q ∙ g)))
 
   module _ (p : LookupScope) (g : r ≡ Found p) where
     admitting : Admits (judgeInputs (judgeLength s) type bs) s type p
@@ -106,7 +106,7 @@ list-tested s type bs h = ap (λ v. listingBy v s type bs) (h ∙ sym (sheet-len
 module _ (s type bs : List ℕ) (v : Verdict) (q : v ≡ judgeSheet s) (l : List ℕ) (a : Answer) where
   pub list-refused : (w : Refusal) → v ≡ Refused w → a ≡ refusedAnswer w → Answered (listing s type bs) l l a
   unfolding listingBy judgeInputs
-  list-refused w g e = rw e (answered-refused _ l (nowhere w) (rw (← q, g)))
+  list-refused w g e = rw e (answered-refused _ l (bare w) (rw (← q, g)))
 
   pub list-listed : v ≡ Fine → (l′ : List ℕ) → Answered (listingTested s type bs) l l′ a → Answered (listing s type bs) l l′ a
   list-listed g l′ h = rw (list-tested s type bs (sym q ∙ g)) h

@@ -4,7 +4,7 @@ use Rattle.basis.specs.Kit.{_≡_, refl, sym, ap, _∙_, List, [], _∷_, ℕ, 
 use Rattle.basis.proofs.Kit.{arith}
 use Rattle.reply.specs.declared.Refusal.{Refusal}
 use Rattle.reply.specs.declared.Cause.{Cause}
-use Rattle.reply.specs.Reply.{nowhere}
+use Rattle.reply.specs.Reply.{bare}
 use Rattle.reply.specs.Outcome.{Outcome, refused, nothing, give, push}
 use Rattle.emit.specs.declared.Put.{Put}
 use Rattle.emit.specs.declared.Put.the-variants.{Wrote, Refused}
@@ -66,7 +66,7 @@ module _ (s type bs : List ℕ) (whole : Outcome Row) (st : List ℕ) (c : Curso
     pub rowing-end : r ≡ End → Puts (worded whole) 0 l m (Wrote n)
     rowing-end g = front-done _ _ 0 l m n (u .laid) (ap worded (moved-end s type bs _ (c .at) st′ r k g))
 
-    pub rowing-wrong : (w : Refusal) → r ≡ Wrong w → (x : Cause) → x ≡ nowhere w → Puts (worded whole) 0 l m (Refused x)
+    pub rowing-wrong : (w : Refusal) → r ≡ Wrong w → (x : Cause) → x ≡ bare w → Puts (worded whole) 0 l m (Refused x)
     rowing-wrong w g x e =
         front-refused _ _ 0 l m n (u .laid) x (ap worded (moved-wrong s type bs _ (c .at) st′ r k w g) ∙ ap refused (sym e))
 

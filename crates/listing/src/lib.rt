@@ -49,7 +49,7 @@ fn put_rows(
     loop {
         match next(sheet, options_type, bytes, stack, cursor) {
             Event::End => return Put::Wrote(n),
-            Event::Wrong(why) => return Put::Refused(reply::nowhere(why)),
+            Event::Wrong(why) => return Put::Refused(reply::bare(why)),
             Event::Record { row, rest } => {
                 n = put_row(out, n, row);
                 cursor = rest;

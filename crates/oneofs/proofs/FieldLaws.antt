@@ -11,7 +11,7 @@ use Rattle.limits.specs.Figures.{mostWords}
 use Rattle.reply.specs.declared.Refusal.the-variants.{BadRequest, BeyondLimit}
 use Rattle.reply.specs.declared.Cause.{Cause}
 use Rattle.reply.specs.declared.Answer.{Answer}
-use Rattle.reply.specs.Reply.{nowhere, refusedBy}
+use Rattle.reply.specs.Reply.{bare, refusedBy}
 use Rattle.reply.specs.Outcome.{Outcome, refused, refuse, nothing, give, push, Answered}
 use Rattle.reply.proofs.Outcomes.{answered-refused}
 use Rattle.emit.specs.declared.Put.{Put}
@@ -86,7 +86,7 @@ module _ (ws l m : List ℕ) (count member n i : ℕ) (u : Numbering ws l m coun
     }
 
     refused-here : oneofs count member (getD ws i 0 ∷ drop (i + 1) ws) ≡ refuse BadRequest
-        → (c : Cause) → c ≡ nowhere BadRequest → Puts (oneofs 0 0 ws) 0 l m (Refused c)
+        → (c : Cause) → c ≡ bare BadRequest → Puts (oneofs 0 0 ws) 0 l m (Refused c)
     refused-here e c q = front-refused _ _ 0 l m n (u .laid) c (ap (oneofs count member) here ∙ e ∙ ap refused (sym q))
 
     pub numbering-plain : getD ws i 0 ≡ 0 → (l′ : List ℕ) → l′ ≡ sets m n (0 ∷ []) → Numbering ws l l′ count 0 (n + 1) (i + 1)
@@ -108,11 +108,11 @@ module _ (ws l m : List ℕ) (count member n i : ℕ) (u : Numbering ws l m coun
         }
 
         module _ (d : getD ws i 0 ≡ 2 → ⊥) where
-          pub numbering-other : (getD ws i 0 ≡ 3 → ⊥) → (c : Cause) → c ≡ nowhere BadRequest → Puts (oneofs 0 0 ws) 0 l m (Refused c)
+          pub numbering-other : (getD ws i 0 ≡ 3 → ⊥) → (c : Cause) → c ≡ bare BadRequest → Puts (oneofs 0 0 ws) 0 l m (Refused c)
           numbering-other e = refused-here (oneofs-other count member _ _ a b d e)
 
           module _ (e : getD ws i 0 ≡ 3) where
-            pub numbering-stray : member ≡ 0 → (c : Cause) → c ≡ nowhere BadRequest → Puts (oneofs 0 0 ws) 0 l m (Refused c)
+            pub numbering-stray : member ≡ 0 → (c : Cause) → c ≡ bare BadRequest → Puts (oneofs 0 0 ws) 0 l m (Refused c)
             numbering-stray g = refused-here (oneofs-stray count member _ _ a b d e g)
 
             pub numbering-member : (member ≡ 0 → ⊥) → (l′ : List ℕ) → l′ ≡ sets m n (member ∷ [])
@@ -160,7 +160,7 @@ unfolding oneofs
 oneofs-short count member [] = short-nil 0
 oneofs-short count member (w ∷ ws) =
     let n = length ws in
-    let bad = short-refused (nowhere BadRequest) (suc n) in
+    let bad = short-refused (bare BadRequest) (suc n) in
     short-if (eqb w 0) (short-push 0 n _ (oneofs-short count 0 ws))
     (short-if (eqb w 1) (short-push (suc count) n _ (oneofs-short (suc count) 0 ws))
     (short-if (eqb w 2) (short-more n _ (oneofs-short (suc count) (suc count) ws))
@@ -168,7 +168,7 @@ oneofs-short count member (w ∷ ws) =
 
 pub fields-long : (ws l : List ℕ) (r : Answer) → mostWords < length ws → r ≡ refusedBy BeyondLimit → Answered (lowerFields ws) l l r
 unfolding lowerFields
-fields-long ws l r h a = rw a (answered-refused _ l (nowhere BeyondLimit) (simp (lowerFields, lt-ltb _ _ h)))
+fields-long ws l r h a = rw a (answered-refused _ l (bare BeyondLimit) (simp (lowerFields, lt-ltb _ _ h)))
 
 pub fields-left : (ws : List ℕ) → length ws ≤ mostWords → lowerFields ws ≡ oneofs 0 0 ws
 unfolding lowerFields

@@ -42,10 +42,10 @@ fn put_fields(words: &[u32], out: &mut [u32]) -> Put
             i += 1;
         } else {
             if w != 3 {
-                return Put::Refused(reply::nowhere(Refusal::BadRequest));
+                return Put::Refused(reply::bare(Refusal::BadRequest));
             }
             if member == 0 {
-                return Put::Refused(reply::nowhere(Refusal::BadRequest));
+                return Put::Refused(reply::bare(Refusal::BadRequest));
             }
             put_word(out, n, member);
             n += 1;

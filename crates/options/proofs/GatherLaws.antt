@@ -30,7 +30,7 @@ use Rattle.known.proofs.KnownLaws.{known-few}
 use Rattle.known.proofs.NoteLaws.{noted-length}
 use Rattle.known.proofs.NotedLaws.{noted-start, noted-none, noted-set}
 use Rattle.options.specs.declared.settle.Start.{Start}
-use Rattle.judged.specs.declared.Stop.{Stop}
+use Rattle.reply.specs.declared.Cause.{Cause}
 use Rattle.options.specs.declared.settle.Settling.{Settling}
 use Rattle.options.specs.declared.settle.Settling.the-variants.{Gives, Fails}
 use Rattle.options.specs.Settle.{Settled, known, others, fails}
@@ -118,7 +118,7 @@ module _ (L : Lookups) (s r : List ℕ) (h : Start) (l m ns₀ ns : List ℕ) (a
           ∙ ap (λ z. next n (u .knowns) (u .rest) z (λ ks x. gatherFrom L s r h (n + 1) ks x (drop (n + 1) (optionsOf r h)))) (sym w)
 
       module _ (m′ : List ℕ) (y : Settling) where
-        refused-by : (v : Settled) → v ≡ settledAt L s r h a e → (stop : Stop)
+        refused-by : (v : Settled) → v ≡ settledAt L s r h a e → (stop : Cause)
             → Emits (settlingOf n (noteIn v)) (othersOf v) (bytesMost (e - a)) m p m′ y → y ≡ Fails stop → gatheredBy L s r h ≡ stopped stop
         unfolding settlingOf
         refused-by (known k) w stop b z = let c = b .answer in never cc
@@ -167,7 +167,7 @@ module _ (L : Lookups) (s r : List ℕ) (h : Start) (l m ns₀ ns : List ℕ) (a
 
         module _ (b : Emits (settlingOf n (noteIn (settledAt L s r h a e))) (othersOf (settledAt L s r h a e)) (bytesMost (e - a)) m p m′ y)
           where
-            pub gathering-refused : (stop : Stop) → y ≡ Fails stop
+            pub gathering-refused : (stop : Cause) → y ≡ Fails stop
                 → Gathers (madeAt L s r h) (bytesMost (length r)) (gatheredBy L s r h) at l m′ ns y
             gathering-refused stop z = rw (refused-by (settledAt L s r h a e) refl stop b z, z) stops
 

@@ -8,7 +8,7 @@ use Rattle.octets.specs.inner.Laid.{Laid}
 use Rattle.records.specs.Records.{Recs, append, encode}
 use Rattle.known.specs.Known.{Known, knownRecs}
 use Rattle.known.specs.inner.Notes.{Noted}
-use Rattle.judged.specs.declared.Stop.{Stop}
+use Rattle.reply.specs.declared.Cause.{Cause}
 use Rattle.options.specs.declared.settle.Settling.{Settling}
 use Rattle.options.specs.declared.settle.Settling.the-variants.{Gives, Fails}
 use Rattle.options.specs.Options.{Gathered, gathered, stopped}
@@ -26,7 +26,7 @@ pub record Finished (made : ℕ → Recs) (k : ℕ) (g : Gathered) (at : ℕ) (l
   pub few : length (encode (append (knownRecs knowns) rest)) ≤ k
 
 module _ {made : ℕ → Recs} {k : ℕ} where
-  pub gathers-stopped : {g : Gathered} {at : ℕ} {l l′ ns : List ℕ} {y : Settling} (e : Stop)
+  pub gathers-stopped : {g : Gathered} {at : ℕ} {l l′ ns : List ℕ} {y : Settling} (e : Cause)
       → Gathers made k g at l l′ ns y → y ≡ Fails e → g ≡ stopped e
   gathers-stopped e (gives laid noted count few) z = never cc
   gathers-stopped e (stops {e = f}) z = let same : f ≡ e = cc in ap stopped same

@@ -22,8 +22,8 @@ use Rattle.lookups.specs.Lookups.{walking}
 use Rattle.known.specs.Known.{Known, knownRecs}
 use Rattle.known.specs.inner.Notes.{Noted}
 use Rattle.options.specs.declared.settle.Start.{Start}
-use Rattle.judged.specs.declared.Stop.{Stop}
-use Rattle.judged.specs.Judged.{nowhere}
+use Rattle.reply.specs.declared.Cause.{Cause}
+use Rattle.reply.specs.Reply.{bare}
 use Rattle.options.specs.declared.settle.Settling.{Settling}
 use Rattle.options.specs.declared.settle.Settling.the-variants.{Gives, Fails}
 use Rattle.options.specs.inner.Settling.{Started}
@@ -57,7 +57,7 @@ gathers-gave (gives {ks} {x} {at} {n} {next} a b c d) m p e =
 gathers-gave stops m p e = never cc
 
 pub gathers-stopped : {made : ℕ → Recs} {k : ℕ} {g : Gathered} {at : ℕ} {l l′ ns : List ℕ} {y : Settling} → Gathers made k g at l l′ ns y
-    → (e : Stop) → y ≡ Fails e → g ≡ stopped e
+    → (e : Cause) → y ≡ Fails e → g ≡ stopped e
 gathers-stopped (gives a b c d) w z = never cc
 gathers-stopped (stops {e}) w z = let i : e ≡ w = cc in ap stopped i
 
@@ -102,7 +102,7 @@ pub ruleset known-length-laws = (room-from, counted-count, counted-noted, counte
 
 -- ---- measure_from
 module _ (s r ns : List ℕ) (h : Start) (y : Settling) (u : Tallies s r ns h y) where
-  pub tallied-refused : (e : Stop) → y ≡ Fails e → Measures s r (stepsIn (gatheredBy (walking s) s r h)) ns (measure.Refused e)
+  pub tallied-refused : (e : Cause) → y ≡ Fails e → Measures s r (stepsIn (gatheredBy (walking s) s r h)) ns (measure.Refused e)
   tallied-refused e z = rw (u .stops e z) refuses
 
   module _ (n o : ℕ) (z : y ≡ Gives n o) where
@@ -146,7 +146,7 @@ opened-none (at o) e = never cc
 opened-none (none p) e = p
 opened-none (lost p) e = never cc
 
-opened-lost : {s r : List ℕ} {v : Opening} → Opens s r v → (w : Stop) → v ≡ Refused w → stepsOf (walking s) s r ≡ refused w
+opened-lost : {s r : List ℕ} {v : Opening} → Opens s r v → (w : Cause) → v ≡ Refused w → stepsOf (walking s) s r ≡ refused w
 opened-lost (at o) w z = never cc
 opened-lost (none p) w z = never cc
 opened-lost (lost {e} p) w z = let i : e ≡ w = cc in rw i at p
@@ -155,7 +155,7 @@ module _ (s r : List ℕ) (v : Opening) (u : Opens s r v) where
   pub all-absent : v ≡ Absent → (ns : List ℕ) → Measures s r (stepsOf (walking s) s r) ns measure.Absent
   all-absent e ns = rw (opened-none u e) measuring.none
 
-  pub all-refused : (w : Stop) → v ≡ Refused w → (ns : List ℕ) → Measures s r (stepsOf (walking s) s r) ns (measure.Refused w)
+  pub all-refused : (w : Cause) → v ≡ Refused w → (ns : List ℕ) → Measures s r (stepsOf (walking s) s r) ns (measure.Refused w)
   all-refused w e ns = rw (opened-lost u w e) refuses
 
   module _ (h : Start) (e : v ≡ At h) where
@@ -173,12 +173,12 @@ pub ruleset measure-all-laws = (all-absent, all-refused, all-started, all-fine, 
 
 -- ---- measure_tested
 module _ (s r : List ℕ) (u : Verdict) (x : u ≡ judgeLength s) (ns : List ℕ) where
-  pub tested-long : (w : Refusal) → u ≡ Bad w → (y : Stop) → y ≡ nowhere w → Measures s r (resolvingTested s r) ns (measure.Refused y)
+  pub tested-long : (w : Refusal) → u ≡ Bad w → (y : Cause) → y ≡ bare w → Measures s r (resolvingTested s r) ns (measure.Refused y)
   unfolding resolvingBy
   tested-long w h y e = rw (← x, h, e) refuses
 
   module _ (h : u ≡ Fine) (v : Verdict) (q : v ≡ judgeRequest r) where
-    pub tested-refused : (w : Refusal) → v ≡ Bad w → (y : Stop) → y ≡ nowhere w → Measures s r (resolvingTested s r) ns (measure.Refused y)
+    pub tested-refused : (w : Refusal) → v ≡ Bad w → (y : Cause) → y ≡ bare w → Measures s r (resolvingTested s r) ns (measure.Refused y)
     unfolding resolvingBy
     tested-refused w g y e = rw (← x, h, ← q, g, e) refuses
 

@@ -33,8 +33,8 @@ use Rattle.requestform.proofs.RequestLaws.{request-long}
 use Rattle.lookups.specs.Lookups.{walking}
 use Rattle.lookups.proofs.LookupLaws.{message-lies}
 use Rattle.options.specs.declared.settle.Start.{Start}
-use Rattle.judged.specs.declared.Stop.{Stop}
-use Rattle.judged.specs.Judged.{nowhere}
+use Rattle.reply.specs.declared.Cause.{Cause}
+use Rattle.reply.specs.Reply.{bare}
 use Rattle.options.specs.inner.Gathering.{optionsOf, gatheredBy}
 use Rattle.options.specs.declared.measure.Opening.the-variants.{At, Absent, Refused}
 use Rattle.options.specs.Steps.{refused, onType, someOptions, stepsOf}
@@ -87,7 +87,7 @@ module _ (s r : List ℕ) (f : judgeRequest r ≡ Fine) (v : Headed) (q : v ≡ 
           let o = some-at r (h .options) fine-here c (fieldAt r (h .options) (length r)) refl in
           steps-with ∙ rw g (ap (someOptions (walking s) s r (requestWith r (Heads h))) (o .is) ∙ ap (onType (walking s) s r (requestWith r (Heads h))) (sym e))
 
-      pub open-lost : (w : Refusal) → u ≡ NoMessage w → (y : Stop) → y ≡ nowhere w → Opens s r (Refused y)
+      pub open-lost : (w : Refusal) → u ≡ NoMessage w → (y : Cause) → y ≡ bare w → Opens s r (Refused y)
       open-lost w z y k = lost (steps-on ∙ ap (onType (walking s) s r (requestWith r (Heads h))) z ∙ ap refused (sym k))
 
       pub open-at : (p : LookupScope) → u ≡ Message p → (y : Start) → y .scope ≡ h .scope → y .«options_type» ≡ h .«options_type»

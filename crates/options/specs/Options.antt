@@ -9,18 +9,18 @@ use Rattle.request.specs.Request.{Option}
 use Rattle.records.specs.Records.{Recs, append}
 use Rattle.lookups.specs.Lookups.{Lookups, Message}
 use Rattle.known.specs.Known.{Known, setKnown}
-use Rattle.judged.specs.declared.Stop.{Stop}
-use Rattle.options.specs.Settle.{Settled, known, others, fails, stopAt, settle}
+use Rattle.reply.specs.declared.Cause.{Cause}
+use Rattle.options.specs.Settle.{Settled, known, others, fails, causeAt, settle}
 
 pub data Gathered : Type 0 where
   gathered : (knowns : List Known) (rest : Recs) → Gathered
-  stopped : Stop → Gathered
+  stopped : Cause → Gathered
 
 -- "Otherwise options go in order and the first refused option ends the work." [STEP-3]
 abbrev pub next : (option : ℕ) → List Known → Recs → Settled → (List Known → Recs → Gathered) → Gathered
 next i ks x (known k) f = f (setKnown k ks) x
 next i ks x (others y) f = f ks (append x y)
-next i ks x (fails e) f = stopped (stopAt i e)
+next i ks x (fails e) f = stopped (causeAt i e)
 
 module _ (L : Lookups) (s r scope : List ℕ) (m : Message) where
   abbrev pub gather : (option : ℕ) → List Known → Recs → List Option → Gathered

@@ -7,7 +7,8 @@
 --
 -- Assumes nothing.
 use Rattle.basis.specs.Kit.{List, ℕ, length}
-use Rattle.reply.specs.Outcome.{Outcome, refuse, nothing, give}
+use Rattle.reply.specs.Outcome.{Outcome, nothing, give}
+use Rattle.reply.specs.Outcome as outcome
 use Rattle.judged.specs.declared.Judged.{Judged}
 use Rattle.judged.specs.declared.Judged.the-variants as judged
 use Rattle.records.specs.Records.{encode}
@@ -18,7 +19,7 @@ unfoldable pub use Rattle.options.specs.Steps.{stepsOf, resolvingBy}
 abbrev pub outcomeOf : Steps → Outcome ℕ
 outcomeOf (records x) = give (encode x)
 outcomeOf absent = nothing
-outcomeOf (refused e) = refuse (e .why)
+outcomeOf (refused e) = outcome.refused e
 
 abbrev pub judgedOf : Steps → Judged
 judgedOf (records x) = judged.Fine (length (encode x))

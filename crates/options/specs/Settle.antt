@@ -3,7 +3,7 @@
 --                Settled == what one option comes to: a builtin that is set, other records, or a fault
 --         builtinPart ps == the part that is the whole name of a builtin
 --               settle o == what the option o comes to
---             stopAt i f == the fault f of the i-th option
+--            causeAt i f == the fault f of the i-th option
 --
 -- Assumes nothing.
 use Rattle.basis.specs.Kit.{List, [], _∷_, Option, none, some, ℕ}
@@ -20,8 +20,8 @@ use Rattle.options.specs.Named.{faultAt, optionFrom}
 use Rattle.builtins.specs.declared.Built.{Built}
 use Rattle.builtins.specs.declared.Built.the-variants.{Skipped, Sets, Wrong}
 use Rattle.builtins.specs.Builtins.{builtinOf}
-use Rattle.judged.specs.declared.Stop.{Stop}
-use Rattle.judged.specs.declared.Place.the-variants.{Inside}
+use Rattle.reply.specs.declared.Cause.{Cause}
+use Rattle.reply.specs.declared.Where.the-variants as wheres
 
 -- ---- one option
 pub data Settled : Type 0 where
@@ -44,8 +44,8 @@ builtinPart [] = none
 builtinPart (p ∷ []) = onlyIf (p .extension) none (some p)
 builtinPart (p ∷ q ∷ ps) = none
 
-abbrev pub stopAt : (option : ℕ) → Fault → Stop
-stopAt i f = record { place = Inside i (f .part); why = f .why }
+abbrev pub causeAt : (option : ℕ) → Fault → Cause
+causeAt i f = record { why = f .why; place = wheres.Option i (f .part) }
 
 module _ (L : Lookups) (s r scope : List ℕ) (m : Message) where
   -- "Other names resolve the first part in the options message" [STEP-5]

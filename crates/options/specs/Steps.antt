@@ -21,14 +21,14 @@ use Rattle.requestform.specs.Form.{judgeRequest}
 use Rattle.records.specs.Records.{Recs, nil, append}
 use Rattle.lookups.specs.Lookups.{Lookups, walking}
 use Rattle.known.specs.Known.{knownRecs}
-use Rattle.judged.specs.declared.Stop.{Stop}
-use Rattle.judged.specs.Judged.{nowhere}
+use Rattle.reply.specs.declared.Cause.{Cause}
+use Rattle.reply.specs.Reply.{bare}
 use Rattle.options.specs.Options.{Gathered, gathered, stopped, gather}
 
 pub data Steps : Type 0 where
   records : Recs → Steps
   absent : Steps
-  refused : Stop → Steps
+  refused : Cause → Steps
 
 -- "Known builtins come first by rising number, then the rest in order of writing." [BYTES-3]
 abbrev pub stepsIn : Gathered → Steps
@@ -37,7 +37,7 @@ stepsIn (stopped e) = refused e
 
 module _ (L : Lookups) (s r : List ℕ) where
   abbrev pub onType : Request → LookedUp → Steps
-  onType q (NoMessage w) = refused (nowhere w)
+  onType q (NoMessage w) = refused (bare w)
   onType q (Is p) =
       stepsIn (gather L s r (text r (q .scope)) (record { name = text r (q .optionsType); place = p }) 0 [] nil (q .options))
 
@@ -52,7 +52,7 @@ module _ (L : Lookups) (s r : List ℕ) where
 -- ---- a call: 01, Replies, "Inputs in the order a call names them, the sheet first" [ORDER-1]
 abbrev pub unless : Verdict → Steps → Steps
 unless Fine o = o
-unless (Refused w) o = refused (nowhere w)
+unless (Refused w) o = refused (bare w)
 
 unfoldable pub resolvingBy : Verdict → (s r : List ℕ) → Steps
 resolvingBy v s r = unless (firstFault v (judgeRequest r)) (stepsOf (walking s) s r)

@@ -16,9 +16,9 @@ use crate::put_known;
 use crate::settle::Settling;
 use crate::settle::Start;
 use fullname::LookedUp;
-use judged::Stop;
-use judged::nowhere;
+use reply::Cause;
 use reply::Verdict;
+use reply::bare;
 use request::heading::Headed;
 use request::heading::heading_of;
 
@@ -26,7 +26,7 @@ use request::heading::heading_of;
 pub enum Opening {
     At(Start),
     Absent,
-    Refused(Stop),
+    Refused(Cause),
 }
 
 // What there is to write: how many options there are, and how many bytes they come to.
@@ -40,7 +40,7 @@ pub struct Measured {
 pub enum Measure {
     Fine(Measured),
     Absent,
-    Refused(Stop),
+    Refused(Cause),
 }
 
 // What the options of a fine request start with.
@@ -59,7 +59,7 @@ fn open(sheet: &[u8], request: &[u8]) -> Opening
     let from = options_type.from;
     let to = options_type.to;
     match lookups::message(sheet, &request[from..to]) {
-        LookedUp::NoMessage(why) => Opening::Refused(nowhere(why)),
+        LookedUp::NoMessage(why) => Opening::Refused(bare(why)),
         LookedUp::Message(place) => Opening::At(Start {
             scope: scope,
             options_type: options_type,
@@ -105,7 +105,7 @@ fn measure_from(sheet: &[u8], request: &[u8], start: Start, notes: &mut [usize])
         (stepsIn (gatheredBy (walking (now (sheet .entry))) (now (sheet .entry)) (now (request .entry)) start)) (now (notes .exit)) r ⌝ }
 {
     match gather_length(sheet, request, start, notes) {
-        Settling::Fails(stop) => Measure::Refused(stop),
+        Settling::Fails(cause) => Measure::Refused(cause),
         Settling::Gives {
             note: count,
             next: others,
@@ -129,7 +129,7 @@ fn measure_all(sheet: &[u8], request: &[u8], notes: &mut [usize]) -> Measure
 {
     match open(sheet, request) {
         Opening::Absent => Measure::Absent,
-        Opening::Refused(stop) => Measure::Refused(stop),
+        Opening::Refused(cause) => Measure::Refused(cause),
         Opening::At(start) => measure_from(sheet, request, start, notes),
     }
 }
@@ -141,10 +141,10 @@ pub fn measure_tested(sheet: &[u8], request: &[u8], notes: &mut [usize]) -> Meas
         (now (notes .exit)) r ⌝ }
 {
     if let Verdict::Refused(why) = sheetform::check_length(sheet) {
-        return Measure::Refused(nowhere(why));
+        return Measure::Refused(bare(why));
     }
     if let Verdict::Refused(why) = requestform::check_request(request) {
-        return Measure::Refused(nowhere(why));
+        return Measure::Refused(bare(why));
     }
     measure_all(sheet, request, notes)
 }

@@ -22,7 +22,7 @@ use values::put_value;
 
 // Why an option is refused, and at which part of its name, counted from 0.
 pub struct Fault {
-    pub part: usize,
+    pub part: u32,
     pub why: Refusal,
 }
 
@@ -39,7 +39,7 @@ fn put_constant(
     shape: Shape,
     from: usize,
     to: usize,
-    part: usize,
+    part: u32,
     out: &mut [u8],
     at: usize,
 ) -> Stepped
@@ -77,7 +77,7 @@ fn put_inside(
     place: LookupScope,
     from: usize,
     to: usize,
-    part: usize,
+    part: u32,
     out: &mut [u8],
     at: usize,
 ) -> Stepped
@@ -129,7 +129,7 @@ pub fn put_option(
     place: LookupScope,
     from: usize,
     to: usize,
-    part: usize,
+    part: u32,
     out: &mut [u8],
     at: usize,
 ) -> Stepped

@@ -21,8 +21,8 @@ use builtins::put_builtin;
 use field::Field;
 use field::Span;
 use field::field_at;
-use judged::Place;
-use judged::Stop;
+use reply::Cause;
+use reply::Where;
 use request::name::Part;
 use request::name::Parted;
 use request::name::part_at;
@@ -41,7 +41,7 @@ pub struct Start {
 // or why the request is refused, and where.
 pub enum Settling {
     Gives { note: usize, next: usize },
-    Fails(Stop),
+    Fails(Cause),
 }
 
 // The part that is the whole name of a builtin: a single direct one.
@@ -95,7 +95,7 @@ fn built_at(sheet: &[u8], request: &[u8], start: Start, part: Part, to: usize) -
 }
 
 // What is answered of a builtin: nothing is written yet.
-fn settled_built(built: Built, option: usize, at: usize) -> Settling
+fn settled_built(built: Built, option: u32, at: usize) -> Settling
     ensures { λ r. ⌜ r ≡ settlingOf option (noteIn (settledBuilt [] built)) at (othersOf (settledBuilt [] built)) ⌝ }
 {
     match built {
@@ -104,12 +104,9 @@ fn settled_built(built: Built, option: usize, at: usize) -> Settling
             note: shape.number as usize + 1,
             next: at,
         },
-        Built::Wrong(why) => Settling::Fails(Stop {
-            place: Place::Inside {
-                option: option,
-                part: 0,
-            },
+        Built::Wrong(why) => Settling::Fails(Cause {
             why: why,
+            place: Where::Option(option, 0),
         }),
     }
 }
@@ -119,7 +116,7 @@ fn settle_named(
     sheet: &[u8],
     request: &[u8],
     start: Start,
-    option: usize,
+    option: u32,
     from: usize,
     to: usize,
     out: &mut [u8],
@@ -155,12 +152,9 @@ fn settle_named(
         },
         Stepped::Refused(fault) => {
             let why = fault.why;
-            Settling::Fails(Stop {
-                place: Place::Inside {
-                    option: option,
-                    part: fault.part,
-                },
+            Settling::Fails(Cause {
                 why: why,
+                place: Where::Option(option, fault.part),
             })
         }
     }
@@ -171,7 +165,7 @@ pub fn settle(
     sheet: &[u8],
     request: &[u8],
     start: Start,
-    option: usize,
+    option: u32,
     from: usize,
     to: usize,
     out: &mut [u8],

@@ -3,7 +3,7 @@
 use Rattle.basis.specs.Kit.{List, ℕ}
 use lib.Ieee.{span, climb, size, odd, units, round, ofInt, ofFields, ofBits, nanBits, toBits}
 use Rattle.reply.specs.Reply.{number, second}
-use Rattle.judged.specs.declared.Place.{Place}
+use Rattle.reply.specs.declared.Where.{Where}
 use Rattle.lookups.specs.Lookups.{walking}
 use Rattle.octets.specs.Octets.{sameBytes, bigAt}
 use Rattle.field.specs.Field.{fieldAt}
@@ -47,7 +47,7 @@ use Rattle.requestform.specs.Form.{judgeOptions, judgeRequest}
 pub data Says : Type 0 where
   bytes : List ℕ → Says
   absent : Says
-  refused : (reply second : ℕ) → Place → Says
+  refused : (reply second : ℕ) → Where → Says
 
 pub record Example : Type 0 where
   pub sheet : List ℕ

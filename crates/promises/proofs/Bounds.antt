@@ -31,7 +31,7 @@ use Rattle.requestform.specs.Form.{judgeRequest}
 use Rattle.requestform.proofs.RequestLaws.{request-long}
 use Rattle.lookups.specs.Lookups.{Lookups, Message, walking}
 use Rattle.known.specs.Known.{Known, setKnown, knownRecs}
-use Rattle.judged.specs.declared.Stop.{Stop}
+use Rattle.reply.specs.declared.Cause.{Cause}
 use Rattle.options.specs.Settle.{Settled}
 use Rattle.options.specs.Options.{Gathered, gathered, stopped, next, gather}
 use Rattle.options.specs.Steps.{Steps, records, absent, refused, stepsIn, onType, someOptions, stepsOf}
@@ -48,7 +48,7 @@ longest (o ∷ os) = max (length (o .parts)) (longest os)
 -- ---- options one after the other
 data SmallGathered (k n : ℕ) : Gathered → Type 0 where
   together : {ks : List Known} {x : Recs} → Small k n (append (knownRecs ks) x) → SmallGathered k n (gathered ks x)
-  halted : {e : Stop} → SmallGathered k n (stopped e)
+  halted : {e : Cause} → SmallGathered k n (stopped e)
 
 set-among : {k m n : ℕ} (a : Known) (ks : List Known) (x : Recs) → Small k m (a .made) → Small k n (append (knownRecs ks) x)
     → Small k (m + n) (append (knownRecs (setKnown a ks)) x)
@@ -93,7 +93,7 @@ module _ (L : Lookups) (s r scope : List ℕ) (m : Message) (k c : ℕ) where
 data SmallSteps (k n : ℕ) : Steps → Type 0 where
   writes : {x : Recs} → Small k n x → SmallSteps k n (records x)
   none : SmallSteps k n absent
-  stops : {e : Stop} → SmallSteps k n (refused e)
+  stops : {e : Cause} → SmallSteps k n (refused e)
 
 module _ {k n : ℕ} where
   steps-in : {g : Gathered} → SmallGathered k n g → SmallSteps k n (stepsIn g)

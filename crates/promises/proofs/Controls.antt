@@ -2,7 +2,7 @@
 -- Assumes nothing.
 use Rattle.basis.specs.Kit.{_≡_, refl, List, [], _∷_, _++_, map, ℕ}
 use Rattle.octets.specs.Ascii.{ascii}
-use Rattle.judged.specs.declared.Place.the-variants.{Nowhere, Inside}
+use Rattle.reply.specs.declared.Where.the-variants.{Nowhere, Option}
 use Rattle.promises.proofs.Asking.{Example, asks, bytes, refused, stepped}
 use Rattle.sheet.proofs.Sheets.{file, message, value, enum, extensionTo, fieldWith}
 use Rattle.promises.proofs.Sheets.{extension, field, fieldTo}
@@ -44,51 +44,51 @@ lost = file "o" (message "F" (field "flag" 3 8) ++ extensionTo "lost" "o.F" 11 1
 abbrev cases : List Example
 cases =
     -- 4
-    asks scalars (request "o" "o.F" (option (ext "nowhere") (boolean 1))) (refused 4 0 (Inside 0 0))
+    asks scalars (request "o" "o.F" (option (ext "nowhere") (boolean 1))) (refused 4 0 (Option 0 0))
     -- 5
-    ∷ asks messages (request "o" "o.F" (option (ext "in") (boolean 1))) (refused 5 0 (Inside 0 0))
+    ∷ asks messages (request "o" "o.F" (option (ext "in") (boolean 1))) (refused 5 0 (Option 0 0))
     -- 6, of the first part
-    ∷ asks scalars (request "o" "o.F" (option (ext "i" ++ direct "v") (unsigned 1))) (refused 6 0 (Inside 0 0))
+    ∷ asks scalars (request "o" "o.F" (option (ext "i" ++ direct "v") (unsigned 1))) (refused 6 0 (Option 0 0))
     -- 6, of the second part
-    ∷ asks messages (request "o" "o.F" (option (ext "m" ++ direct "v" ++ direct "v") (unsigned 1))) (refused 6 0 (Inside 0 1))
+    ∷ asks messages (request "o" "o.F" (option (ext "m" ++ direct "v" ++ direct "v") (unsigned 1))) (refused 6 0 (Option 0 1))
     -- 7, of the options type
     ∷ asks lost (request "o" "o.Nil" (option (direct "default") (boolean 1))) (refused 7 0 Nowhere)
     -- 7, of parts left
-    ∷ asks lost (request "o" "o.F" (option (ext "lost" ++ direct "v") (unsigned 1))) (refused 7 0 (Inside 0 0))
+    ∷ asks lost (request "o" "o.F" (option (ext "lost" ++ direct "v") (unsigned 1))) (refused 7 0 (Option 0 0))
     -- 7, of an enum
-    ∷ asks lost (request "o" "o.F" (option (ext "gone") (ident "ONE"))) (refused 7 0 (Inside 0 0))
+    ∷ asks lost (request "o" "o.F" (option (ext "gone") (ident "ONE"))) (refused 7 0 (Option 0 0))
     -- 8
-    ∷ asks lost (request "o" "o.F" (option (direct "flag") (boolean 1) ++ option (ext "twice") (messageOf []))) (refused 8 0 (Inside 1 0))
+    ∷ asks lost (request "o" "o.F" (option (direct "flag") (boolean 1) ++ option (ext "twice") (messageOf []))) (refused 8 0 (Option 1 0))
     -- 9, of a direct part
-    ∷ asks messages (request "o" "o.F" (option (ext "m" ++ direct "w") (unsigned 1))) (refused 9 0 (Inside 0 1))
+    ∷ asks messages (request "o" "o.F" (option (ext "m" ++ direct "w") (unsigned 1))) (refused 9 0 (Option 0 1))
     -- 9, of a pair
     ∷ asks messages (request "o" "o.F" (option (ext "m") (messageOf (pair "v" (unsigned 1) ++ pair "w" (unsigned 1))))) (refused 9 0
-    (Inside 0 0))
+    (Option 0 0))
     -- 10
-    ∷ asks builtins (request "o" "o.F" (option (direct "none") (boolean 1))) (refused 10 0 (Inside 0 0))
+    ∷ asks builtins (request "o" "o.F" (option (direct "none") (boolean 1))) (refused 10 0 (Option 0 0))
     -- 10, repeated
-    ∷ asks builtins (request "o" "o.F" (option (direct "many") (boolean 1))) (refused 10 1 (Inside 0 0))
+    ∷ asks builtins (request "o" "o.F" (option (direct "many") (boolean 1))) (refused 10 1 (Option 0 0))
     -- 11
-    ∷ asks scalars (request "o" "o.F" (option (ext "i") (messageOf []))) (refused 11 0 (Inside 0 0))
+    ∷ asks scalars (request "o" "o.F" (option (ext "i") (messageOf []))) (refused 11 0 (Option 0 0))
     -- 11, on a group
-    ∷ asks texts (request "o" "o.F" (option (ext "g") (messageOf []))) (refused 11 0 (Inside 0 0))
+    ∷ asks texts (request "o" "o.F" (option (ext "g") (messageOf []))) (refused 11 0 (Option 0 0))
     -- 12, a bool on a message
-    ∷ asks messages (request "o" "o.F" (option (ext "m") (boolean 1))) (refused 12 0 (Inside 0 0))
+    ∷ asks messages (request "o" "o.F" (option (ext "m") (boolean 1))) (refused 12 0 (Option 0 0))
     -- 12, a float on an integer
-    ∷ asks scalars (request "o" "o.F" (option (ext "i") (float 0x3ff0000000000000))) (refused 12 0 (Inside 0 0))
+    ∷ asks scalars (request "o" "o.F" (option (ext "i") (float 0x3ff0000000000000))) (refused 12 0 (Option 0 0))
     -- 12, an unlisted name of a builtin
-    ∷ asks builtins (request "o" "o.F" (option (direct "kind") (ident "TWO"))) (refused 12 0 (Inside 0 0))
+    ∷ asks builtins (request "o" "o.F" (option (direct "kind") (ident "TWO"))) (refused 12 0 (Option 0 0))
     -- 12, a builtin of another type
-    ∷ asks builtins (request "o" "o.F" (option (direct "size") (unsigned 1))) (refused 12 0 (Inside 0 0))
+    ∷ asks builtins (request "o" "o.F" (option (direct "size") (unsigned 1))) (refused 12 0 (Option 0 0))
     -- 13
-    ∷ asks scalars (request "o" "o.F" (option (ext "k") (ident "TWO"))) (refused 13 0 (Inside 0 0))
+    ∷ asks scalars (request "o" "o.F" (option (ext "k") (ident "TWO"))) (refused 13 0 (Option 0 0))
     -- 14, at the least int32
     ∷ asks scalars (request "o" "o.F" (option (ext "i") (signed 0xffffffff80000000))) (bytes (0x70 ∷ 0x80 ∷ 0x80 ∷ 0x80 ∷ 0x80 ∷ 0xF8 ∷
     0xFF ∷ 0xFF ∷ 0xFF ∷ 0xFF ∷ 0x01 ∷ []))
     -- 14, below it
-    ∷ asks scalars (request "o" "o.F" (option (ext "i") (signed 0xffffffff7fffffff))) (refused 14 0 (Inside 0 0))
+    ∷ asks scalars (request "o" "o.F" (option (ext "i") (signed 0xffffffff7fffffff))) (refused 14 0 (Option 0 0))
     -- 15
-    ∷ asks texts (request "o" "o.F" (option (ext "m" ++ direct "t") (string (0xc0 ∷ 0x80 ∷ [])))) (refused 15 0 (Inside 0 1))
+    ∷ asks texts (request "o" "o.F" (option (ext "m" ++ direct "t") (string (0xc0 ∷ 0x80 ∷ [])))) (refused 15 0 (Option 0 1))
     -- bytes take what a string does not
     ∷ asks texts (request "o" "o.F" (option (ext "m" ++ direct "y") (string (0xc0 ∷ 0x80 ∷ [])))) (bytes (0x52 ∷ 0x04 ∷ 0x3A ∷ 0x02 ∷
     0xC0 ∷ 0x80 ∷ []))
@@ -133,7 +133,7 @@ cases =
     (bytes (0x52 ∷ 0x02 ∷ 0x08 ∷ 0x01 ∷ 0x52 ∷ 0x02 ∷ 0x20 ∷ 0x01 ∷ []))
     -- the first refused option ends the work
     ∷ asks scalars (request "o" "o.F" (option (ext "i") (unsigned 1) ++ option (ext "z") (ident "ONE") ++ option (ext "nowhere")
-    (unsigned 1))) (refused 12 0 (Inside 1 0))
+    (unsigned 1))) (refused 12 0 (Option 1 0))
     ∷ []
 
 table : map stepped cases ≡ map (λ x. x .says) cases

@@ -1,7 +1,7 @@
 -- 01's examples P1 to P9, as one table under one statement, which the checker computes: each is of the whole call, the tests of form too.
 -- Assumes nothing.
 use Rattle.basis.specs.Kit.{_≡_, refl, List, [], _∷_, _++_, map, ℕ}
-use Rattle.judged.specs.declared.Place.the-variants.{Inside}
+use Rattle.reply.specs.declared.Where.the-variants.{Option}
 use Rattle.promises.proofs.Asking.{Example, asks, bytes, absent, refused, answer}
 use Rattle.sheet.proofs.Sheets.{file, message}
 use Rattle.promises.proofs.Sheets.{fieldOptions, messageOptions, extension}
@@ -46,9 +46,9 @@ p1-to-p9 =
     -- P4
     ∷ asks ranks (request "plant.Other" fieldOptions (option (ext "rank") (unsigned 7))) (bytes (0x88 ∷ 0xB5 ∷ 0x18 ∷ 0x07 ∷ []))
     -- P5
-    ∷ asks otherwise (request "plant.Dispatch" fieldOptions (option (ext "rank") (unsigned 7))) (refused 5 0 (Inside 0 0))
+    ∷ asks otherwise (request "plant.Dispatch" fieldOptions (option (ext "rank") (unsigned 7))) (refused 5 0 (Option 0 0))
     -- P6
-    ∷ asks rankless (request "plant.Dispatch" fieldOptions (option (ext "rank") (unsigned 7))) (refused 4 0 (Inside 0 0))
+    ∷ asks rankless (request "plant.Dispatch" fieldOptions (option (ext "rank") (unsigned 7))) (refused 4 0 (Option 0 0))
     -- P7
     ∷ asks crossed (request "" fieldOptions (option (ext ".a.b.x") (unsigned 7))) (bytes (0xB0 ∷ 0x06 ∷ 0x07 ∷ []))
     -- P8, no options
@@ -59,7 +59,7 @@ p1-to-p9 =
     ∷ asks ranks (request "" fieldOptions (option (ext ".plant.rank") (unsigned 4294967295))) (bytes (0x88 ∷ 0xB5 ∷ 0x18 ∷ 0xFF ∷ 0xFF ∷
     0xFF ∷ 0xFF ∷ 0x0F ∷ []))
     -- P9, past it
-    ∷ asks ranks (request "" fieldOptions (option (ext ".plant.rank") (unsigned 4294967296))) (refused 14 0 (Inside 0 0))
+    ∷ asks ranks (request "" fieldOptions (option (ext ".plant.rank") (unsigned 4294967296))) (refused 14 0 (Option 0 0))
     ∷ []
 
 pub table : map answer p1-to-p9 ≡ map (λ x. x .says) p1-to-p9

@@ -48,7 +48,7 @@ use Rattle.steps.specs.declared.Lack.{Lack}
 use Rattle.steps.specs.declared.Lack.the-variants.{NoExtension, OtherMessage}
 use Rattle.steps.specs.declared.Step.the-variants.{NotFound}
 use Rattle.steps.specs.Steps.{whyOf, stepOf}
-use Rattle.options.specs.Settle.{fails, stopAt, settle}
+use Rattle.options.specs.Settle.{fails, causeAt, settle}
 use Rattle.options.specs.Options.{stopped, gather}
 use Rattle.options.specs.Steps.{records}
 use Rattle.options.specs.Resolve.{resolving, resolveBytes, resolveTested}
@@ -207,7 +207,7 @@ module _ (s r scope : List ℕ) (m : Message) (p : Part) (x : p .extension ≡ t
 
 -- An option that is refused makes the whole refused,
 pub first-refused : (L : Lookups) (s r scope : List ℕ) (m : Message) (i : ℕ) (ks : List Known) (x : Recs) (o : Option) (os : List Option)
-    (f : Fault) → settle L s r scope m o ≡ fails f → gather L s r scope m i ks x (o ∷ os) ≡ stopped (stopAt i f)
+    (f : Fault) → settle L s r scope m o ≡ fails f → gather L s r scope m i ks x (o ∷ os) ≡ stopped (causeAt i f)
 first-refused = theorems.option-refused
 
 -- and no option behind it is looked at.

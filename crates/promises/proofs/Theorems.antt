@@ -31,7 +31,7 @@ use Rattle.steps.specs.declared.Step.the-variants.{NotFound}
 use Rattle.options.specs.declared.named.Fault.{Fault}
 use Rattle.steps.specs.Steps.{whyOf, stepExtension, stepOf}
 use Rattle.options.specs.Named.{faultAt, optionFrom}
-use Rattle.options.specs.Settle.{Settled, known, others, fails, stopAt, settle}
+use Rattle.options.specs.Settle.{Settled, known, others, fails, causeAt, settle}
 use Rattle.options.specs.Options.{stopped, next, gather}
 
 -- ---- an extension part that is reached
@@ -111,7 +111,7 @@ module _ (L : Lookups) (s r scope : List ℕ) (m : Message) where
 
   -- An option that is refused makes the whole refused, and no option behind it is looked at.
   pub option-refused : (i : ℕ) (ks : List Known) (x : Recs) (o : Option) (os : List Option) (f : Fault)
-      → settle L s r scope m o ≡ fails f → gather L s r scope m i ks x (o ∷ os) ≡ stopped (stopAt i f)
+      → settle L s r scope m o ≡ fails f → gather L s r scope m i ks x (o ∷ os) ≡ stopped (causeAt i f)
   option-refused i ks x o os f e = rw e refl
 
   pub options-behind : (front : List Option) (i : ℕ) (ks : List Known) (x : Recs) (o : Option) (os os′ : List Option) (f : Fault)

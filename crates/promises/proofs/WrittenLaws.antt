@@ -44,7 +44,7 @@ use Rattle.scalars.specs.Scalars.{scalarOn, unsupported}
 use Rattle.values.specs.Values.{madeOf, Holder, on, within, asked, onAsked, reached, inMessage, scalarMade, records}
 use Rattle.values.specs.Values as values
 use Rattle.known.specs.Known.{Known, setKnown, knownRecs}
-use Rattle.judged.specs.declared.Stop.{Stop}
+use Rattle.reply.specs.declared.Cause.{Cause}
 use Rattle.steps.specs.declared.Step.{Step}
 use Rattle.steps.specs.declared.Step.the-variants.{Found as Is, NotFound}
 use Rattle.steps.specs.declared.Lack.the-variants.{NoField}
@@ -85,7 +85,7 @@ module _ (L : Lookups) (s : List ℕ) (m : Message) where
 
   data WrittenGathered : Gathered → Type 0 where
     together : {ks : List Known} {x : Recs} → Written L s m (append (knownRecs ks) x) → WrittenGathered (gathered ks x)
-    halted : {e : Stop} → WrittenGathered (stopped e)
+    halted : {e : Cause} → WrittenGathered (stopped e)
 
   abbrev AllWritten : List Known → Type 0
   AllWritten [] = Unit {0}
@@ -361,7 +361,7 @@ module _ (L : Lookups) (s r : List ℕ) (steady : Steady L s) where
   data WrittenSteps (q : request.Request) : Steps → Type 0 where
     come : {x : Recs} → WrittenAt L s (typeOf q) x → WrittenSteps q (steps.records x)
     nothing : WrittenSteps q absent
-    stops : {e : Stop} → WrittenSteps q (refused e)
+    stops : {e : Cause} → WrittenSteps q (refused e)
 
   gathered-written : (q : request.Request) (p : LookupScope) → L .message (typeOf q) ≡ Found p → {g : Gathered}
       → WrittenGathered L s (record { name = typeOf q; place = p }) g → WrittenSteps q (stepsIn g)

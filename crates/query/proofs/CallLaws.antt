@@ -10,7 +10,7 @@ use Rattle.reply.specs.declared.Refusal.the-variants.{BeyondLimit, NoRoom}
 use Rattle.reply.specs.declared.Verdict.{Verdict}
 use Rattle.reply.specs.declared.Verdict.the-variants.{Fine, Refused as Bad}
 use Rattle.reply.specs.declared.Answer.{Answer}
-use Rattle.reply.specs.Reply.{nowhere, refusedBy as refusedAnswer, doneWith, absentAnswer}
+use Rattle.reply.specs.Reply.{bare, refusedBy as refusedAnswer, doneWith, absentAnswer}
 use Rattle.reply.specs.Verdicts.{firstFault}
 use Rattle.reply.specs.Outcome.{refuse, unless, give, Answered}
 use Rattle.reply.proofs.Outcomes.{answered-refused, answered-absent, answered-no-room, answered-done}
@@ -56,7 +56,7 @@ pub ruleset give-row-laws = (row-no-room, row-given)
 -- ---- answer_of
 module _ (x : Seen) (l : List ℕ) (a : Answer) where
   pub seen-refused : (w : Refusal) → x ≡ Refused w → a ≡ refusedAnswer w → Answered (outcomeOf x) l l a
-  seen-refused w g e = rw e (answered-refused (outcomeOf x) l (nowhere w) (ap outcomeOf g))
+  seen-refused w g e = rw e (answered-refused (outcomeOf x) l (bare w) (ap outcomeOf g))
 
   module _ (b : Best) (g : x ≡ All b) where
     pub seen-none : b ≡ NoneYet → a ≡ absentAnswer → Answered (outcomeOf x) l l a
@@ -128,7 +128,7 @@ module _ (v : Verdict) (s type q bs : List ℕ) where
 module _ (s type q bs : List ℕ) (r : LookedUp) (e : r ≡ admitted (judgeLength s) s type q bs) where
   pub tested-refused : (w : Refusal) → r ≡ NoMessage w → (l : List ℕ) (a : Answer) → a ≡ refusedAnswer w
       → Answered (queryTested s type q bs) l l a
-  tested-refused w g l a d = rw d (answered-refused _ l (nowhere w) (query-none (judgeLength s) s type q bs w (sym e ∙ g)))
+  tested-refused w g l a d = rw d (answered-refused _ l (bare w) (query-none (judgeLength s) s type q bs w (sym e ∙ g)))
 
   module _ (p : LookupScope) (g : r ≡ Is p) where
     admitting : Admits (judgeInputs (judgeLength s) type q bs) s type p
@@ -162,7 +162,7 @@ query-tested s type q bs h = ap (λ v. queryBy v s type q bs) (h ∙ sym (sheet-
 module _ (s type q bs : List ℕ) (v : Verdict) (e : v ≡ judgeSheet s) (l : List ℕ) (a : Answer) where
   pub query-refused : (w : Refusal) → v ≡ Bad w → a ≡ refusedAnswer w → Answered (query s type q bs) l l a
   unfolding queryBy judgeInputs
-  query-refused w g d = rw d (answered-refused _ l (nowhere w) (rw (← e, g)))
+  query-refused w g d = rw d (answered-refused _ l (bare w) (rw (← e, g)))
 
   pub query-answered : v ≡ Fine → (l′ : List ℕ) → Answered (queryTested s type q bs) l l′ a → Answered (query s type q bs) l l′ a
   query-answered g l′ k = rw (query-tested s type q bs (sym e ∙ g)) k

@@ -14,7 +14,7 @@ use Rattle.limits.specs.Figures.{mostWords}
 use Rattle.reply.specs.declared.Refusal.the-variants.{BadRequest, BeyondLimit, RangeEnd}
 use Rattle.reply.specs.declared.Cause.{Cause}
 use Rattle.reply.specs.declared.Answer.{Answer}
-use Rattle.reply.specs.Reply.{nowhere, refusedBy}
+use Rattle.reply.specs.Reply.{bare, refusedBy}
 use Rattle.reply.specs.Outcome.{Outcome, refused, nothing, give, push, Answered}
 use Rattle.reply.proofs.Outcomes.{answered-refused}
 use Rattle.emit.specs.declared.Put.{Put}
@@ -75,7 +75,7 @@ module _ (k : ℕ) (ws l m : List ℤ) (i : ℕ) (u : Ranging k ws l m i) where
       end-here : x ≡ endOf k (getD ws (i + 1) (pos 0))
       end-here = q ∙ ap (endOf k) (word-back _ fe)
 
-      pub ranging-none : x ≡ NoNext → (c : Cause) → c ≡ nowhere RangeEnd → Puts (pairs k ws) 0 l m (Refused c)
+      pub ranging-none : x ≡ NoNext → (c : Cause) → c ≡ bare RangeEnd → Puts (pairs k ws) 0 l m (Refused c)
       ranging-none g c e = front-refused _ _ 0 l m i (u .laid) c (rest-here x end-here ∙ rw (g, e))
 
       module _ (fs : mag (getD ws i (pos 0)) < 2147483648) (e : ℤ) (fx : mag e < 2147483648) (g : x ≡ At e) where
@@ -108,16 +108,16 @@ pairs-length k (s ∷ e ∷ ws) words q = go (endOf k e) (pairs k ws) (pairs-len
 module _ (k : ℕ) (ws l : List ℤ) (r : Answer) where
   pub ranges-kind : enumReserved < k → r ≡ refusedBy BadRequest → Answered (lowerRanges k ws) l l r
   unfolding lowerRanges
-  ranges-kind h a = rw a (answered-refused _ l (nowhere BadRequest) (simp (lowerRanges, lt-ltb _ _ h)))
+  ranges-kind h a = rw a (answered-refused _ l (bare BadRequest) (simp (lowerRanges, lt-ltb _ _ h)))
 
   module _ (g : k ≤ enumReserved) where
     pub ranges-long : mostWords < length ws → r ≡ refusedBy BeyondLimit → Answered (lowerRanges k ws) l l r
     unfolding lowerRanges
-    ranges-long h a = rw a (answered-refused _ l (nowhere BeyondLimit) (simp (lowerRanges, le-ltb _ _ g, lt-ltb _ _ h)))
+    ranges-long h a = rw a (answered-refused _ l (bare BeyondLimit) (simp (lowerRanges, le-ltb _ _ g, lt-ltb _ _ h)))
 
     pub ranges-odd : length ws ≤ mostWords → length ws % 2 ≡ 1 → r ≡ refusedBy BadRequest → Answered (lowerRanges k ws) l l r
     unfolding lowerRanges
-    ranges-odd h o a = rw a (answered-refused _ l (nowhere BadRequest) (simp (lowerRanges, le-ltb _ _ g, le-ltb _ _ h, eq-eqb _ _ o)))
+    ranges-odd h o a = rw a (answered-refused _ l (bare BadRequest) (simp (lowerRanges, le-ltb _ _ g, le-ltb _ _ h, eq-eqb _ _ o)))
 
 module _ (k : ℕ) (ws : List ℤ) (o : length ws % 2 ≡ 1 → ⊥) where
   pub ranges-even : length ws % 2 ≡ 0

@@ -60,7 +60,7 @@ fn put_ranges(kind: u32, words: &[i32], out: &mut [i32]) -> Put
         let start = words[i];
         let end = words[i + 1];
         let End::At(next) = end_of(kind, end) else {
-            return Put::Refused(reply::nowhere(Refusal::RangeEnd));
+            return Put::Refused(reply::bare(Refusal::RangeEnd));
         };
         put_range(out, i, start, next);
         i += 2;

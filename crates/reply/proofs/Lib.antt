@@ -1,4 +1,5 @@
 pub mod Variants
+pub mod PlaceLaws
 pub mod Rows
 pub mod Names
 pub mod Outcomes

@@ -7,7 +7,7 @@ use Rattle.reply.specs.declared.Cause.{Cause}
 use Rattle.reply.specs.declared.Refusal.{Refusal}
 use Rattle.reply.specs.declared.Refusal.the-variants.{NoRoom}
 use Rattle.reply.specs.declared.Answer.{Answer}
-use Rattle.reply.specs.Reply.{nowhere, refusedFor, refusedBy, doneWith, absentAnswer}
+use Rattle.reply.specs.Reply.{bare, refusedFor, refusedBy, doneWith, absentAnswer}
 use Rattle.reply.specs.Outcome.{Outcome, refused, refuse, nothing, give, push, within, Answered}
 
 module _ {A : Type 0} where
@@ -48,4 +48,4 @@ module _ {A : Type 0} where
 
 -- two refusals that come to the same are one
 pub refuse-inv : {A : Type 0} (w w′ : Refusal) → _≡_ {A = Outcome A} (refuse w) (refuse w′) → w ≡ w′
-refuse-inv w w′ e = let u : nowhere w ≡ nowhere w′ = cc in ap (λ (c : Cause). c .why) u
+refuse-inv w w′ e = let u : bare w ≡ bare w′ = cc in ap (λ (c : Cause). c .why) u

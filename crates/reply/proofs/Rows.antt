@@ -11,15 +11,16 @@ use lib.Signed.{nonNeg}
 use mir.Val.{toZ, Fits}
 use mir.Syntax.{w32, w64}
 use Rattle.reply.specs.declared.Refusal.{Refusal}
+use Rattle.reply.specs.declared.Positions.{Positions}
 use Rattle.reply.specs.declared.Cause.{Cause}
 use Rattle.reply.specs.declared.Answer.{Answer}
-use Rattle.reply.specs.Reply.{number, second, nowhere, refusedFor, refusedBy}
+use Rattle.reply.specs.Reply.{number, second, positions, bare, refusedFor, refusedBy}
 use Rattle.reply.specs.inner.Table.{codeOf}
 use Rattle.reply.proofs.Refusal.{parts, as-values, make, eta, beta}
 use Rattle.reply.proofs.Variants.{placeIn, many, each, each-at, place-lt, here, place-one}
 
-pub refused-nowhere : (w : Refusal) (c : Cause) (r : Answer) → c ≡ nowhere w → r ≡ refusedFor c → r ≡ refusedBy w
-refused-nowhere w c r e q = q ∙ ap refusedFor e
+pub refused-bare : (w : Refusal) (c : Cause) (r : Answer) → c ≡ bare w → r ≡ refusedFor c → r ≡ refusedBy w
+refused-bare w c r e q = q ∙ ap refusedFor e
 
 -- ---- the refusals in their order
 
@@ -69,12 +70,12 @@ module _ (w : Refusal) (a : ℕ) (e : a ≡ codeOf w) where
   pub code-small : Fits w32 (natAbs (toZ w64 a))
   code-small = rw code-kept record { fits = ltb→lt _ _ (every-at (λ v. ltb (codeOf v) 4294967296) tt w) }
 
-pub refused-coded : (c : Cause) (k : ℕ) → k ≡ codeOf (c .why)
-    → record { reply = k / 100; second = k % 100; absent = 0; length = 0 } ≡ refusedFor c
-refused-coded c k e =
+pub refused-coded : (c : Cause) (k : ℕ) (p : Positions) → k ≡ codeOf (c .why) → p ≡ positions (c .place)
+    → record { reply = k / 100; second = k % 100; absent = 0; length = 0; option = p .option; part = p .part } ≡ refusedFor c
+refused-coded c k p e f =
     let n : codeOf (c .why) / 100 ≡ number (c .why) = eqb→eq _ _ (every-at (λ v. eqb (codeOf v / 100) (number v)) tt (c .why)) in
     let s : codeOf (c .why) % 100 ≡ second (c .why) = eqb→eq _ _ (every-at (λ v. eqb (codeOf v % 100) (second v)) tt (c .why)) in
-    rw (e, n, s)
+    rw (e, n, s, f)
 
 -- ---- no two refusals share number and second word
 abbrev apart : Refusal → Refusal → Bool
@@ -89,4 +90,4 @@ row-unique v w p q =
     let same = apart-same (number v) (number w) (second v) (second w) (place v) (place w) t p q in
     sym (eta v) ∙ ap make (place-one parts tt (as-values v) (as-values w) same) ∙ eta w
 
-pub ruleset row-laws = (code-kept, code-positive, code-small, refused-coded, refused-nowhere)
+pub ruleset row-laws = (code-kept, code-positive, code-small, refused-coded, refused-bare)

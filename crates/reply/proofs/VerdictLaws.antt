@@ -7,7 +7,7 @@ use Rattle.reply.specs.declared.Refusal.{Refusal}
 use Rattle.reply.specs.declared.Verdict.{Verdict}
 use Rattle.reply.specs.declared.Verdict.the-variants.{Fine, Refused}
 use Rattle.reply.specs.declared.Answer.{Answer}
-use Rattle.reply.specs.Reply.{decided}
+use Rattle.reply.specs.Reply.{nowhere, decided}
 use Rattle.reply.specs.Verdicts.{firstFault, judged, replyOf, secondOf, Says}
 
 module _ (u v : Verdict) where
@@ -46,7 +46,7 @@ judged-fine w false p = absurd (refused-fine w p)
 
 -- ---- decided
 abbrev answer : (word : ℕ) → Answer
-answer w = record { reply = 0; second = w; absent = 0; length = 0 }
+answer w = record { reply = 0; second = w; absent = 0; length = 0; option = nowhere; part = nowhere }
 
 pub decided-yes : (b : Bool) → b ≡ true → answer 1 ≡ decided b
 decided-yes b h = rw h refl

@@ -17,7 +17,7 @@ use Rattle.reply.specs.declared.Cause.{Cause}
 use Rattle.reply.specs.declared.Verdict.{Verdict}
 use Rattle.reply.specs.declared.Verdict.the-variants.{Fine, Refused}
 use Rattle.reply.specs.declared.Answer.{Answer}
-use Rattle.reply.specs.Reply.{nowhere, refusedFor, doneWith, absentAnswer}
+use Rattle.reply.specs.Reply.{bare, refusedFor, doneWith, absentAnswer}
 
 pub data Outcome (A : Type 0) : Type 0 where
   refused : (cause : Cause) → Outcome A
@@ -25,7 +25,7 @@ pub data Outcome (A : Type 0) : Type 0 where
   give : (elements : List A) → Outcome A
 
 abbrev pub refuse : {A : Type 0} → Refusal → Outcome A
-refuse w = refused (nowhere w)
+refuse w = refused (bare w)
 
 abbrev pub unless : {A : Type 0} → Verdict → Outcome A → Outcome A
 unless Fine o = o

@@ -1,6 +1,6 @@
 // 01's table of replies, once: the refusals, the answer that every public call returns, and the names that programs print.
 ghost use Rattle.basis.specs.Kit.{_≡_, _≤_, length};
-ghost use Rattle.reply.specs.Reply.{nowhere as nowhereOf, refusedFor, refusedBy};
+ghost use Rattle.reply.specs.Reply.{positions as positionsOf, bare as bareOf, refusedFor, refusedBy};
 ghost use Rattle.reply.specs.Reply.{doneWith, absentAnswer, decided as decidedOf};
 ghost use Rattle.reply.specs.Reply.{NameOf, mostName, textOf};
 ghost use Rattle.reply.specs.inner.Table.{codeOf, Tabled};
@@ -31,9 +31,27 @@ pub enum Refusal {
     WireMismatch = 19_00,
 }
 
-// Why a call is refused, and, from a later request on, where.
+// Where a call is refused: nowhere that has a position; at a part of a name that is no option's; at an option, and a part of its name. All
+// are counted from 0.
+pub enum Where {
+    Nowhere,
+    Part(u32),
+    Option(u32, u32),
+}
+
+// Why a call is refused, and where.
 pub struct Cause {
     pub why: Refusal,
+    pub place: Where,
+}
+
+// Stands for a position where there is none.
+pub const NOWHERE: u32 = 65_535;
+
+// The two numbers of a place.
+pub struct Positions {
+    pub option: u32,
+    pub part: u32,
 }
 
 // What a test of form says of its bytes.
@@ -42,12 +60,15 @@ pub enum Verdict {
     Refused(Refusal),
 }
 
-// What every public call returns: the reply's number, its second word, 1 for Absent, and how much was written to the lent memory.
+// What every public call returns: the reply's number, its second word, 1 for Absent, how much was written to the lent memory, and where it
+// was refused, the positions of an option and of a part of its name.
 pub struct Answer {
     pub reply: u32,
     pub second: u32,
     pub absent: u32,
     pub length: u32,
+    pub option: u32,
+    pub part: u32,
 }
 
 impl Refusal {
@@ -69,11 +90,35 @@ pub fn judge(holds: bool, why: Refusal) -> Verdict
     }
 }
 
+impl Where {
+    fn positions(self) -> Positions
+        ensures { λ r. ⌜ r ≡ positionsOf self ⌝ }
+    {
+        match self {
+            Where::Nowhere => Positions {
+                option: NOWHERE,
+                part: NOWHERE,
+            },
+            Where::Part(part) => Positions {
+                option: NOWHERE,
+                part: part,
+            },
+            Where::Option(option, part) => Positions {
+                option: option,
+                part: part,
+            },
+        }
+    }
+}
+
 // This refusal, nowhere.
-pub fn nowhere(why: Refusal) -> Cause
-    ensures { λ r. ⌜ r ≡ nowhereOf why ⌝ }
+pub fn bare(why: Refusal) -> Cause
+    ensures { λ r. ⌜ r ≡ bareOf why ⌝ }
 {
-    Cause { why: why }
+    Cause {
+        why: why,
+        place: Where::Nowhere,
+    }
 }
 
 // The answer of a refusal: nothing was written.
@@ -81,12 +126,16 @@ pub fn refused_for(cause: Cause) -> Answer
     ensures { λ r. ⌜ r ≡ refusedFor cause ⌝ }
 {
     let why = cause.why;
+    let place = cause.place;
     let code = why.code();
+    let positions = place.positions();
     Answer {
         reply: code / 100,
         second: code % 100,
         absent: 0,
         length: 0,
+        option: positions.option,
+        part: positions.part,
     }
 }
 
@@ -94,7 +143,7 @@ pub fn refused_for(cause: Cause) -> Answer
 pub fn refused(why: Refusal) -> Answer
     ensures { λ r. ⌜ r ≡ refusedBy why ⌝ }
 {
-    refused_for(nowhere(why))
+    refused_for(bare(why))
 }
 
 // The answer of a call that wrote so much.
@@ -106,6 +155,8 @@ pub fn done(length: u32) -> Answer
         second: 0,
         absent: 0,
         length: length,
+        option: NOWHERE,
+        part: NOWHERE,
     }
 }
 
@@ -118,6 +169,8 @@ pub fn absent() -> Answer
         second: 0,
         absent: 1,
         length: 0,
+        option: NOWHERE,
+        part: NOWHERE,
     }
 }
 
@@ -130,6 +183,8 @@ pub fn decided(holds: bool) -> Answer
         second: if holds { 1 } else { 0 },
         absent: 0,
         length: 0,
+        option: NOWHERE,
+        part: NOWHERE,
     }
 }
 

@@ -9,10 +9,10 @@ use Rattle.reply.specs.Reply as reply
 use Rattle.reply.specs.Outcome.{Answered}
 use Rattle.reply.proofs.Outcomes.{answered-refused}
 use Rattle.sheetform.specs.Form.{judgeSheet}
-use Rattle.judged.specs.declared.Stop.{Stop}
+use Rattle.reply.specs.declared.Cause.{Cause}
 use Rattle.judged.specs.declared.Judged.{Judged}
 use Rattle.judged.specs.declared.Judged.the-variants as judged
-use Rattle.judged.specs.Judged.{nowhere}
+use Rattle.reply.specs.Reply.{bare}
 use Rattle.options.specs.declared.measure.Measured.{Measured}
 use Rattle.options.specs.declared.measure.Measure.{Measure}
 use Rattle.options.specs.declared.measure.Measure.the-variants as measure
@@ -26,7 +26,7 @@ use Rattle.resolver.proofs.WriteLaws.{measured-judged}
 module _ (s r l : List ℕ) (a : Answer) (v : Verdict) (q : v ≡ judgeSheet s) where
   pub resolve-refused : (w : Refusal) → v ≡ Bad w → a ≡ reply.refusedBy w → Answered (resolveBytes s r) l l a
   unfolding resolveBytes resolvingBy
-  resolve-refused w g e = rw e (answered-refused (resolveBytes s r) l (reply.nowhere w) (rw (← q, g)))
+  resolve-refused w g e = rw e (answered-refused (resolveBytes s r) l (reply.bare w) (rw (← q, g)))
 
   pub resolve-fine : v ≡ Fine → (l′ : List ℕ) → Answered (resolveTested s r) l l′ a → Answered (resolveBytes s r) l l′ a
   resolve-fine g l′ h = rw (resolve-tested s r (sym q ∙ g)) h
@@ -38,7 +38,7 @@ module _ (v : Measure) where
   pub by-absent : v ≡ measure.Absent → judged.Absent ≡ judgedBy v
   by-absent g = rw g refl
 
-  pub by-refused : (e : Stop) → v ≡ measure.Refused e → judged.Refused e ≡ judgedBy v
+  pub by-refused : (e : Cause) → v ≡ measure.Refused e → judged.Refused e ≡ judgedBy v
   by-refused e g = rw g refl
 
   pub by-fine : (m : Measured) → v ≡ measure.Fine m → judged.Fine (m .length) ≡ judgedBy v
@@ -55,7 +55,7 @@ pub ruleset verdict-tested-laws = (verdict-measured)
 
 -- ---- verdict
 module _ (s r : List ℕ) (v : Verdict) (q : v ≡ judgeSheet s) where
-  pub verdict-refused : (w : Refusal) → v ≡ Bad w → (y : Stop) → y ≡ nowhere w → judged.Refused y ≡ judgedOf (resolving s r)
+  pub verdict-refused : (w : Refusal) → v ≡ Bad w → (y : Cause) → y ≡ bare w → judged.Refused y ≡ judgedOf (resolving s r)
   unfolding resolvingBy
   verdict-refused w g y e = rw (← q, g, e)
 

@@ -5,7 +5,7 @@ use lib.Seq.{length-take-le}
 use Rattle.basis.proofs.Never.{never}
 use Rattle.reply.specs.declared.Answer.{Answer}
 use Rattle.reply.specs.Outcome.{give, Answered}
-use Rattle.judged.specs.declared.Stop.{Stop}
+use Rattle.reply.specs.declared.Cause.{Cause}
 use Rattle.judged.specs.declared.Judged.the-variants as judged
 use Rattle.judged.specs.inner.Answering.{Judges, fine, absent, refuses, answerIn}
 use Rattle.judged.proofs.JudgedLaws.{judged-absent, judged-refused, granted-within, judged-written}
@@ -85,7 +85,7 @@ module _ (s r ns : List ℕ) (v : Measure) (u : Measures s r (resolvingTested s 
     pub over-absent : v ≡ measure.Absent → a ≡ answerIn (length l) judged.Absent → Answered (resolveTested s r) l l a
     over-absent g e = judged-absent a (rw g at over-judged) e
 
-    pub over-refused : (w : Stop) → v ≡ measure.Refused w → a ≡ answerIn (length l) (judged.Refused w) → Answered (resolveTested s r) l l a
+    pub over-refused : (w : Cause) → v ≡ measure.Refused w → a ≡ answerIn (length l) (judged.Refused w) → Answered (resolveTested s r) l l a
     over-refused w g e = judged-refused a w (rw g at over-judged) e
 
     pub over-written : (m : Measured) → v ≡ measure.Fine m → (l′ : List ℕ)

@@ -12,7 +12,6 @@ ghost use Rattle.options.specs.Resolve.{outcomeOf, judgedOf, resolveBytes, reso
 ghost use Rattle.resolver.specs.inner.Judging.{judgedBy};
 use judged::Judged;
 use judged::answer_in;
-use judged::nowhere;
 use limits::MOST_OPTIONS;
 use options::measure::Measure;
 use options::measure::Measured;
@@ -20,6 +19,7 @@ use options::measure::measure_tested;
 use options::measure::put_records;
 use reply::Answer;
 use reply::Verdict;
+use reply::bare;
 
 // What was measured, written to as much of the lent memory as the answer says: to none of it where there is no room for all.
 fn write(
@@ -48,7 +48,7 @@ fn resolve_over(sheet: &[u8], request: &[u8], notes: &mut [usize], out: &mut [u8
 {
     match measure_tested(sheet, request, notes) {
         Measure::Absent => answer_in(out.len(), Judged::Absent),
-        Measure::Refused(stop) => answer_in(out.len(), Judged::Refused(stop)),
+        Measure::Refused(cause) => answer_in(out.len(), Judged::Refused(cause)),
         Measure::Fine(measured) => write(sheet, request, measured, notes, out),
     }
 }
@@ -77,7 +77,7 @@ fn judged_by(measure: Measure) -> Judged
 {
     match measure {
         Measure::Absent => Judged::Absent,
-        Measure::Refused(stop) => Judged::Refused(stop),
+        Measure::Refused(cause) => Judged::Refused(cause),
         Measure::Fine(measured) => Judged::Fine(measured.length),
     }
 }
@@ -95,7 +95,7 @@ pub fn verdict(sheet: &[u8], request: &[u8]) -> Judged
     ensures { λ r. ⌜ r ≡ judgedOf (resolving (now (sheet .entry)) (now (request .entry))) ⌝ }
 {
     if let Verdict::Refused(why) = sheetform::check_sheet(sheet) {
-        return Judged::Refused(nowhere(why));
+        return Judged::Refused(bare(why));
     }
     verdict_tested(sheet, request)
 }

@@ -33,12 +33,12 @@ use Rattle.options.proofs.settle.PutLaws.{stepped-tells}
 use Rattle.builtins.specs.declared.Built.{Built}
 use Rattle.builtins.specs.declared.Built.the-variants.{Skipped, Sets, Wrong}
 use Rattle.builtins.specs.Builtins.{builtinOf, builtRecs}
-use Rattle.judged.specs.declared.Place.the-variants.{Inside}
-use Rattle.judged.specs.declared.Stop.{Stop}
+use Rattle.reply.specs.declared.Where.the-variants as wheres
+use Rattle.reply.specs.declared.Cause.{Cause}
 use Rattle.options.specs.declared.settle.Start.{Start}
 use Rattle.options.specs.declared.settle.Settling.{Settling}
 use Rattle.options.specs.declared.settle.Settling.the-variants.{Gives, Fails}
-use Rattle.options.specs.Settle.{settledBuilt, settled, builtinPart, stopAt, settle}
+use Rattle.options.specs.Settle.{settledBuilt, settled, builtinPart, causeAt, settle}
 use Rattle.options.specs.inner.Settling.{messageOf, settledAt, parted, othersOf, noteIn, setRecs, settlingOf, Started}
 
 -- ---- settled_built
@@ -53,22 +53,22 @@ module _ (b : Built) (i at : ℕ) where
   built-sets h y g = rw (g, add-zero at) refl
 
   pub built-wrong : (w : Refusal) → b ≡ Wrong w
-      → Fails (record { place = Inside i 0; why = w }) ≡ settlingOf i (noteIn (settledBuilt [] b)) at (othersOf (settledBuilt [] b))
+      → Fails (record { place = wheres.Option i 0; why = w }) ≡ settlingOf i (noteIn (settledBuilt [] b)) at (othersOf (settledBuilt [] b))
   unfolding settlingOf
   built-wrong w g = rw g refl
 
 pub ruleset settled-built-laws = (built-skipped, built-sets, built-wrong)
 
 -- ---- settle_named
-fault-inv : (i : ℕ) (f g : Fault) → Fails (stopAt i f) ≡ Fails (stopAt i g) → f ≡ g
+fault-inv : (i : ℕ) (f g : Fault) → Fails (causeAt i f) ≡ Fails (causeAt i g) → f ≡ g
 fault-inv i f g e =
-    let s : stopAt i f ≡ stopAt i g = cc in
-    let p : Inside i (f .part) ≡ Inside i (g .part) = ap (λ (x : Stop). x .place) s in
+    let s : causeAt i f ≡ causeAt i g = cc in
+    let p : wheres.Option i (f .part) ≡ wheres.Option i (g .part) = ap (λ (x : Cause). x .place) s in
     let n : f .part ≡ g .part = cc in
-    let w : f .why ≡ g .why = ap (λ (x : Stop). x .why) s in
+    let w : f .why ≡ g .why = ap (λ (x : Cause). x .why) s in
     ap (λ (x : ℕ). record { part = x; why = f .why }) n ∙ ap (λ (x : Refusal). record { part = g .part; why = x }) w
 
-pub settling-tells : (i n : ℕ) → Tells (settlingOf i n) (Gives n) (λ f. Fails (stopAt i f))
+pub settling-tells : (i n : ℕ) → Tells (settlingOf i n) (Gives n) (λ f. Fails (causeAt i f))
 unfolding settlingOf
 settling-tells i n = record {
   makes = λ at x. refl;
@@ -84,7 +84,7 @@ module _ (m : Made Fault) (k : ℕ) (l : List ℕ) (at : ℕ) (l′ : List ℕ) 
       let x = emits-next stepped-tells m n u g in
       emits-laid (settling-tells i 0) (x .recs) n (x .laid) (x .is) (x .few) refl
 
-  pub named-refused : (f : Fault) → y ≡ Refused f → Emits (settlingOf i 0) m k l at l′ (Fails (record { place = Inside i (f .part); why = f .why }))
+  pub named-refused : (f : Fault) → y ≡ Refused f → Emits (settlingOf i 0) m k l at l′ (Fails (record { place = wheres.Option i (f .part); why = f .why }))
   named-refused f g = refuses (settling-tells i 0) f (emits-refused stepped-tells m f u g) refl
 
 module _ (s r : List ℕ) (h : Start) (k : Started s r h) where

@@ -29,7 +29,7 @@ use Rattle.lookups.specs.Lookups.{Lookups}
 use Rattle.known.specs.Known.{Known, knownRecs}
 use Rattle.known.specs.inner.Notes.{Noted}
 use Rattle.options.specs.declared.settle.Start.{Start}
-use Rattle.judged.specs.declared.Stop.{Stop}
+use Rattle.reply.specs.declared.Cause.{Cause}
 use Rattle.options.specs.declared.settle.Settling.{Settling}
 use Rattle.options.specs.declared.settle.Settling.the-variants.{Gives, Fails}
 use Rattle.options.specs.Settle.{settle}
@@ -67,4 +67,4 @@ pub record FineFrom (r : List ℕ) (h : Start) : Type 0 where
 pub data Gathers (made : ℕ → Recs) (k : ℕ) : Gathered → (at : ℕ) (l l′ ns : List ℕ) → Settling → Type 0 where
   gives : {ks : List Known} {x : Recs} {at n next : ℕ} {l l′ ns : List ℕ} → Laid l at (encode x) l′ next → Noted made ns n ks
       → n ≤ mostOptions → length (encode (append (knownRecs ks) x)) ≤ k → Gathers made k (gathered ks x) at l l′ ns (Gives n next)
-  stops : {e : Stop} {at : ℕ} {l l′ ns : List ℕ} → Gathers made k (stopped e) at l l′ ns (Fails e)
+  stops : {e : Cause} {at : ℕ} {l l′ ns : List ℕ} → Gathers made k (stopped e) at l l′ ns (Fails e)

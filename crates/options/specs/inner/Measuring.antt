@@ -17,7 +17,7 @@ use Rattle.lookups.specs.Lookups.{walking}
 use Rattle.known.specs.Known.{Known, knownRecs}
 use Rattle.known.specs.inner.Notes.{Noted}
 use Rattle.options.specs.declared.settle.Start.{Start}
-use Rattle.judged.specs.declared.Stop.{Stop}
+use Rattle.reply.specs.declared.Cause.{Cause}
 use Rattle.options.specs.declared.settle.Settling.{Settling}
 use Rattle.options.specs.declared.settle.Settling.the-variants.{Gives, Fails}
 use Rattle.options.specs.inner.Settling.{Started}
@@ -46,7 +46,7 @@ pub record Open (s r : List ℕ) (h : Start) : Type 0 where
 pub data Opens (s r : List ℕ) : Opening → Type 0 where
   at : {h : Start} → Open s r h → Opens s r (opening.At h)
   none : stepsOf (walking s) s r ≡ absent → Opens s r opening.Absent
-  lost : {e : Stop} → stepsOf (walking s) s r ≡ refused e → Opens s r (opening.Refused e)
+  lost : {e : Cause} → stepsOf (walking s) s r ≡ refused e → Opens s r (opening.Refused e)
 
 pub record Counted (s r ns : List ℕ) (h : Start) (n : ℕ) : Type 0 where
   pub knowns : List Known
@@ -58,7 +58,7 @@ pub record Counted (s r ns : List ℕ) (h : Start) (n : ℕ) : Type 0 where
 
 -- what the loop over the options answered of them
 pub record Tallies (s r ns : List ℕ) (h : Start) (y : Settling) : Type 0 where
-  pub stops : (e : Stop) → y ≡ Fails e → gatheredBy (walking s) s r h ≡ stopped e
+  pub stops : (e : Cause) → y ≡ Fails e → gatheredBy (walking s) s r h ≡ stopped e
   pub counts : (n o : ℕ) → y ≡ Gives n o → Counted s r ns h n
   pub others : (n o : ℕ) → y ≡ Gives n o → o ≡ length (encode (restOf (gatheredBy (walking s) s r h)))
 
@@ -72,4 +72,4 @@ pub record Ready (s r ns : List ℕ) (m : Measured) : Type 0 where
 pub data Measures (s r : List ℕ) : Steps → (ns : List ℕ) → Measure → Type 0 where
   fine : {ns : List ℕ} {m : Measured} → Ready s r ns m → Measures s r (stepsIn (gatheredBy (walking s) s r (m .start))) ns (measure.Fine m)
   none : {ns : List ℕ} → Measures s r absent ns measure.Absent
-  refuses : {ns : List ℕ} {e : Stop} → Measures s r (refused e) ns (measure.Refused e)
+  refuses : {ns : List ℕ} {e : Cause} → Measures s r (refused e) ns (measure.Refused e)

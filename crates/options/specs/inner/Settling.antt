@@ -27,7 +27,7 @@ use Rattle.options.specs.declared.named.Fault.{Fault}
 use Rattle.options.specs.declared.settle.Start.{Start}
 use Rattle.options.specs.declared.settle.Settling.{Settling}
 use Rattle.options.specs.declared.settle.Settling.the-variants.{Gives, Fails}
-use Rattle.options.specs.Settle.{Settled, known, others, fails, stopAt, settle}
+use Rattle.options.specs.Settle.{Settled, known, others, fails, causeAt, settle}
 
 abbrev pub messageOf : (request : List ℕ) → Start → Message
 messageOf r h = record { name = text r (h .«options_type»); place = h .place }
@@ -55,7 +55,7 @@ setRecs (fails f) = nil
 
 unfoldable pub settlingOf : (option note at : ℕ) → Made Fault → Settling
 settlingOf i n at (made x) = Gives n (at + length (encode x))
-settlingOf i n at (wrong f) = Fails (stopAt i f)
+settlingOf i n at (wrong f) = Fails (causeAt i f)
 
 pub record Started (s r : List ℕ) (h : Start) : Type 0 where
   pub place : InSheet s (h .place)
