@@ -1,2 +1,5 @@
 pub mod Windows
 pub mod Walks
+pub mod Names
+pub mod FormLaws
+pub mod Trees

@@ -32,7 +32,11 @@ pub record SameSpan {r r′ : List ℕ} (w : Twin r r′) (p p′ : Span) : Type
   pub from : Here w (p .from) (p′ .from)
   pub to : Here w (p .to) (p′ .to)
 
--- ---- tests of two places
+-- ---- one of two by a test, and tests of two places
+pub by-test : {A : Type 0} {b b′ : Bool} {u u′ v v′ : A} → b ≡ b′ → u ≡ u′ → v ≡ v′
+    → _≡_ {A = A} (elim b [ true ↦ u | false ↦ v ]) (elim b′ [ true ↦ u′ | false ↦ v′ ])
+by-test {A} p q q′ = λ i. elim (p i) [ true ↦ q i | false ↦ q′ i ]
+
 pub ltb-moved : (x x′ y y′ a b : ℕ) → x + b ≡ y + a → x′ + b ≡ y′ + a → ltb x x′ ≡ ltb y y′
 ltb-moved x x′ y y′ a b p q = go (ltb x x′) refl
   where
