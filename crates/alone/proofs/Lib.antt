@@ -3,3 +3,5 @@ pub mod Walks
 pub mod Names
 pub mod FormLaws
 pub mod Trees
+pub mod ValueLaws
+pub mod SettleLaws
