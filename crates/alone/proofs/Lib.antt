@@ -5,3 +5,8 @@ pub mod FormLaws
 pub mod Trees
 pub mod ValueLaws
 pub mod SettleLaws
+pub mod Fields
+pub mod Placed
+pub mod Taken
+pub mod Headings
+pub mod Own
