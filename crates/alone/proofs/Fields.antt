@@ -1,6 +1,6 @@
 -- A field that is whole up to one end is the same up to any other end behind it, and in another request at a place that corresponds.
 -- Assumes nothing.
-use Rattle.basis.specs.Kit.{_≡_, refl, sym, ap, _∙_, Bool, true, false, _&&_, List, ℕ, _+_, _-_, _≤_, eqb, ltb, getD}
+use Rattle.basis.specs.Kit.{_≡_, refl, sym, ap, _∙_, Bool, true, false, _&&_, List, ℕ, _+_, _≤_, eqb, ltb, getD}
 use Rattle.basis.proofs.Kit.{arith}
 use mathlib.Core.Path.{subst₂}
 use borrow.Author.Tests.{eqb-true}
@@ -9,7 +9,6 @@ use Rattle.basis.proofs.Never.{never}
 use Rattle.octets.specs.Octets.{bigAt}
 use Rattle.field.specs.declared.Field.{Field}
 use Rattle.field.specs.declared.Field.the-variants.{Whole, Cut}
-use Rattle.field.specs.declared.Leaf.{Leaf}
 use Rattle.field.specs.declared.Leaf.the-variants.{At, Not}
 use Rattle.field.specs.Field.{header, fieldAt}
 use Rattle.field.specs.Leaf.{span, anyBytes, leafOf, leafAt}

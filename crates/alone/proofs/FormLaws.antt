@@ -5,20 +5,18 @@ use Rattle.basis.proofs.Kit.{lt-ltb}
 use mathlib.Core.Path.{ap₂}
 use Rattle.basis.proofs.Never.{never}
 use Rattle.limits.specs.Figures.{mostOptions, mostParts, mostConstants}
-use Rattle.octets.specs.Octets.{part}
 use Rattle.reply.specs.declared.Refusal.{Refusal}
 use Rattle.reply.specs.declared.Refusal.the-variants.{BadRequest, BeyondLimit}
 use Rattle.reply.specs.declared.Verdict.{Verdict}
-use Rattle.reply.specs.Verdicts.{firstFault, judged, beyond}
+use Rattle.reply.specs.Verdicts.{firstFault, judged}
 use Rattle.field.specs.declared.Field.{Field}
-use Rattle.field.specs.Field.{fieldAt}
 use Rattle.field.specs.Leaf.{span, text}
-use Rattle.field.specs.Walk.{Walk, walk}
+use Rattle.field.specs.Walk.{Walk}
 use Rattle.form.specs.Each.{each}
 use Rattle.request.specs.declared.name.Parted.{Parted}
 use Rattle.request.specs.Table.{messageConstantTag, listTag, optionTag}
 use Rattle.constantform.specs.Leaves.{isConstant, goodScalar, goodPairName, goodPart}
-use Rattle.constantform.specs.Form.{badRequest, pairsOf, constantWith, judgeConstant}
+use Rattle.constantform.specs.Form.{pairsOf, constantWith, judgeConstant}
 use Rattle.optionform.specs.declared.Parts.{Parts}
 use Rattle.optionform.specs.declared.Parts.the-variants.{After, Refuses}
 use Rattle.optionform.specs.Form.{nextPart, partsFrom, lastField, judgeLast, afterName, judgeOption}

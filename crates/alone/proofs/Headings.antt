@@ -1,17 +1,16 @@
 -- The heading of a request is that of any other which has the same bytes in front, up to where the options start.
 -- Assumes nothing.
-use Rattle.basis.specs.Kit.{_≡_, refl, sym, ap, _∙_, List, ℕ, _+_, _≤_, length}
+use Rattle.basis.specs.Kit.{_≡_, refl, sym, ap, _∙_, List, ℕ, _≤_, length}
 use Rattle.basis.proofs.Kit.{arith}
 use mathlib.Core.Path.{ap₂}
 use Rattle.basis.proofs.Never.{never}
 use Rattle.field.specs.declared.Field.{Field}
 use Rattle.field.specs.declared.Field.the-variants.{Whole}
-use Rattle.field.specs.declared.Leaf.{Leaf}
-use Rattle.field.specs.declared.Leaf.the-variants.{At, Not}
+use Rattle.field.specs.declared.Leaf.the-variants.{At}
 use Rattle.field.specs.declared.Span.{Span}
 use Rattle.field.specs.Field.{fieldAt}
 use Rattle.field.specs.Leaf.{span, text, anyBytes, onLeaf, leafAt}
-use Rattle.field.proofs.FieldLaws.{Bounds, field-bounds}
+use Rattle.field.proofs.FieldLaws.{field-bounds}
 use Rattle.field.proofs.LeafLaws.{leaf-any, on-leaf-some}
 use Rattle.request.specs.declared.heading.Heading.{Heading}
 use Rattle.request.specs.declared.heading.Headed.{Headed}

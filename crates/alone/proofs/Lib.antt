@@ -10,3 +10,4 @@ pub mod Placed
 pub mod Taken
 pub mod Headings
 pub mod Own
+pub mod Controls

@@ -1,19 +1,18 @@
 -- What an option comes to does not depend on what stands around it. The statement stands at the end.
 -- Assumes nothing.
-use Rattle.basis.specs.Kit.{_≡_, refl, sym, ap, _∙_, true, List, [], _∷_, _++_, Option, some, ℕ, _+_, _-_, _≤_, _<_, length, take}
+use Rattle.basis.specs.Kit.{_≡_, refl, sym, ap, _∙_, true, List, [], _∷_, _++_, some, ℕ, _+_, _-_, _≤_, length, take}
 use Rattle.basis.proofs.Kit.{arith}
 use lib.ListN.{getElem?}
-use Rattle.limits.specs.Figures.{mostRequest, mostOptions}
+use Rattle.limits.specs.Figures.{mostRequest}
 use Rattle.path.specs.Path.{isRelPath, isRelOrEmpty}
 use Rattle.reply.specs.declared.Refusal.the-variants.{BadRequest}
 use Rattle.reply.specs.declared.Verdict.{Verdict}
 use Rattle.reply.specs.declared.Verdict.the-variants.{Fine}
 use Rattle.reply.specs.Verdicts.{firstFault}
-use Rattle.field.specs.declared.Field.the-variants.{Whole}
 use Rattle.field.specs.declared.Leaf.the-variants.{At}
 use Rattle.field.specs.Field.{fieldAt}
-use Rattle.field.specs.Leaf.{span, text, anyBytes, leafAt}
-use Rattle.field.specs.Walk.{Walk, done, step, walk}
+use Rattle.field.specs.Leaf.{text, anyBytes, leafAt}
+use Rattle.field.specs.Walk.{done, step, walk}
 use Rattle.field.proofs.FieldLaws.{Bounds, field-bounds}
 use Rattle.field.proofs.LeafLaws.{leaf-good}
 use Rattle.field.proofs.WalkLaws.{walk-done, walk-step}
@@ -34,7 +33,7 @@ use Rattle.lookups.specs.Lookups.{Lookups, Message}
 use Rattle.options.specs.Settle.{settle}
 use Rattle.options.proofs.OpenLaws.{fine-short}
 use Rattle.alone.specs.Alone.{aloneWith, alone, faultOf, Own}
-use Rattle.alone.proofs.Windows.{Twin, Here}
+use Rattle.alone.proofs.Windows.{Twin}
 use Rattle.alone.proofs.Fields.{field-end, Moved, field-moved}
 use Rattle.alone.proofs.FormLaws.{option-same}
 use Rattle.alone.proofs.Trees.{option-of-same}

@@ -3,7 +3,7 @@
 --   Placed r from w i o <-> the i-th of the fields w, from the place `from` on in r, is a fine option, and in the tree it is o
 --
 -- Assumes nothing.
-use Rattle.basis.specs.Kit.{_≡_, refl, sym, ap, _∙_, Bool, true, false, List, _∷_, Option, some, ℕ, zero, suc, _+_, _-_, _≤_, _<_, ltb}
+use Rattle.basis.specs.Kit.{_≡_, refl, sym, ap, _∙_, Bool, true, false, List, some, ℕ, zero, suc, _+_, _-_, _≤_, _<_, ltb}
 use Rattle.basis.specs.Kit.{length}
 use Rattle.basis.proofs.Kit.{arith}
 use lib.ListN.{getElem?}
@@ -17,7 +17,7 @@ use Rattle.field.specs.declared.Field.{Field}
 use Rattle.field.specs.declared.Field.the-variants.{Whole, Cut}
 use Rattle.field.specs.Field.{header, fieldAt}
 use Rattle.field.specs.Walk.{Walk, step, walk}
-use Rattle.field.proofs.FieldLaws.{Bounds, field-bounds}
+use Rattle.field.proofs.FieldLaws.{field-bounds}
 use Rattle.field.proofs.WalkLaws.{walk-done, walk-cut, walk-step}
 use Rattle.form.specs.Each.{eachFrom}
 use Rattle.request.specs.Table.{optionTag}

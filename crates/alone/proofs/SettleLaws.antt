@@ -21,12 +21,11 @@ use Rattle.request.specs.declared.name.Part.{Part}
 use Rattle.request.specs.Tree.{Constants}
 use Rattle.request.specs.Request as tree
 use Rattle.records.specs.declared.Body.{Body}
-use Rattle.records.specs.Records.{nil}
-use Rattle.records.specs.Made.{Made, made, wrong}
+use Rattle.records.specs.Made.{Made}
 use Rattle.lookups.specs.Lookups.{Lookups, Message, fieldNamed}
 use Rattle.scalars.specs.declared.Scalar.{Scalar}
 use Rattle.scalars.specs.Scalars.{unsupported}
-use Rattle.values.specs.Values.{on, records}
+use Rattle.values.specs.Values.{on}
 use Rattle.builtins.specs.declared.Built.{Built}
 use Rattle.builtins.specs.declared.Built.the-variants.{Skipped, Sets, Wrong}
 use Rattle.builtins.specs.Builtins.{repeated, isSkipped, builtOf, builtinOn, builtinField, builtinOf}
@@ -36,7 +35,7 @@ use Rattle.steps.specs.declared.Step.the-variants.{Found, NotFound}
 use Rattle.steps.specs.Steps.{whyOf, stepExtension, stepOf}
 use Rattle.options.specs.declared.named.Fault.{Fault}
 use Rattle.options.specs.Named.{faultAt, at, onStep, reached, left, optionFrom}
-use Rattle.options.specs.Settle.{Settled, settledBuilt, settled, builtinPart, settle}
+use Rattle.options.specs.Settle.{settledBuilt, settled, builtinPart, settle}
 use Rattle.alone.specs.Alone.{faultOf}
 use Rattle.alone.proofs.Windows.{Twin, by-test, text-same}
 use Rattle.alone.proofs.Names.{SamePart, SameParts, no-parts, part-then}

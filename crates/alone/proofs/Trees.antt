@@ -7,7 +7,7 @@
 --      SameOption w o o′ <-> the same parts, and the same constant
 --
 -- Assumes nothing.
-use Rattle.basis.specs.Kit.{_≡_, refl, ap, Bool, true, false, List, ℕ, zero, suc, _+_, _-_, _^_, eqb, ltb, getD}
+use Rattle.basis.specs.Kit.{_≡_, refl, ap, Bool, true, false, List, ℕ, zero, suc, _-_, _^_, eqb, ltb, getD}
 use Rattle.basis.proofs.Kit.{arith}
 use mathlib.Core.Path.{subst}
 use borrow.Author.Tests.{eqb-true}
@@ -17,9 +17,8 @@ use Rattle.limits.specs.Figures.{mostConstants}
 use Rattle.octets.specs.Octets.{bigAt}
 use Rattle.field.specs.declared.Field.{Field}
 use Rattle.field.specs.declared.Span.{Span}
-use Rattle.field.specs.Field.{fieldAt}
 use Rattle.field.specs.Leaf.{span}
-use Rattle.field.specs.Walk.{Walk, walk}
+use Rattle.field.specs.Walk.{Walk}
 use Rattle.request.specs.declared.constant.Constant.{Constant}
 use Rattle.request.specs.declared.constant.Constant.the-variants.{Bool as BoolOf, Integer, Float, NotANumber}
 use Rattle.request.specs.declared.constant.Constant.the-variants.{Text, Ident, Message, List as ListOf}
@@ -30,9 +29,8 @@ use Rattle.request.specs.Table.{pairFieldTag, pairExtensionTag}
 use Rattle.request.specs.Constant.{integerOf, floatOf, boolOf, numberWith, numericOf, constantOf, isPairName}
 use Rattle.request.specs.Tree.{PairName, unnamed, byField, byExtension, byUrl, Constants, none, scalar, message, list, ConstantReader}
 use Rattle.request.specs.Tree.{pairNameOf, elementsIn, pairsIn, grown, ifHeld, constantIn}
-use Rattle.request.specs.declared.name.Part.{Part}
 use Rattle.request.specs.Request.{Option, constantOfField, optionOf}
-use Rattle.alone.proofs.Windows.{Twin, Here, SameSpan, here-byte, here-big, here-size}
+use Rattle.alone.proofs.Windows.{Twin, SameSpan, here-byte, here-big, here-size}
 use Rattle.alone.proofs.Walks.{SameField, both-cut, both-whole, SameWalk, dones, cuts, steps, field-same, walk-same}
 use Rattle.alone.proofs.Names.{SameParts, parts-same, after-same}
 

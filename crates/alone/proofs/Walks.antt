@@ -4,7 +4,7 @@
 --     SameWalk w u v <-> u and v are the same fields, and end alike
 --
 -- Assumes nothing.
-use Rattle.basis.specs.Kit.{_≡_, refl, sym, _∙_, Bool, true, false, List, ℕ, zero, suc, _+_, _-_, _≤_, ltb, getD}
+use Rattle.basis.specs.Kit.{_≡_, refl, sym, Bool, true, false, List, ℕ, zero, suc, _+_, _-_, _≤_, ltb, getD}
 use Rattle.basis.proofs.Kit.{arith}
 use borrow.Author.Tests.{ltb-false}
 use Rattle.basis.proofs.Never.{never}

@@ -5,15 +5,15 @@
 --   SameSpan w p p′ <-> the span p of r is the span p′ of r′
 --
 -- Assumes nothing.
-use Rattle.basis.specs.Kit.{_≡_, refl, sym, ap, _∙_, Bool, true, false, List, ℕ, zero, suc, _+_, _-_, _*_, _≤_, _<_, eqb, ltb}
-use Rattle.basis.specs.Kit.{length, getD, take, drop}
+use Rattle.basis.specs.Kit.{_≡_, refl, sym, ap, _∙_, Bool, true, false, List, ℕ, zero, suc, _+_, _-_, _≤_, _<_, eqb, ltb}
+use Rattle.basis.specs.Kit.{length, getD, drop}
 use Rattle.basis.proofs.Kit.{arith, eq-eqb, ne-eqb, lt-ltb, le-ltb}
 use borrow.Author.Tests.{eqb-true, eqb-false, ltb-true, ltb-false}
 use lib.Seq.{getD-take, getD-drop, ext-getD}
 use Rattle.octets.specs.Octets.{part, bigAt}
 use Rattle.octets.proofs.Parts.{part-length}
 use Rattle.field.specs.declared.Span.{Span}
-use Rattle.field.specs.Leaf.{span, text}
+use Rattle.field.specs.Leaf.{text}
 
 pub record Twin (r r′ : List ℕ) : Type 0 where
   pub first : ℕ
