@@ -80,11 +80,11 @@ abbrev faults : List (Option Fault)
 faults = map (λ w. some (faultAt 0 w)) (BuiltinOptionNotFound ∷ ExtensionNotFound ∷ BuiltinOptionNotFound ∷ [])
 
 together : map (faultIn three) (0 ∷ 1 ∷ 2 ∷ []) ≡ faults
-unfolding requestOf headingOf leafAt fieldAt bigAt walkBy optionIn optionOf partOf constantOf boolOf itemsIn settle builtinOf isSkipped sameBytes
-    stepOf
+unfolding requestOf headingOf leafAt fieldAt bigAt walkBy optionIn optionOf partOf constantOf boolOf itemsIn settle builtinOf isSkipped
+    sameBytes stepOf
 together = refl
 
 each-alone : map (λ i. faultIn (alone three i) 0) (0 ∷ 1 ∷ 2 ∷ []) ≡ faults
-unfolding alone requestOf headingOf leafAt fieldAt bigAt walkBy optionIn optionOf partOf constantOf boolOf itemsIn settle builtinOf isSkipped
-    sameBytes stepOf
+unfolding alone requestOf headingOf leafAt fieldAt bigAt walkBy optionIn optionOf partOf constantOf boolOf itemsIn settle builtinOf
+    isSkipped sameBytes stepOf
 each-alone = refl

@@ -26,8 +26,8 @@ module _ (s : List ℕ) (at end t a e : ℕ) where
       n = bigAt 2 s (at + 1)
 
       go : (b b′ : Bool)
-          → elim b [ true ↦ Cut | false ↦ elim b′ [ true ↦ Cut | false ↦ Whole (getD s at 0) (at + header) (at + header + n) ] ] ≡ Whole t a e
-          → fieldAt s at end′ ≡ Whole t a e
+          → elim b [ true ↦ Cut | false ↦ elim b′ [ true ↦ Cut | false ↦ Whole (getD s at 0) (at + header) (at + header + n) ] ]
+          ≡ Whole t a e → fieldAt s at end′ ≡ Whole t a e
       go true b′ p = never cc
       go false true p = never cc
       go false false p =

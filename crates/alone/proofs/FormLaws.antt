@@ -1,16 +1,15 @@
 -- The verdicts of a constant and of an option are the same in two requests, at places that correspond.
 -- Assumes nothing.
-use Rattle.basis.specs.Kit.{_≡_, refl, sym, ap, _∙_, Bool, true, false, List, ℕ, zero, suc, _+_, _<_, eqb, ltb}
+use Rattle.basis.specs.Kit.{_≡_, refl, sym, ap, _∙_, List, ℕ, zero, suc, _+_, _<_, eqb, ltb}
 use Rattle.basis.proofs.Kit.{lt-ltb}
 use mathlib.Core.Path.{ap₂}
-use Rattle.basis.proofs.Never.{never}
 use Rattle.limits.specs.Figures.{mostOptions, mostParts, mostConstants}
 use Rattle.reply.specs.declared.Refusal.{Refusal}
 use Rattle.reply.specs.declared.Refusal.the-variants.{BadRequest, BeyondLimit}
 use Rattle.reply.specs.declared.Verdict.{Verdict}
 use Rattle.reply.specs.Verdicts.{firstFault, judged}
 use Rattle.field.specs.declared.Field.{Field}
-use Rattle.field.specs.Leaf.{span, text}
+use Rattle.field.specs.Leaf.{span}
 use Rattle.field.specs.Walk.{Walk}
 use Rattle.form.specs.Each.{each}
 use Rattle.request.specs.declared.name.Parted.{Parted}
@@ -20,7 +19,8 @@ use Rattle.constantform.specs.Form.{pairsOf, constantWith, judgeConstant}
 use Rattle.optionform.specs.declared.Parts.{Parts}
 use Rattle.optionform.specs.declared.Parts.the-variants.{After, Refuses}
 use Rattle.optionform.specs.Form.{nextPart, partsFrom, lastField, judgeLast, afterName, judgeOption}
-use Rattle.alone.proofs.Windows.{Twin, Here, SameSpan, by-test, here-equal, text-same}
+use Rattle.alone.proofs.Tests.{by-cases, by-test}
+use Rattle.alone.proofs.Windows.{Twin, Here, SameSpan, here-equal, text-same}
 use Rattle.alone.proofs.Walks.{SameField, both-cut, both-whole, SameWalk, dones, cuts, steps, field-same, walk-same}
 use Rattle.alone.proofs.Names.{SameParted, both-none, both-part, parted-same}
 
@@ -46,13 +46,14 @@ module _ {r r′ : List ℕ} (w : Twin r r′) where
 
     with-same : SameJudge (constantWith f r) (constantWith f′ r′)
     with-same t x x′ y y′ h =
-        by-test {b = eqb t messageConstantTag} refl (pairs-same (walk-same w h))
-        (by-test {b = eqb t listTag} refl (each-same (walk-same w h)) (ap (λ (bs : List ℕ). judged BadRequest (goodScalar t bs)) (text-same w h)))
+        by-test _≡_ (eqb t messageConstantTag) (pairs-same (walk-same w h))
+        (by-test _≡_ (eqb t listTag) (each-same (walk-same w h))
+        (ap (λ (bs : List ℕ). judged BadRequest (goodScalar t bs)) (text-same w h)))
 
   pub constant-same : (d : ℕ) → SameJudge (judgeConstant d r) (judgeConstant d r′)
   constant-same zero t x x′ y y′ h = refl
   constant-same (suc d) t x x′ y y′ h =
-      by-test {b = isConstant t} refl (with-same (judgeConstant d r) (judgeConstant d r′) (constant-same d) t x x′ y y′ h) refl
+      by-test _≡_ (isConstant t) (with-same (judgeConstant d r) (judgeConstant d r′) (constant-same d) t x x′ y y′ h) refl
 
 -- ---- the parts of a name: they end at places that correspond, or are refused alike
 data SameEnd {r r′ : List ℕ} (w : Twin r r′) : Parts → Parts → Type 0 where
@@ -60,21 +61,13 @@ data SameEnd {r r′ : List ℕ} (w : Twin r r′) : Parts → Parts → Type 0 
   both-refuse : (why : Refusal) → SameEnd w (Refuses why) (Refuses why)
 
 module _ {r r′ : List ℕ} (w : Twin r r′) where
-  part-more : (b c c′ : Bool) → c ≡ c′ → {v v′ : Parts} → SameEnd w v v′
-      → SameEnd w (elim b [ true ↦ elim c [ true ↦ v | false ↦ Refuses BadRequest ] | false ↦ Refuses BeyondLimit ])
-      (elim b [ true ↦ elim c′ [ true ↦ v′ | false ↦ Refuses BadRequest ] | false ↦ Refuses BeyondLimit ])
-  part-more false c c′ q k = both-refuse BeyondLimit
-  part-more true true true q k = k
-  part-more true true false q k = never cc
-  part-more true false true q k = never cc
-  part-more true false false q k = both-refuse BadRequest
-
   next-same : (n : ℕ) {x y : ℕ} → Here w x y → {p p′ : Parted} → SameParted w p p′ → {v v′ : Parts} → SameEnd w v v′
       → SameEnd w (nextPart r n x p v) (nextPart r′ n y p′ v′)
   next-same n h both-none k = both-after h
-  next-same n h (both-part {p} {p′} q) k =
-      part-more (ltb n mostParts) (goodPart (p .extension) (text r (p .name))) (goodPart (p′ .extension) (text r′ (p′ .name)))
-      (ap₂ goodPart (q .extension) (text-same w (q .name))) k
+  next-same n h (both-part q) k =
+      by-test (SameEnd w) (ltb n mostParts)
+      (by-cases (SameEnd w) (ap₂ goodPart (q .extension) (text-same w (q .name))) (λ _. k) (λ _. both-refuse BadRequest))
+      (both-refuse BeyondLimit)
 
   name-same : (n : ℕ) {x y : ℕ} → Here w x y → {u v : Walk} → SameWalk w u v → SameEnd w (partsFrom r n x u) (partsFrom r′ n y v)
   name-same n h dones = both-after h
@@ -90,12 +83,12 @@ module _ {r r′ : List ℕ} (w : Twin r r′) where
   named-same : {x x′ y y′ : ℕ} → Here w x y → Here w x′ y′ → {v v′ : Parts} → SameEnd w v v′ → afterName r x x′ v ≡ afterName r′ y y′ v′
   unfolding judgeLast
   named-same h k (both-refuse why) = refl
-  named-same h k (both-after p) = by-test (here-equal w p h) refl (last-field k (field-same w p k))
+  named-same h k (both-after p) = by-cases _≡_ (here-equal w p h) (λ _. refl) (λ _. last-field k (field-same w p k))
 
   -- the i-th of the options of r, and the j-th of those of r′
   pub option-same : (i j : ℕ) → i < mostOptions → j < mostOptions → {x x′ y y′ : ℕ} → SameSpan w (span x x′) (span y y′)
       → judgeOption r i optionTag x x′ ≡ judgeOption r′ j optionTag y y′
   unfolding judgeOption
   option-same i j m n h =
-      by-test (lt-ltb i mostOptions m ∙ sym (lt-ltb j mostOptions n))
-      (named-same (h .from) (h .to) (name-same 0 (h .from) (walk-same w h))) refl
+      by-cases _≡_ (lt-ltb i mostOptions m ∙ sym (lt-ltb j mostOptions n))
+      (λ _. named-same (h .from) (h .to) (name-same 0 (h .from) (walk-same w h))) (λ _. refl)

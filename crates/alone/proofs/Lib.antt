@@ -1,3 +1,4 @@
+pub mod Tests
 pub mod Windows
 pub mod Walks
 pub mod Names

@@ -5,14 +5,15 @@
 --   SameParts w ps qs <-> the same parts, in order
 --
 -- Assumes nothing.
-use Rattle.basis.specs.Kit.{_≡_, refl, Bool, true, false, List, [], _∷_, ℕ, eqb}
+use Rattle.basis.specs.Kit.{_≡_, refl, List, [], _∷_, ℕ, eqb}
 use Rattle.field.specs.Leaf.{span}
 use Rattle.field.specs.Walk.{Walk}
 use Rattle.request.specs.declared.name.Part.{Part}
 use Rattle.request.specs.declared.name.Parted.{Parted}
 use Rattle.request.specs.declared.name.Parted.the-variants.{Is, NoPart}
 use Rattle.request.specs.Table.{directPartTag, extensionPartTag}
-use Rattle.request.specs.Name.{partWith, partOf, leading, partsIn, further, afterParts}
+use Rattle.request.specs.Name.{partOf, leading, partsIn, further, afterParts}
+use Rattle.alone.proofs.Tests.{by-test}
 use Rattle.alone.proofs.Windows.{Twin, Here, SameSpan}
 use Rattle.alone.proofs.Walks.{SameWalk, dones, cuts, steps}
 
@@ -31,15 +32,9 @@ pub data SameParts {r r′ : List ℕ} (w : Twin r r′) : List Part → List Pa
 module _ {r r′ : List ℕ} (w : Twin r r′) where
   pub parted-same : (t : ℕ) {x x′ y y′ : ℕ} → SameSpan w (span x x′) (span y y′) → SameParted w (partOf t x x′) (partOf t y y′)
   unfolding partOf
-  parted-same t {x} {x′} {y} {y′} h = go (eqb t directPartTag) (eqb t extensionPartTag)
-    where
-      go : (b c : Bool)
-          → SameParted w
-          (elim b [ true ↦ Is (partWith false x x′) | false ↦ elim c [ true ↦ Is (partWith true x x′) | false ↦ NoPart ] ])
-          (elim b [ true ↦ Is (partWith false y y′) | false ↦ elim c [ true ↦ Is (partWith true y y′) | false ↦ NoPart ] ])
-      go true c = both-part (record { extension = refl; name = h })
-      go false true = both-part (record { extension = refl; name = h })
-      go false false = both-none
+  parted-same t h =
+      by-test (SameParted w) (eqb t directPartTag) (both-part (record { extension = refl; name = h }))
+      (by-test (SameParted w) (eqb t extensionPartTag) (both-part (record { extension = refl; name = h })) both-none)
 
   leading-same : {v v′ : Parted} {ps qs : List Part} → SameParted w v v′ → SameParts w ps qs → SameParts w (leading v ps) (leading v′ qs)
   leading-same both-none k = no-parts

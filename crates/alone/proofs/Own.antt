@@ -130,8 +130,9 @@ module _ (r : List ℕ) (f : judgeRequest r ≡ Fine) (h : Heading) (q : heading
 
   own-typed : At (h .«options_type» .from) (h .«options_type» .to) ≡ leafAt optionsTypeTag isRelPath own (h .scope .to) (length own)
   own-typed =
-      leaf-good optionsTypeTag isRelPath own (h .scope .to) (length own) (leafAt optionsTypeTag anyBytes own (h .scope .to) (length own)) refl
-      (h .«options_type» .from) (h .«options_type» .to) (own-leaves .type) true
+      leaf-good optionsTypeTag isRelPath own (h .scope .to) (length own)
+      (leafAt optionsTypeTag anyBytes own (h .scope .to) (length own)) refl (h .«options_type» .from) (h .«options_type» .to)
+      (own-leaves .type) true
       (sym (ap isRelPath own-type ∙ fine-options-type r f (headingOf r) refl h q)) refl
 
   own-short : length own ≤ mostRequest

@@ -37,10 +37,11 @@ use Rattle.options.specs.declared.named.Fault.{Fault}
 use Rattle.options.specs.Named.{faultAt, at, onStep, reached, left, optionFrom}
 use Rattle.options.specs.Settle.{settledBuilt, settled, builtinPart, settle}
 use Rattle.alone.specs.Alone.{faultOf}
-use Rattle.alone.proofs.Windows.{Twin, by-test, text-same}
+use Rattle.alone.proofs.Tests.{by-cases, by-test}
+use Rattle.alone.proofs.Windows.{Twin, text-same}
 use Rattle.alone.proofs.Names.{SamePart, SameParts, no-parts, part-then}
 use Rattle.alone.proofs.Trees.{SameConstants, nones, scalars, messages, lists, SameOption}
-use Rattle.alone.proofs.ValueLaws.{SameScalar, both-fit, both-misfit, SameMade, both-made, both-wrong, scalar-refl, holding-same, made-by}
+use Rattle.alone.proofs.ValueLaws.{SameScalar, both-fit, both-misfit, SameMade, both-made, both-wrong, scalar-refl, holding-same}
 use Rattle.alone.proofs.ValueLaws.{scalar-same, records-same}
 
 pub data SameBuilt : Built → Built → Type 0 where
@@ -65,15 +66,10 @@ whole-same w (part-then p (part-then q ps)) = no-whole
 
 module _ {r r′ : List ℕ} (w : Twin r r′) (L : Lookups) (s : List ℕ) where
   -- ---- builtins
-  scalar-by : (b : Bool) {x x′ y y′ : Scalar} → SameScalar x x′ → SameScalar y y′
-      → SameScalar (elim b [ true ↦ x | false ↦ y ]) (elim b [ true ↦ x′ | false ↦ y′ ])
-  scalar-by true h k = h
-  scalar-by false h k = k
-
   builtin-on : (h : Shape) {c c′ : Constants} → SameConstants w c c′ → SameScalar (builtinOn L s r h c) (builtinOn L s r′ h c′)
   builtin-on h nones = scalar-refl unsupported
   builtin-on h (scalars n k rest) =
-      scalar-by (isAny (h .typ) (TYPE_BOOL ∷ TYPE_ENUM ∷ TYPE_STRING ∷ [])) (scalar-same w L s UnsupportedExtensionType h k)
+      by-test SameScalar (isAny (h .typ) (TYPE_BOOL ∷ TYPE_ENUM ∷ TYPE_STRING ∷ [])) (scalar-same w L s UnsupportedExtensionType h k)
       (scalar-refl unsupported)
   builtin-on h (messages n k rest) = scalar-refl unsupported
   builtin-on h (lists n k rest) = scalar-refl unsupported
@@ -82,16 +78,11 @@ module _ {r r′ : List ℕ} (w : Twin r r′) (L : Lookups) (s : List ℕ) wher
   built-of h both-fit = both-set
   built-of h (both-misfit why) = both-bad why
 
-  built-by : (b : Bool) {x x′ y y′ : Built} → SameBuilt x x′ → SameBuilt y y′
-      → SameBuilt (elim b [ true ↦ x | false ↦ y ]) (elim b [ true ↦ x′ | false ↦ y′ ])
-  built-by true h k = h
-  built-by false h k = k
-
   builtin-field : {c c′ : Constants} → SameConstants w c c′ → (d : Option Declaration)
       → SameBuilt (builtinField L s r c d) (builtinField L s r′ c′ d)
   builtin-field k none = both-bad BuiltinOptionNotFound
   builtin-field k (some d) =
-      built-by (eqb (d .shape .label) repeated) (both-bad BuiltinOptionPointsToNonSingularField)
+      by-test SameBuilt (eqb (d .shape .label) repeated) (both-bad BuiltinOptionPointsToNonSingularField)
       (built-of (d .shape) (builtin-on (d .shape) k))
 
   builtin-same : (m : Message) {n n′ : List ℕ} → n ≡ n′ → {c c′ : Constants} → SameConstants w c c′
@@ -99,15 +90,15 @@ module _ {r r′ : List ℕ} (w : Twin r r′) (L : Lookups) (s : List ℕ) wher
   unfolding builtinOf
   builtin-same m {n} p {c} {c′} k =
       subst (λ (x : List ℕ). SameBuilt (builtinOf L s r m n c) (builtinOf L s r′ m x c′)) p
-      (built-by (isSkipped (m .name) n) both-skipped (builtin-field k (fieldNamed s n (m .place))))
+      (by-test SameBuilt (isSkipped (m .name) n) both-skipped (builtin-field k (fieldNamed s n (m .place))))
 
   module _ (scope : List ℕ) where
     -- ---- the parts of a name
     step-same : (m : Message) {p p′ : Part} → SamePart w p p′ → stepOf L s r scope m p ≡ stepOf L s r′ scope m p′
     unfolding stepOf
     step-same m q =
-        by-test (q .extension) (ap (λ (n : List ℕ). stepExtension (L .extension scope (m .name) n)) (text-same w (q .name)))
-        (ap (λ (n : List ℕ). told (NotFound NoField) Found (fieldNamed s n (m .place))) (text-same w (q .name)))
+        by-cases _≡_ (q .extension) (λ _. ap (λ (n : List ℕ). stepExtension (L .extension scope (m .name) n)) (text-same w (q .name)))
+        (λ _. ap (λ (n : List ℕ). told (NotFound NoField) Found (fieldNamed s n (m .place))) (text-same w (q .name)))
 
     on-step : (i : ℕ) {v v′ : Step} → v ≡ v′ → {f f′ : Declaration → Made Fault} → ((d : Declaration) → SameMade (f d) (f′ d))
         → SameMade (onStep i v f) (onStep i v′ f′)
@@ -129,8 +120,8 @@ module _ {r r′ : List ℕ} (w : Twin r r′) (L : Lookups) (s : List ℕ) wher
     left-same : (i : ℕ) (h : Shape) {f f′ : Message → Made Fault} → ((m : Message) → SameMade (f m) (f′ m))
         → SameMade (left L s r scope i h f) (left L s r′ scope i h f′)
     left-same i h k =
-        made-by (eqb (h .typ) TYPE_MESSAGE) (reached-same i (h .number) (text s (h .path)) (L .message (text s (h .path))) k)
-        (made-by (eqb (h .typ) TYPE_GROUP) both-made (both-wrong (faultAt i ExtensionIsNotMessage)))
+        by-test SameMade (eqb (h .typ) TYPE_MESSAGE) (reached-same i (h .number) (text s (h .path)) (L .message (text s (h .path))) k)
+        (by-test SameMade (eqb (h .typ) TYPE_GROUP) both-made (both-wrong (faultAt i ExtensionIsNotMessage)))
 
     named-same : {c c′ : Constants} → SameConstants w c c′ → {ps qs : List Part} → SameParts w ps qs → (i : ℕ) (m : Message)
         → SameMade (optionFrom L s r scope i m ps c) (optionFrom L s r′ scope i m qs c′)

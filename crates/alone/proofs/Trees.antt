@@ -7,12 +7,11 @@
 --      SameOption w o o′ <-> the same parts, and the same constant
 --
 -- Assumes nothing.
-use Rattle.basis.specs.Kit.{_≡_, refl, ap, Bool, true, false, List, ℕ, zero, suc, _-_, _^_, eqb, ltb, getD}
+use Rattle.basis.specs.Kit.{_≡_, ap, Bool, true, false, List, ℕ, zero, suc, _-_, _^_, eqb, ltb, getD}
 use Rattle.basis.proofs.Kit.{arith}
 use mathlib.Core.Path.{subst}
 use borrow.Author.Tests.{eqb-true}
 use lib.Ieee.{Float as Double, binary64, ofBits, nanBits}
-use Rattle.basis.proofs.Never.{never}
 use Rattle.limits.specs.Figures.{mostConstants}
 use Rattle.octets.specs.Octets.{bigAt}
 use Rattle.field.specs.declared.Field.{Field}
@@ -30,6 +29,7 @@ use Rattle.request.specs.Constant.{integerOf, floatOf, boolOf, numberWith, nume
 use Rattle.request.specs.Tree.{PairName, unnamed, byField, byExtension, byUrl, Constants, none, scalar, message, list, ConstantReader}
 use Rattle.request.specs.Tree.{pairNameOf, elementsIn, pairsIn, grown, ifHeld, constantIn}
 use Rattle.request.specs.Request.{Option, constantOfField, optionOf}
+use Rattle.alone.proofs.Tests.{by-cases, by-test}
 use Rattle.alone.proofs.Windows.{Twin, SameSpan, here-byte, here-big, here-size}
 use Rattle.alone.proofs.Walks.{SameField, both-cut, both-whole, SameWalk, dones, cuts, steps, field-same, walk-same}
 use Rattle.alone.proofs.Names.{SameParts, parts-same, after-same}
@@ -75,51 +75,30 @@ byteOf n = elim (ltb 1 n) [ true ↦ NoConstant | false ↦ Holds (BoolOf (eqb n
 module _ {r r′ : List ℕ} (w : Twin r r′) where
   integer-held : (b : ℕ) → SameConstant w (integerOf b) (integerOf b)
   unfolding integerOf
-  integer-held b = go (ltb b (2 ^ 63))
-    where
-      go : (v : Bool) → SameConstant w (elim v [ true ↦ Integer false b | false ↦ Integer true (2 ^ 64 - b) ])
-          (elim v [ true ↦ Integer false b | false ↦ Integer true (2 ^ 64 - b) ])
-      go true = both-integer false b
-      go false = both-integer true (2 ^ 64 - b)
+  integer-held b = by-test (SameConstant w) (ltb b (2 ^ 63)) (both-integer false b) (both-integer true (2 ^ 64 - b))
 
   float-held : (b : ℕ) → SameConstant w (floatOf b) (floatOf b)
   unfolding floatOf
-  float-held b = go (nanBits binary64 b)
-    where
-      go : (v : Bool) → SameConstant w (elim v [ true ↦ NotANumber b | false ↦ Float (ofBits binary64 b) ])
-          (elim v [ true ↦ NotANumber b | false ↦ Float (ofBits binary64 b) ])
-      go true = both-nan b
-      go false = both-float (ofBits binary64 b)
-
-  by-held : (v : Bool) {a a′ b b′ : Held} → SameHeld w a a′ → SameHeld w b b′
-      → SameHeld w (elim v [ true ↦ a | false ↦ b ]) (elim v [ true ↦ a′ | false ↦ b′ ])
-  by-held true h k = h
-  by-held false h k = k
+  float-held b = by-test (SameConstant w) (nanBits binary64 b) (both-nan b) (both-float (ofBits binary64 b))
 
   number-held : (t b : ℕ) → SameHeld w (numberWith t b) (numberWith t b)
   number-held t b =
-      by-held (eqb t unsignedTag) (both-holds (both-integer false b))
-      (by-held (eqb t signedTag) (both-holds (integer-held b))
-      (by-held (eqb t floatTag) (both-holds (float-held b)) both-nothing))
+      by-test (SameHeld w) (eqb t unsignedTag) (both-holds (both-integer false b))
+      (by-test (SameHeld w) (eqb t signedTag) (both-holds (integer-held b))
+      (by-test (SameHeld w) (eqb t floatTag) (both-holds (float-held b)) both-nothing))
 
   module _ {x x′ y y′ : ℕ} (h : SameSpan w (span x x′) (span y y′)) where
     sized-held : (n : ℕ) {a a′ : Held} → (x′ - x ≡ n → SameHeld w a a′)
         → SameHeld w (elim (eqb (x′ - x) n) [ true ↦ a | false ↦ NoConstant ]) (elim (eqb (y′ - y) n) [ true ↦ a′ | false ↦ NoConstant ])
-    sized-held n {a} {a′} k = go (eqb (x′ - x) n) (eqb (y′ - y) n) refl (ap (λ (m : ℕ). eqb m n) (here-size w (h .from) (h .to)))
-      where
-        go : (b b′ : Bool) → eqb (x′ - x) n ≡ b → b ≡ b′
-            → SameHeld w (elim b [ true ↦ a | false ↦ NoConstant ]) (elim b′ [ true ↦ a′ | false ↦ NoConstant ])
-        go true true p q = k (eqb-true (x′ - x) n p)
-        go true false p q = never cc
-        go false true p q = never cc
-        go false false p q = both-nothing
+    sized-held n k =
+        by-cases (SameHeld w) (ap (λ (m : ℕ). eqb m n) (here-size w (h .from) (h .to))) (λ b. k (eqb-true (x′ - x) n b)) (λ _. both-nothing)
 
     bool-held : SameHeld w (boolOf r x x′) (boolOf r′ y y′)
     unfolding boolOf
     bool-held =
         sized-held 1 (λ l. subst (λ (n : ℕ). SameHeld w (byteOf (getD r x 0)) (byteOf n))
         (here-byte w (h .from) (omega (arith, h .to .ended)))
-        (by-held (ltb 1 (getD r x 0)) both-nothing (both-holds (both-bool (eqb (getD r x 0) 1)))))
+        (by-test (SameHeld w) (ltb 1 (getD r x 0)) both-nothing (both-holds (both-bool (eqb (getD r x 0) 1)))))
 
     numeric-held : (t : ℕ) → SameHeld w (numericOf r t x x′) (numericOf r′ t y y′)
     unfolding numericOf
@@ -130,20 +109,16 @@ module _ {r r′ : List ℕ} (w : Twin r r′) where
     held-same : (t : ℕ) → SameHeld w (constantOf r t x x′) (constantOf r′ t y y′)
     unfolding constantOf
     held-same t =
-        by-held (eqb t boolTag) bool-held
-        (by-held (eqb t stringTag) (both-holds (both-text h))
-        (by-held (eqb t identTag) (both-holds (both-ident h))
-        (by-held (eqb t messageConstantTag) (both-holds (both-message h))
-        (by-held (eqb t listTag) (both-holds (both-list h)) (numeric-held t)))))
+        by-test (SameHeld w) (eqb t boolTag) bool-held
+        (by-test (SameHeld w) (eqb t stringTag) (both-holds (both-text h))
+        (by-test (SameHeld w) (eqb t identTag) (both-holds (both-ident h))
+        (by-test (SameHeld w) (eqb t messageConstantTag) (both-holds (both-message h))
+        (by-test (SameHeld w) (eqb t listTag) (both-holds (both-list h)) (numeric-held t)))))
 
   name-of-same : (t : ℕ) {p p′ : Span} → SameSpan w p p′ → SameName w (pairNameOf t p) (pairNameOf t p′)
-  name-of-same t {p} {p′} h = go (eqb t pairFieldTag) (eqb t pairExtensionTag)
-    where
-      go : (b c : Bool) → SameName w (elim b [ true ↦ byField p | false ↦ elim c [ true ↦ byExtension p | false ↦ byUrl p ] ])
-          (elim b [ true ↦ byField p′ | false ↦ elim c [ true ↦ byExtension p′ | false ↦ byUrl p′ ] ])
-      go true c = both-field h
-      go false true = both-extension h
-      go false false = both-url h
+  name-of-same t h =
+      by-test (SameName w) (eqb t pairFieldTag) (both-field h)
+      (by-test (SameName w) (eqb t pairExtensionTag) (both-extension h) (both-url h))
 
   -- ---- constants with what they hold
   abbrev SameReader : (inner inner′ : ConstantReader) → Type 0
@@ -157,20 +132,15 @@ module _ {r r′ : List ℕ} (w : Twin r r′) where
     elements-same (steps {t} {x} {x′} {y} {y′} {u} {v} h k) =
         inner unnamed unnamed both-unnamed t x x′ y y′ h (elementsIn f u) (elementsIn f′ v) (elements-same k)
 
-    pair-same : (b : Bool) {c c′ : Constants} → SameConstants w c c′
-        → SameConstants w (elim b [ true ↦ c | false ↦ none ]) (elim b [ true ↦ c′ | false ↦ none ])
-    pair-same true h = h
-    pair-same false h = nones
-
     pairs-same : {u v : Walk} → SameWalk w u v → SameConstants w (pairsIn f u) (pairsIn f′ v)
     pairs-same dones = nones
     pairs-same cuts = nones
     pairs-same (steps h dones) = nones
     pairs-same (steps h cuts) = nones
     pairs-same (steps {t} {x} {x′} {y} {y′} h (steps {t = t₂} {x = x₂} {x′ = x₂′} {y = y₂} {y′ = y₂′} {u} {v} h₂ k)) =
-        pair-same (isPairName t)
+        by-test (SameConstants w) (isPairName t)
         (inner (pairNameOf t (span x x′)) (pairNameOf t (span y y′)) (name-of-same t h) t₂ x₂ x₂′ y₂ y₂′ h₂ (pairsIn f u) (pairsIn f′ v)
-        (pairs-same k))
+        (pairs-same k)) nones
 
     module _ {l l′ : PairName} (n : SameName w l l′) {k k′ : Constants} (rest : SameConstants w k k′) where
       grown-same : {c c′ : Constant} → SameConstant w c c′ → SameConstants w (grown f r l k c) (grown f′ r′ l′ k′ c′)

@@ -4,11 +4,10 @@
 --     SameMade m m′ <-> records are made of both, or of neither, for one reason
 --
 -- Assumes nothing.
-use Rattle.basis.specs.Kit.{_≡_, refl, ap, Bool, true, false, List, ℕ, eqb}
+use Rattle.basis.specs.Kit.{_≡_, refl, ap, List, ℕ, eqb}
 use mathlib.Core.Path.{subst}
 use lib.Ieee.{binary64, toBits}
 use Rattle.basis.specs.First.{told}
-use Rattle.basis.proofs.Never.{never}
 use Rattle.reply.specs.declared.Refusal.{Refusal}
 use Rattle.reply.specs.declared.Refusal.the-variants.{UnknownEnumValue, StrLitDecodeError, UnknownFieldName}
 use Rattle.reply.specs.declared.Refusal.the-variants.{MessageFieldRequiresMessageConstant}
@@ -23,7 +22,6 @@ use Rattle.fullname.specs.declared.LookedUp.the-variants.{Message as Is, NoMess
 use Rattle.request.specs.declared.constant.Constant.{Constant}
 use Rattle.request.specs.Tree.{PairName, Constants}
 use Rattle.records.specs.declared.Body.{Body}
-use Rattle.records.specs.declared.Body.the-variants.{Bytes}
 use Rattle.records.specs.Records.{Recs}
 use Rattle.records.specs.Made.{Made, made, wrong, after, both, holding}
 use Rattle.lookups.specs.Lookups.{Lookups, fieldNamed}
@@ -32,9 +30,11 @@ use Rattle.scalars.specs.declared.Scalar.the-variants.{Fits, Misfit}
 use Rattle.scalars.specs.Scalars.{unsupported, boolOn, integerOn, floatOn, stringOn, among, identOn, scalarOn}
 use Rattle.values.specs.Values.{madeOf, Holder, on, within, Asked, field, passed, refused, asked, onAsked, reached, inMessage}
 use Rattle.values.specs.Values.{scalarMade, records}
+use Rattle.alone.proofs.Tests.{by-cases, by-test}
 use Rattle.alone.proofs.Windows.{Twin, SameSpan, text-same}
 use Rattle.alone.proofs.Trees.{SameName, both-unnamed, both-field, both-extension, both-url}
-use Rattle.alone.proofs.Trees.{SameConstant, both-bool, both-integer, both-float, both-nan, both-text, both-ident, both-message, both-list}
+use Rattle.alone.proofs.Trees.{SameConstant, both-bool, both-integer, both-float, both-nan}
+use Rattle.alone.proofs.Trees.{both-text, both-ident, both-message, both-list}
 use Rattle.alone.proofs.Trees.{SameConstants, nones, scalars, messages, lists}
 
 pub data SameScalar : Scalar → Scalar → Type 0 where
@@ -63,38 +63,22 @@ module _ {W : Type 0} where
   holding-same i both-made = both-made
   holding-same i (both-wrong why) = both-wrong why
 
-  pub made-by : (b : Bool) {m m′ n n′ : Made W} → SameMade m m′ → SameMade n n′
-      → SameMade {W = W} (elim b [ true ↦ m | false ↦ n ]) (elim b [ true ↦ m′ | false ↦ n′ ])
-  made-by true h k = h
-  made-by false h k = k
-
 module _ {r r′ : List ℕ} (w : Twin r r′) (L : Lookups) (s : List ℕ) where
   -- ---- scalars
   string-same : (t : ℕ) {p p′ : Span} → SameSpan w p p′ → SameScalar (stringOn r t p) (stringOn r′ t p′)
   unfolding stringOn
-  string-same t {p} {p′} h = go (eqb t TYPE_STRING) (eqb t TYPE_BYTES) (isUtf8 (text r p)) (isUtf8 (text r′ p′)) (ap isUtf8 (text-same w h))
-    where
-      on-string : Span → (b c d : Bool) → Scalar
-      on-string q b c d = elim b [
-        | true ↦ elim d [ true ↦ Fits (Bytes q) | false ↦ Misfit StrLitDecodeError ]
-        | false ↦ elim c [ true ↦ Fits (Bytes q) | false ↦ unsupported ]
-      ]
-
-      go : (b c d d′ : Bool) → d ≡ d′ → SameScalar (on-string p b c d) (on-string p′ b c d′)
-      go true c true true e = both-fit
-      go true c true false e = never cc
-      go true c false true e = never cc
-      go true c false false e = both-misfit StrLitDecodeError
-      go false true d d′ e = both-fit
-      go false false d d′ e = scalar-refl unsupported
+  string-same t h =
+      by-test SameScalar (eqb t TYPE_STRING)
+      (by-cases SameScalar (ap isUtf8 (text-same w h)) (λ _. both-fit) (λ _. both-misfit StrLitDecodeError))
+      (by-test SameScalar (eqb t TYPE_BYTES) both-fit (scalar-refl unsupported))
 
   ident-same : (u : Refusal) (h : Shape) {p p′ : Span} → SameSpan w p p′ → SameScalar (identOn L s r u h p) (identOn L s r′ u h p′)
   unfolding identOn
-  ident-same u h {p} {p′} k =
-      subst (λ (n : List ℕ). SameScalar (identOn L s r u h p) (named n)) (text-same w k) (scalar-refl (named (text r p)))
-    where
-      named : List ℕ → Scalar
-      named n = elim (eqb (h .typ) TYPE_ENUM) [ true ↦ among u s n (L .enumeration (text s (h .path))) | false ↦ unsupported ]
+  ident-same u h {p} k =
+      let vs = L .enumeration (text s (h .path)) in
+      let x = among u s (text r p) vs in
+      by-test SameScalar (eqb (h .typ) TYPE_ENUM)
+      (subst (λ (n : List ℕ). SameScalar x (among u s n vs)) (text-same w k) (scalar-refl x)) (scalar-refl unsupported)
 
   pub scalar-same : (unlisted : Refusal) (h : Shape) {c c′ : Constant} → SameConstant w c c′
       → SameScalar (scalarOn L s r unlisted h c) (scalarOn L s r′ unlisted h c′)
@@ -142,7 +126,7 @@ module _ {r r′ : List ℕ} (w : Twin r r′) (L : Lookups) (s : List ℕ) wher
   message-same : {f f′ : LookupScope → Made Refusal} → ((p : LookupScope) → SameMade (f p) (f′ p))
       → (h : Shape) → SameMade (inMessage L s h f) (inMessage L s h f′)
   message-same k h =
-      made-by (eqb (h .typ) TYPE_MESSAGE) (reached-same (h .number) (L .message (text s (h .path))) k)
+      by-test SameMade (eqb (h .typ) TYPE_MESSAGE) (reached-same (h .number) (L .message (text s (h .path))) k)
       (both-wrong MessageFieldRequiresMessageConstant)
 
   -- ---- constants in order, with what they hold

@@ -5,15 +5,15 @@
 --   SameSpan w p p′ <-> the span p of r is the span p′ of r′
 --
 -- Assumes nothing.
-use Rattle.basis.specs.Kit.{_≡_, refl, sym, ap, _∙_, Bool, true, false, List, ℕ, zero, suc, _+_, _-_, _≤_, _<_, eqb, ltb}
+use Rattle.basis.specs.Kit.{_≡_, refl, sym, ap, _∙_, List, ℕ, zero, suc, _+_, _-_, _≤_, _<_, eqb, ltb}
 use Rattle.basis.specs.Kit.{length, getD, drop}
-use Rattle.basis.proofs.Kit.{arith, eq-eqb, ne-eqb, lt-ltb, le-ltb}
-use borrow.Author.Tests.{eqb-true, eqb-false, ltb-true, ltb-false}
+use Rattle.basis.proofs.Kit.{arith}
 use lib.Seq.{getD-take, getD-drop, ext-getD}
 use Rattle.octets.specs.Octets.{part, bigAt}
 use Rattle.octets.proofs.Parts.{part-length}
 use Rattle.field.specs.declared.Span.{Span}
 use Rattle.field.specs.Leaf.{text}
+use Rattle.alone.proofs.Tests.{ltb-moved, eqb-moved}
 
 pub record Twin (r r′ : List ℕ) : Type 0 where
   pub first : ℕ
@@ -31,25 +31,6 @@ pub record Here {r r′ : List ℕ} (w : Twin r r′) (x y : ℕ) : Type 0 where
 pub record SameSpan {r r′ : List ℕ} (w : Twin r r′) (p p′ : Span) : Type 0 where
   pub from : Here w (p .from) (p′ .from)
   pub to : Here w (p .to) (p′ .to)
-
--- ---- one of two by a test, and tests of two places
-pub by-test : {A : Type 0} {b b′ : Bool} {u u′ v v′ : A} → b ≡ b′ → u ≡ u′ → v ≡ v′
-    → _≡_ {A = A} (elim b [ true ↦ u | false ↦ v ]) (elim b′ [ true ↦ u′ | false ↦ v′ ])
-by-test {A} p q q′ = λ i. elim (p i) [ true ↦ q i | false ↦ q′ i ]
-
-pub ltb-moved : (x x′ y y′ a b : ℕ) → x + b ≡ y + a → x′ + b ≡ y′ + a → ltb x x′ ≡ ltb y y′
-ltb-moved x x′ y y′ a b p q = go (ltb x x′) refl
-  where
-    go : (v : Bool) → ltb x x′ ≡ v → v ≡ ltb y y′
-    go true h = let k = ltb-true x x′ h in sym (lt-ltb y y′ (omega arith))
-    go false h = let k = ltb-false x x′ h in sym (le-ltb y y′ (omega arith))
-
-pub eqb-moved : (x x′ y y′ a b : ℕ) → x + b ≡ y + a → x′ + b ≡ y′ + a → eqb x x′ ≡ eqb y y′
-eqb-moved x x′ y y′ a b p q = go (eqb x x′) refl
-  where
-    go : (v : Bool) → eqb x x′ ≡ v → v ≡ eqb y y′
-    go true h = let k = eqb-true x x′ h in sym (eq-eqb y y′ (omega arith))
-    go false h = sym (ne-eqb y y′ (λ z. eqb-false x x′ h (omega arith)))
 
 module _ {r r′ : List ℕ} (w : Twin r r′) where
   abbrev last : ℕ

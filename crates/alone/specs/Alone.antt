@@ -1,11 +1,11 @@
 -- An option of a request, taken out of it and put into a request of its own, of the same scope and options type.
 --
---    fieldBytes r w i ==  the bytes, header and payload, of the i-th of the fields w; none where there is none
---   aloneWith r i h ==  the heading h of r, and the field of the i-th option; r where there is no heading
---           alone r i ==  the request with its i-th option alone
---           faultOf x ==  the fault of an option that comes to x, none where it has none
---           Own r i o <-> the request with its i-th option alone is fine, has the scope, the options type and one option, and that comes
---                        to the fault that o comes to in r, or to none where o has none
+--   fieldBytes r w i ==  the bytes, header and payload, of the i-th of the fields w; none where there is none
+--    aloneWith r i h ==  the heading h of r, and the field of the i-th option; r where there is no heading
+--          alone r i ==  the request with its i-th option alone
+--          faultOf x ==  the fault of an option that comes to x, none where it has none
+--          Own r i o <-> o being the i-th option of r, alone r i is fine, has the scope and the options type of r, and one option, `own`,
+--                        which has the fault that o has in r, or none where o has none
 --
 -- Assumes nothing.
 use Rattle.basis.specs.Kit.{_≡_, List, [], _∷_, _++_, Option, none, some, ℕ, zero, suc, _-_, length, take}
