@@ -1,0 +1,14 @@
+pub mod Tests
+pub mod Windows
+pub mod Walks
+pub mod Names
+pub mod FormLaws
+pub mod Trees
+pub mod ValueLaws
+pub mod SettleLaws
+pub mod Fields
+pub mod Placed
+pub mod Taken
+pub mod Headings
+pub mod Own
+pub mod Controls
