@@ -11,8 +11,9 @@ use Rattle.reply.specs.declared.Refusal.{Refusal}
 use Rattle.reply.specs.declared.Refusal.the-variants.{NoRoom}
 use Rattle.reply.specs.declared.Verdict.{Verdict}
 use Rattle.reply.specs.declared.Verdict.the-variants.{Fine, Refused}
+use Rattle.reply.specs.declared.Cause.{Cause}
 use Rattle.reply.specs.declared.Answer.{Answer}
-use Rattle.reply.specs.Reply.{number, refusedBy, doneWith, decided}
+use Rattle.reply.specs.Reply.{number, bare, refusedFor, refusedBy, doneWith, decided}
 use Rattle.reply.specs.Verdicts.{firstFault, asked}
 use Rattle.reply.specs.Outcome.{refuse, give, within, answerOf, leftOf, Answered}
 use Rattle.reply.proofs.Rows.{every-at}
@@ -35,7 +36,8 @@ use Rattle.readback.proofs.OlderBytes.{older-bytes}
 use Rattle.readback.proofs.OlderRows.{older-rows}
 use Rattle.readback.proofs.UnderLaws.{reading-under}
 use Rattle.evolution.specs.Calls.{cleanAnswer, containedAnswer}
-use Rattle.promises.specs.Evolve.{CleanSheet, optionsType, declares, ListedUnder, OldReads}
+use Rattle.promises.specs.Evolve.{CleanSheet, declares, ListedUnder, OldReads}
+use Rattle.places.specs.Places.{optionsType}
 use Rattle.promises.proofs.Bounds.{resolve-few, resolved-fine}
 use Rattle.promises.proofs.Levels.{resolve-levels}
 use Rattle.promises.proofs.CleanLaws.{NamesMessage, among-message}
@@ -85,10 +87,10 @@ module _ (older newer r : List ℕ) (octets : Bytes newer) (octets′ : Bytes r)
       }
 
 -- ---- answers
-refused-done : (w : Refusal) (n : ℕ) → refusedBy w ≡ doneWith n → ⊥
-refused-done w n e =
-    let some : 0 < number w = ltb→lt _ _ (every-at (λ v. ltb 0 (number v)) tt w) in
-    let none : number w ≡ 0 = ap (λ (a : Answer). a .reply) e in
+refused-done : (c : Cause) (n : ℕ) → refusedFor c ≡ doneWith n → ⊥
+refused-done c n e =
+    let some : 0 < number (c .why) = ltb→lt _ _ (every-at (λ v. ltb 0 (number v)) tt (c .why)) in
+    let none : number (c .why) ≡ 0 = ap (λ (a : Answer). a .reply) e in
     omega arith
 
 refused-yes : (w : Refusal) → refusedBy w ≡ decided true → ⊥
@@ -123,7 +125,7 @@ module _ (newer r before after : List ℕ) (a : Answer) (n : ℕ) where
   given : (x : Recs) → resolving newer r ≡ records x → (b : Bool) → ltb (length before) (length (encode x)) ≡ b
       → doneWith n ≡ answerOf {A = ℕ} (elim b [ true ↦ refuse NoRoom | false ↦ give (encode x) ])
       → after ≡ leftOf (elim b [ true ↦ refuse NoRoom | false ↦ give (encode x) ]) before → Wrote newer r after n
-  given x s true h p q = absurd (refused-done NoRoom n (sym p))
+  given x s true h p q = absurd (refused-done (bare NoRoom) n (sym p))
   given x s false h p q =
       let l : n ≡ length (encode x) = ap (λ (a : Answer). a .length) p in
       record { written = x; steps = s; encoded = ap (take n) q ∙ take-at (encode x) (drop (length (encode x)) before) n (sym l) }
@@ -136,7 +138,7 @@ module _ (newer r before after : List ℕ) (a : Answer) (n : ℕ) where
           → after ≡ leftOf (within (length before) (outcomeOf u)) before → Wrote newer r after n
       go (records x) s p q = given x s (ltb (length before) (length (encode x))) refl p q
       go absent s p q = absurd (let none : 0 ≡ 1 = ap (λ (a : Answer). a .absent) p in omega arith)
-      go (refused e) s p q = absurd (refused-done (e .why) n (sym p))
+      go (refused e) s p q = absurd (refused-done e n (sym p))
 
 -- ==== of the calls' own contracts
 module _ (older newer r : List ℕ) (octets : Bytes newer) (octets′ : Bytes r) (clear : cleanAnswer older ≡ decided true)

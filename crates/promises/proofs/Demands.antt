@@ -9,6 +9,8 @@ use Rattle.reply.specs.Outcome.{Outcome, refuse, nothing, give, answerOf, leftO
 use Rattle.reply.specs.Outcome as outcome
 use Rattle.search.proofs.Theorems.{tried-answers, answers-tried}
 use Rattle.lookups.specs.Lookups.{walking}
+use Rattle.places.proofs.Resolved.{positioned, first-refused, part-refused}
+use Rattle.places.proofs.Queried.{query-placed}
 use Rattle.readback.proofs.UnderLaws.{under-reading}
 use Rattle.readback.proofs.EncodedLaws.{reading-encoded}
 use Rattle.readback.proofs.KnowsLaws.{reading-knows}
@@ -24,7 +26,7 @@ module _ {A : Type 0} (before after : List A) (a : Answer) where
   in-room l false h p q = done l refl (ltb-false (length before) (length l) h) p q
 
   pub from-table : (o : Outcome A) → Answered o before after a → FromTable o before after a
-  from-table (outcome.refused c) k = refused (c .why) refl (k .answer) (k .left)
+  from-table (outcome.refused c) k = refused c refl (k .answer) (k .left)
   from-table nothing k = absent refl (k .answer) (k .left)
   from-table (give l) k = in-room l (ltb (length before) (length l)) refl (k .answer) (k .left)
 
@@ -38,4 +40,8 @@ by-rule s = record {
       (reading-encoded bs (walking s) s mostLevels m t read, reading-knows (walking s) s mostLevels m 0 bs t read);
   not-found-only = λ r scope m p x h l e w. part-not-found s r scope m p x h l e w;
   not-found-whenever = λ r scope m p x h. part-undeclared s r scope m p x h;
+  positioned = λ r before after a k. positioned s r before after a k;
+  first-refused = λ r before after a k o. first-refused s r before after a k o;
+  part-refused = λ r before after a k o. part-refused s r before after a k o;
+  query-placed = λ type q bs before after a k. query-placed s type q bs before after a k;
 }

@@ -10,14 +10,17 @@
 use Rattle.basis.specs.Kit.{_≡_, ap, _∙_, Bool, true, false, List, [], _∷_, _++_, map, none, some, ℕ, _+_, _≤_, _<_, _^_, length, take, drop}
 use Rattle.basis.specs.Among.{Among, Ordered}
 use Rattle.basis.proofs.Kit.{lt-ltb, le-ltb}
+use lib.IntN.{ℤ}
+use lib.ListN.{getElem?}
 use Rattle.limits.specs.Figures.{mostLevels, mostOptionBytes}
 use Rattle.octets.proofs.Bytes.{Bytes}
-use Rattle.reply.specs.declared.Refusal.{Refusal}
+use Rattle.reply.specs.declared.Cause.{Cause}
 use Rattle.reply.specs.declared.Refusal.the-variants.{ExtensionNotFound, WrongExtensionType, BadRequest, BeyondLimit, NoRoom}
 use Rattle.reply.specs.declared.Verdict.the-variants.{Fine}
 use Rattle.reply.specs.declared.Answer.{Answer}
-use Rattle.reply.specs.Reply.{refusedBy, doneWith, absentAnswer, decided}
-use Rattle.reply.specs.Outcome.{Outcome, refuse, nothing, give, within, answerOf, leftOf, Answered}
+use Rattle.reply.specs.Reply.{refusedFor, refusedBy, doneWith, absentAnswer, decided}
+use Rattle.reply.specs.Outcome.{Outcome, nothing, give, within, answerOf, leftOf, Answered}
+use Rattle.reply.specs.Outcome as outcome
 use Rattle.reply.proofs.Outcomes.{answered-unique-answer, answered-unique-left}
 use Rattle.path.specs.Path.{Path, components, allIdent, isPath}
 use Rattle.candidates.specs.Candidates.{candidates}
@@ -27,6 +30,7 @@ use Rattle.field.specs.Part.{PartOf, noBytes}
 use Rattle.sheet.specs.declared.declaration.Declaration.{Declaration}
 use Rattle.sheet.specs.Members.{Enumeration}
 use Rattle.sheetform.specs.Form.{judgeSheet}
+use Rattle.requestform.specs.Form.{judgeRequest}
 use Rattle.scope.specs.declared.lookup.LookupScope.{LookupScope}
 use Rattle.scope.specs.Scope.{Scope, extends}
 use Rattle.fullname.specs.declared.LookedUp.the-variants.{Message as Found}
@@ -53,6 +57,11 @@ use Rattle.options.specs.Options.{stopped, gather}
 use Rattle.options.specs.Steps.{records}
 use Rattle.options.specs.Resolve.{resolving, resolveBytes, resolveTested}
 use Rattle.options.proofs.TestedLaws as resolves
+use Rattle.alone.specs.Alone.{Own}
+use Rattle.alone.proofs.Own as apart
+use Rattle.find.specs.Find.{findWords}
+use Rattle.ranges.specs.Ranges.{lowerRanges}
+use Rattle.oneofs.specs.Fields.{lowerFields}
 use Rattle.entries.specs.declared.Row.{Row}
 use Rattle.entries.specs.Tree.{Tree, rows, words, wordsOf}
 use Rattle.entries.specs.Item.{declared}
@@ -68,6 +77,11 @@ use Rattle.names.specs.Contained.{contained}
 use Rattle.finds.proofs.Reach.{named}
 use Rattle.finds.proofs.Finds as finds
 use Rattle.evolution.specs.Calls.{cleanAnswer, containedAnswer}
+use Rattle.places.specs.Places.{optionsType, OptionRefused, Positioned, FirstRefused, PartRefused, QueryPlaced, Bare, Neither}
+use Rattle.places.proofs.Resolved as resolved
+use Rattle.places.proofs.Queried as queried
+use Rattle.places.proofs.Elsewhere as elsewhere
+use Rattle.places.proofs.BareLaws as nowhere
 use Rattle.readback.specs.Seen.{seen, nested, Readable}
 use Rattle.readback.specs.Typed.{Typed, contents, contentOf}
 use Rattle.readback.specs.Once.{DeclaredAt, Once}
@@ -91,7 +105,7 @@ use Rattle.readback.proofs.FollowsLaws as follows
 use Rattle.readback.proofs.QueryLaws as answers
 use Rattle.readback.proofs.CallLaws as calls
 use Rattle.promises.specs.Levels.{deepest}
-use Rattle.promises.specs.Evolve.{CleanSheet, optionsType, declares, ListedUnder, OldReads}
+use Rattle.promises.specs.Evolve.{CleanSheet, declares, ListedUnder, OldReads}
 use Rattle.promises.specs.Demands.{FromTable, ByRule}
 use Rattle.promises.specs.Back.{TypedAt, ListedBack}
 use Rattle.promises.proofs.Asking.{answer}
@@ -108,7 +122,7 @@ use Rattle.promises.proofs.Demands as demands
 -- ==== Demand 1: every input gets an answer from 01's table; a refusal writes nothing; NoRoom comes last
 -- Of each call, `o` being what it comes to:
 module _ (o : Outcome ℕ) (before : List ℕ) where
-  -- Any two outcomes that the contract allows coincide, in the answer
+  -- Any two outcomes that the contract allows coincide, in the answer, all six numbers of it,
   pub one-answer : (after after′ : List ℕ) (a a′ : Answer) → Answered o before after a → Answered o before after′ a′ → a ≡ a′
   one-answer after after′ a a′ = answered-unique-answer o before after after′ a a′
 
@@ -117,12 +131,13 @@ module _ (o : Outcome ℕ) (before : List ℕ) where
   one-memory after after′ a a′ = answered-unique-left o before after after′ a a′
 
   module _ (after : List ℕ) (a : Answer) (k : Answered o before after a) where
-    -- What 01 refuses is answered by its number, whatever the room, and nothing is written:
-    pub refused-answer : (w : Refusal) → o ≡ refuse w → a ≡ refusedBy w
-    refused-answer w e = k .answer ∙ ap (λ x. answerOf (within (length before) x)) e
+    -- What is refused is answered by its numbers, the reply, its second word and where it was refused, whatever the room, and nothing is
+    -- written:
+    pub refused-answer : (c : Cause) → o ≡ outcome.refused c → a ≡ refusedFor c
+    refused-answer c e = k .answer ∙ ap (λ x. answerOf (within (length before) x)) e
 
-    pub refused-memory : (w : Refusal) → o ≡ refuse w → after ≡ before
-    refused-memory w e = k .left ∙ ap (λ x. leftOf (within (length before) x) before) e
+    pub refused-memory : (c : Cause) → o ≡ outcome.refused c → after ≡ before
+    refused-memory c e = k .left ∙ ap (λ x. leftOf (within (length before) x) before) e
 
     -- NoRoom is left for elements that the lent memory does not hold, and nothing is written.
     pub no-room-answer : (bs : List ℕ) → o ≡ give bs → length before < length bs → a ≡ refusedBy NoRoom
@@ -215,6 +230,59 @@ pub behind-unread : (L : Lookups) (s r scope : List ℕ) (m : Message) (front : 
     (os os′ : List Option) (f : Fault) → settle L s r scope m o ≡ fails f
     → gather L s r scope m i ks x (front ++ o ∷ os) ≡ gather L s r scope m i ks x (front ++ o ∷ os′)
 behind-unread = theorems.options-behind
+
+-- ==== Demands 1 and 2, where it was refused (02's request [9])
+-- Of `resolve`:
+module _ (s r before after : List ℕ) (a : Answer) (k : Answered (resolveBytes s r) before after a) where
+  -- For every input the option is a position exactly when sheet, request and options type are fine and an option is refused by its own
+  -- steps; else it is 65,535, and so is the part.
+  pub option-positioned : Positioned s r a
+  option-positioned = resolved.positioned s r before after a k
+
+  module _ (o : OptionRefused s r) where
+    -- It is the first: every option before it, in a request of its own with the same scope and options type, is not refused (17 aside); and
+    -- it is itself refused so, with the same reply, second word and part, at option 0.
+    pub option-first : FirstRefused s r a
+    option-first = resolved.first-refused s r before after a k o
+
+    -- The part is below the number of parts of that option's name. Every part before it means a declaration of message type whose type path
+    -- names one message, each in the message reached. Where the constant is at fault the part is the last one; a builtin's is 0.
+    pub option-part : PartRefused s r a
+    option-part = resolved.part-refused s r before after a k o
+
+-- A request of its own: `alone r i` is the heading of r and the field of its i-th option. It is a fine request, of the same scope and options
+-- type, and has that option alone, with the fault that it has in r, or none.
+pub option-own : (r : List ℕ) → judgeRequest r ≡ Fine → (i : ℕ) (o : Option) → getElem? (requestOf r .options) i ≡ some o → Own r i o
+option-own = apart.own-request
+
+-- Of `query` the option is 65,535, and the part is a position exactly when its name is refused by its steps: that of the part at fault.
+pub query-part : (s type q bs before after : List ℕ) (a : Answer) → Answered (query s type q bs) before after a → QueryPlaced s type q bs a
+query-part = queried.query-placed
+
+-- Every other call gives neither position: in its refusals too.
+pub find-nowhere : (s c p : List ℕ) → Bare (findWords s c p)
+find-nowhere = elsewhere.find-bare
+
+pub list-nowhere : (s type bs : List ℕ) → Bare (listing s type bs)
+list-nowhere = elsewhere.list-bare
+
+pub ranges-nowhere : (k : ℕ) (ws : List ℤ) → Bare (lowerRanges k ws)
+ranges-nowhere = elsewhere.ranges-bare
+
+pub fields-nowhere : (ws : List ℕ) → Bare (lowerFields ws)
+fields-nowhere = elsewhere.fields-bare
+
+pub bare-neither : {A : Type 0} {o : Outcome A} {before after : List A} {a : Answer} → Answered o before after a → Bare o → Neither a
+bare-neither = nowhere.bare-nowhere
+
+pub payload-nowhere : (bs : List ℕ) (at n : ℕ) → Neither (payloadAnswer bs at n)
+payload-nowhere = elsewhere.payload-neither
+
+pub clean-nowhere : (s : List ℕ) → Neither (cleanAnswer s)
+clean-nowhere = elsewhere.clean-neither
+
+pub contained-nowhere : (s t : List ℕ) → Neither (containedAnswer s t)
+contained-nowhere = elsewhere.contained-neither
 
 -- ==== Demand 2, reading back: what option bytes hold is Encoding's and 01's
 -- `L` are look-ups, any, as `walking s` is. `recordsOf L s type bs` is what 01 says that the option bytes hold under an options type:

@@ -1,19 +1,20 @@
 -- The project's three demands, each as one statement.
 --
 --   FromTable o before after a <-> what a call that comes to o answers, a, and leaves in the lent memory, `after`, is 01's: a refusal by its
---                                  number, which has written nothing; Absent; elements, where there is room; and NoRoom for elements alone
---                     ByRule s <-> what is looked up in a sheet, what is written and what is listed under it, and when an extension is not
---                                  found, are Encoding's and 01's
+--                                  numbers, which has written nothing; Absent; elements, where there is room; and NoRoom for elements alone
+--                     ByRule s <-> what is looked up in a sheet, what is written and what is listed under it, when an extension is not
+--                                  found, and where a request or a query's name is refused, are Encoding's, 01's and 02's
 --
 -- Assumes nothing.
 use Rattle.basis.specs.Kit.{_≡_, true, List, _++_, some, ℕ, _≤_, _<_, length, drop}
 use Rattle.basis.specs.Among.{Among}
 use Rattle.octets.proofs.Bytes.{Bytes}
-use Rattle.reply.specs.declared.Refusal.{Refusal}
 use Rattle.reply.specs.declared.Refusal.the-variants.{ExtensionNotFound, NoRoom}
+use Rattle.reply.specs.declared.Cause.{Cause}
 use Rattle.reply.specs.declared.Answer.{Answer}
-use Rattle.reply.specs.Reply.{refusedBy, doneWith, absentAnswer}
-use Rattle.reply.specs.Outcome.{Outcome, refuse, nothing, give}
+use Rattle.reply.specs.Reply.{refusedFor, refusedBy, doneWith, absentAnswer}
+use Rattle.reply.specs.Outcome.{Outcome, nothing, give, Answered}
+use Rattle.reply.specs.Outcome as outcome
 use Rattle.path.specs.Path.{Path, isPath}
 use Rattle.candidates.specs.Candidates.{candidates}
 use Rattle.field.specs.Leaf.{text}
@@ -30,16 +31,18 @@ use Rattle.steps.specs.declared.Lack.the-variants.{NoExtension}
 use Rattle.steps.specs.declared.Step.the-variants.{NotFound}
 use Rattle.steps.specs.Steps.{whyOf, stepOf}
 use Rattle.options.specs.Steps.{records}
-use Rattle.options.specs.Resolve.{resolving}
+use Rattle.options.specs.Resolve.{resolving, resolveBytes}
 use Rattle.entries.specs.Tree.{Tree}
 use Rattle.entries.specs.Reading.{under, recordsOf}
+use Rattle.query.specs.Query.{query}
+use Rattle.places.specs.Places.{OptionRefused, Positioned, FirstRefused, PartRefused, QueryPlaced}
 use Rattle.readback.specs.Encoded.{Encoded}
 use Rattle.readback.specs.Knows.{Knows}
 
 -- "1. Every sheet, request or byte string gets an answer from 01's table. A refusal writes nothing to lent memory; NoRoom comes only when
 -- all else has passed."
 pub data FromTable {A : Type 0} (o : Outcome A) (before after : List A) (a : Answer) : Type 0 where
-  refused : (w : Refusal) → o ≡ refuse w → a ≡ refusedBy w → after ≡ before → FromTable o before after a
+  refused : (c : Cause) → o ≡ outcome.refused c → a ≡ refusedFor c → after ≡ before → FromTable o before after a
   absent : o ≡ nothing → a ≡ absentAnswer → after ≡ before → FromTable o before after a
   done : (l : List A) → o ≡ give l → length l ≤ length before → a ≡ doneWith (length l) → after ≡ l ++ drop (length l) before
       → FromTable o before after a
@@ -60,3 +63,11 @@ pub record ByRule (s : List ℕ) : Type 0 where
   pub not-found-whenever : (r scope : List ℕ) (m : Message) (p : Part) → p .extension ≡ true
       → ((q : Path) → Among q (candidates scope (text r (p .name))) → Undeclared s q)
       → stepOf (walking s) s r scope m p ≡ NotFound (NoExtension ExtensionNotFound)
+  -- 02, [9]: the two positions "belong to the promise in demands 1 and 2 from here on"
+  pub positioned : (r before after : List ℕ) (a : Answer) → Answered (resolveBytes s r) before after a → Positioned s r a
+  pub first-refused : (r before after : List ℕ) (a : Answer) → Answered (resolveBytes s r) before after a → OptionRefused s r
+      → FirstRefused s r a
+  pub part-refused : (r before after : List ℕ) (a : Answer) → Answered (resolveBytes s r) before after a → OptionRefused s r
+      → PartRefused s r a
+  pub query-placed : (type q bs before after : List ℕ) (a : Answer) → Answered (query s type q bs) before after a
+      → QueryPlaced s type q bs a

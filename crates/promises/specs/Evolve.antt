@@ -1,7 +1,6 @@
 -- Old readers, new writers: the words of the mission's third demand.
 --
 --        CleanSheet s <-> the sheet is well-formed and clean
---       optionsType r ==  the options type that the request names
 --        declares s t <=> the sheet declares a message of the full name t
 --      toldIn s t x u ==  what the records x hold as the sheet s has it, u being what the look-up of the options type t came to; nothing
 --                         where it found no message
@@ -35,13 +34,11 @@ use Rattle.options.specs.Steps.{records}
 use Rattle.options.specs.Resolve.{resolving}
 use Rattle.readback.specs.Typed.{Content, contentOf}
 use Rattle.readback.specs.Older.{told}
+use Rattle.places.specs.Places.{optionsType}
 
 pub record CleanSheet (s : List ℕ) : Type 0 where
   pub fine : judgeSheet s ≡ Fine
   pub clear : clean s ≡ true
-
-abbrev pub optionsType : (r : List ℕ) → List ℕ
-optionsType r = text r (requestOf r .optionsType)
 
 abbrev pub declares : (s name : List ℕ) → Bool
 declares s t = isIn s messageTag t

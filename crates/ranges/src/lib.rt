@@ -11,7 +11,7 @@ use reply::Answer;
 use reply::Refusal;
 
 // What an end becomes.
-enum End {
+pub enum End {
     At(i32),
     NoNext,
 }
