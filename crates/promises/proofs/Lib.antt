@@ -2,6 +2,7 @@ pub mod Sheets
 pub mod Asking
 pub mod Examples
 pub mod Controls
+pub mod PlaceControls
 pub mod PartControls
 pub mod SmallLaws
 pub mod WidthLaws
