@@ -90,6 +90,9 @@ class Case:
         self.groups.append(run.lines())
         answer = run.refused.number if run.refused else "absent" if run.bytes is None else "bytes" if run.bytes else "no bytes"
         self.seen.add(("request", answer))
+        if run.refused:
+            option, part = run.where or (None, None)
+            self.seen |= {("refused at option", steps.few(option)), ("refused at part", steps.few(part))}
         if run.bytes is not None:
             self.kind = dotted(run.kind)
             self.lists = pair.listings(self.kind, run.bytes)
@@ -405,6 +408,8 @@ def steps_wanted():
         if not (side == "older" and name in ("left out", "enum left out")) and not (side == "both" and some is pairs.CHANGES)]
     yield "sheets refused", [("refused", side, n) for side in ("older", "newer") for n in (1, 3)]
     yield "requests", [("request", n) for n in ["none", "not read", "bytes", "no bytes", "absent"] + list(range(2, 16))]
+    for what in ("option", "part"):
+        yield "requests refused at %s" % what, [("refused at " + what, n) for n in (0, 1, 2, "later", "none")]
     yield "listing by the older", [("listing", "older", n) for n in (0, 7, 8, 18, 19)]
     yield "listing by the newer", [("listing", "newer", n) for n in (0, 7, 8, 18, 19)]
     yield "known to the older at level", [("known at level", n) for n in range(31)]

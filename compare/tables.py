@@ -147,3 +147,9 @@ def original(rows, changed, other, not_asked):
         print("%-60s" % name + "".join("%24d" % rows[name][how] for how in HOWS) + "%20d" % changed[name])
     print("another error, or none: " + "; ".join("%s: %d" % x for x in sorted(other.items())))
     print("not asked: " + "; ".join("%s: %d" % x for x in sorted(not_asked.items())))
+
+
+def places_there(named, first):
+    for is_named, title in ((True, "refused, with the part in the original's error"), (False, "and with none in it")):
+        print("%s: %s" % (title, "; ".join("%s: %d" % (what, many) for (it, what), many in sorted(named.items()) if it == is_named)))
+    print("refused at the first option that the original refuses alone: %d" % first)
