@@ -8,7 +8,7 @@ use mathlib.Core.Path.{subst}
 use native.Mathlib.Nat.{zero-add}
 use lib.ListN.{length-append}
 use Rattle.basis.proofs.Never.{never}
-use Rattle.limits.specs.Figures.{mostOptions, mostRequest}
+use Rattle.limits.specs.Figures.{mostOptions}
 use Rattle.octets.specs.inner.Laid.{Laid}
 use Rattle.reply.specs.declared.Refusal.{Refusal}
 use Rattle.reply.specs.declared.Verdict.{Verdict}
@@ -36,7 +36,6 @@ use Rattle.options.specs.declared.measure.Measure.the-variants as measur
 use Rattle.options.specs.Steps.{Steps, absent, refused, stepsIn, stepsOf, resolvingBy, resolvingTested}
 use Rattle.options.specs.inner.Measuring.{Open, Opens, at, none, lost, restOf, Counted, Tallies, Measures, fine, refuses}
 use Rattle.options.specs.inner.Measuring as measuring
-use Rattle.options.proofs.OpenLaws.{fine-short}
 
 -- ---- what the loop over the options answered
 pub record Gave (made : ℕ → Recs) (k : ℕ) (g : Gathered) (at : ℕ) (l l′ ns : List ℕ) (n next : ℕ) : Type 0 where
@@ -62,8 +61,8 @@ gathers-stopped (gives a b c d) w z = never cc
 gathers-stopped (stops {e}) w z = let i : e ≡ w = cc in ap stopped i
 
 -- ---- gather_length
-pub room-from : (r : List ℕ) → length r ≤ mostRequest → Roomy 0 (length r) r
-room-from r h = record { room = omega (arith, h) }
+pub room-from : (s r : List ℕ) (h : Start) → Started s r h → Roomy 0 (length r) r
+room-from s r h k = record { room = omega (arith, k .short) }
 
 pub gathers-tallies : (s r : List ℕ) (h : Start) (l l′ ns : List ℕ) (y : Settling)
     → Gathers (madeAt (walking s) s r h) (bytesMost (length r)) (gatheredBy (walking s) s r h) 0 l l′ ns y → Tallies s r ns h y
@@ -109,7 +108,7 @@ module _ (s r ns : List ℕ) (h : Start) (y : Settling) (u : Tallies s r ns h y)
     pub tallied-counted : Counted s r ns h n
     tallied-counted = u .counts n o z
 
-    module _ (p : ℕ) (q : p ≡ length (encode (knownRecs (knownsOf (gatheredBy (walking s) s r h))))) (g : length r ≤ mostRequest) where
+    module _ (p : ℕ) (q : p ≡ length (encode (knownRecs (knownsOf (gatheredBy (walking s) s r h))))) (g : Started s r h) where
       sum-is : p + o ≡ length (encode (append (knownRecs (tallied-counted .knowns)) (tallied-counted .rest)))
       sum-is =
           let k = tallied-counted in
@@ -124,14 +123,14 @@ module _ (s r ns : List ℕ) (h : Start) (y : Settling) (u : Tallies s r ns h y)
           )
 
       pub tallied-sum : Fits w64 (p + o)
-      tallied-sum = record { fits = omega (arith, sum-is, tallied-counted .few, g) }
+      tallied-sum = record { fits = omega (arith, sum-is, tallied-counted .few, g .short) }
 
       pub tallied-length : Fits w32 (p + o)
-      tallied-length = record { fits = omega (arith, sum-is, tallied-counted .few, g) }
+      tallied-length = record { fits = omega (arith, sum-is, tallied-counted .few, g .short) }
 
-      pub tallied-fine : Started s r h → FineFrom r h
+      pub tallied-fine : FineFrom r h
           → Measures s r (stepsIn (gatheredBy (walking s) s r h)) ns (measure.Fine (record { start = h; count = n; length = p + o }))
-      tallied-fine a b = fine (record { counted = tallied-counted; started = a; fine = b; length-is = sum-is; short = g })
+      tallied-fine b = fine (record { counted = tallied-counted; started = g; fine = b; length-is = sum-is })
 
 pub ruleset measure-from-laws = (tallied-refused, tallied-counted, tallied-sum, tallied-length, tallied-fine)
 
@@ -169,7 +168,7 @@ module _ (s r : List ℕ) (v : Opening) (u : Opens s r v) where
         → Measures s r (stepsOf (walking s) s r) ns y
     all-measured ns y m = subst (λ (o : Steps). Measures s r o ns y) (sym (opened-at u h e .steps)) m
 
-pub ruleset measure-all-laws = (all-absent, all-refused, all-started, all-fine, all-measured, fine-short)
+pub ruleset measure-all-laws = (all-absent, all-refused, all-started, all-fine, all-measured)
 
 -- ---- measure_tested
 module _ (s r : List ℕ) (u : Verdict) (x : u ≡ judgeLength s) (ns : List ℕ) where

@@ -103,6 +103,7 @@ module _ (s r : List ℕ) (f : judgeRequest r ≡ Fine) (v : Headed) (q : v ≡ 
               scope = (scope-ordered r v q h g, scope-inside r v q h g);
               type = (options-type-ordered r v q h g, options-type-inside r v q h g);
               path = fine-scope r f v q h g;
+              short = fine-short r f;
             };
             fine = record { inside = options-inside r v q h g; fine = fine-here };
           }))

@@ -45,11 +45,11 @@ module _ (s r ns : List ℕ) (m : Measured) (k : Ready s r ns m) where
   write-fine = k .fine
 
   pub write-room : Roomy 0 (length r) r
-  write-room = record { room = omega (arith, k .short) }
+  write-room = record { room = omega (arith, k .started .short) }
 
   pub write-next : (l l′ : List ℕ) (p : ℕ) → Laid l 0 (encode (knownRecs (knownsOf (gatheredBy (walking s) s r (m .start))))) l′ p
       → Roomy p (length r) r
-  write-next l l′ p a = record { room = omega (arith, k .short, a .next, counted-few s r ns (m .start) (m .count) (k .counted)) }
+  write-next l l′ p a = record { room = omega (arith, k .started .short, a .next, counted-few s r ns (m .start) (m .count) (k .counted)) }
 
   pub records-put : (l l₁ l₂ : List ℕ) (p q : ℕ) (ns′ : List ℕ) (y : Settling)
       → Laid l 0 (encode (knownRecs (knownsOf (gatheredBy (walking s) s r (m .start))))) l₁ p

@@ -1,11 +1,12 @@
 -- What a request comes to, from 01's "Option steps".
 --
---                 Steps == records, Absent, or a refusal and its place: an option and a part of its name, or nowhere in it
---             stepsIn g == what is said of the options that came to g
---         stepsOf L s r == what the request r comes to, of any bytes
---     resolvingBy v s r == the first fault of the sheet s, which is judged v, and the request r, else what the request comes to
---         resolving s r == the same, where the whole form of the sheet is judged
---   resolvingTested s r == the same, where its length is judged
+--                  Steps == records, Absent, or a refusal and its place: an option and a part of its name, or nowhere in it
+--              stepsIn g == what is said of the options that came to g
+--   requestSteps L s r q == what the request q, which is read from the bytes r, comes to
+--          stepsOf L s r == what the request that the bytes r are comes to, of any bytes
+--      resolvingBy v s r == the first fault of the sheet s, which is judged v, and the request r, else what the request comes to
+--          resolving s r == the same, where the whole form of the sheet is judged
+--    resolvingTested s r == the same, where its length is judged
 --
 -- Assumes nothing.
 use Rattle.basis.specs.Kit.{List, [], _∷_, ℕ}
@@ -46,8 +47,11 @@ module _ (L : Lookups) (s r : List ℕ) where
   someOptions q [] = absent
   someOptions q (o ∷ os) = onType q (L .message (text r (q .optionsType)))
 
+  abbrev pub requestSteps : Request → Steps
+  requestSteps q = someOptions q (q .options)
+
   unfoldable pub stepsOf : Steps
-  stepsOf = someOptions (requestOf r) (requestOf r .options)
+  stepsOf = requestSteps (requestOf r)
 
 -- ---- a call: 01, Replies, "Inputs in the order a call names them, the sheet first" [ORDER-1]
 abbrev pub unless : Verdict → Steps → Steps

@@ -1,7 +1,7 @@
 // What a request comes to, measured before anything is written, and then written. It is measured in no room, which finds every refusal and
 // the length.
 ghost use Rattle.basis.specs.Kit.{_≡_, _≤_, length, sets};
-ghost use Rattle.limits.specs.Figures.{mostOptions, mostRequest};
+ghost use Rattle.limits.specs.Figures.{mostOptions};
 ghost use Rattle.reply.specs.declared.Verdict.the-variants.{Fine};
 ghost use Rattle.requestform.specs.Form.{judgeRequest};
 ghost use Rattle.records.specs.Records.{encode};
@@ -74,7 +74,6 @@ fn gather_length(sheet: &[u8], request: &[u8], start: Start, notes: &mut [usize]
     requires { ⌜ Started (now sheet) (now request) start ⌝ }
     requires { ⌜ FineFrom (now request) start ⌝ }
     requires { ⌜ mostOptions ≤ length (now notes) ⌝ }
-    requires { ⌜ length (now request) ≤ mostRequest ⌝ }
     ensures { λ r. ⌜ Tallies (now (sheet .entry)) (now (request .entry)) (now (notes .exit)) start r ⌝ }
 {
     let mut none = [0u8; 1];
@@ -87,7 +86,6 @@ fn known_length(sheet: &[u8], request: &[u8], start: Start, notes: &[usize], cou
     requires { ⌜ Started (now sheet) (now request) start ⌝ }
     requires { ⌜ FineFrom (now request) start ⌝ }
     requires { ⌜ mostOptions ≤ length (now notes) ⌝ }
-    requires { ⌜ length (now request) ≤ mostRequest ⌝ }
     ensures { λ r. ⌜ r ≡ length (encode (knownRecs (knownsOf (gatheredBy (walking (now (sheet .entry))) (now (sheet .entry))
         (now (request .entry)) start)))) ⌝ }
 {
@@ -100,7 +98,6 @@ fn measure_from(sheet: &[u8], request: &[u8], start: Start, notes: &mut [usize])
     requires { ⌜ Started (now sheet) (now request) start ⌝ }
     requires { ⌜ FineFrom (now request) start ⌝ }
     requires { ⌜ mostOptions ≤ length (now notes) ⌝ }
-    requires { ⌜ length (now request) ≤ mostRequest ⌝ }
     ensures { λ r. ⌜ Measures (now (sheet .entry)) (now (request .entry))
         (stepsIn (gatheredBy (walking (now (sheet .entry))) (now (sheet .entry)) (now (request .entry)) start)) (now (notes .exit)) r ⌝ }
 {

@@ -7,10 +7,11 @@ use borrow.Author.Tests.{leb-true}
 use Rattle.limits.specs.Figures.{mostOptionBytes, mostLevels}
 use Rattle.reply.specs.declared.Refusal.{Refusal}
 use Rattle.reply.specs.declared.Refusal.the-variants.{BeyondLimit, NoRoom}
+use Rattle.reply.specs.declared.Cause.{Cause}
 use Rattle.reply.specs.declared.Verdict.{Verdict}
 use Rattle.reply.specs.declared.Verdict.the-variants.{Fine, Refused as Bad}
 use Rattle.reply.specs.declared.Answer.{Answer}
-use Rattle.reply.specs.Reply.{bare, refusedBy as refusedAnswer, doneWith, absentAnswer}
+use Rattle.reply.specs.Reply.{bare, refusedFor, refusedBy as refusedAnswer, doneWith, absentAnswer}
 use Rattle.reply.specs.Verdicts.{firstFault}
 use Rattle.reply.specs.Outcome.{refuse, unless, give, Answered}
 use Rattle.reply.proofs.Outcomes.{answered-refused, answered-absent, answered-no-room, answered-done}
@@ -55,8 +56,8 @@ pub ruleset give-row-laws = (row-no-room, row-given)
 
 -- ---- answer_of
 module _ (x : Seen) (l : List ℕ) (a : Answer) where
-  pub seen-refused : (w : Refusal) → x ≡ Refused w → a ≡ refusedAnswer w → Answered (outcomeOf x) l l a
-  seen-refused w g e = rw e (answered-refused (outcomeOf x) l (bare w) (ap outcomeOf g))
+  pub seen-refused : (c : Cause) → x ≡ Refused c → a ≡ refusedFor c → Answered (outcomeOf x) l l a
+  seen-refused c g e = rw e (answered-refused (outcomeOf x) l c (ap outcomeOf g))
 
   module _ (b : Best) (g : x ≡ All b) where
     pub seen-none : b ≡ NoneYet → a ≡ absentAnswer → Answered (outcomeOf x) l l a

@@ -1,5 +1,6 @@
 -- Closed cases of the value query, which the checker computes: of each rule one that holds, one at the limit, one refused. What is expected
--- comes from compare/options_reader.py, a second implementation of 01.
+-- comes from compare/options_reader.py, a second implementation of 01; where it is refused, from 02's [9], by hand: at the part, counted
+-- from 0, that the steps refuse; 6, and 7 and 8 of parts left, at the part whose declaration has that type; any other refusal nowhere.
 -- Assumes nothing.
 use Rattle.basis.specs.Kit.{_≡_, refl, List, [], _∷_, _++_, map, ℕ, zero, suc, _*_}
 use lib.ListN.{replicate}
@@ -10,6 +11,8 @@ use Rattle.ident.specs.Ident.{isLetter, isDigit, allWord, isIdent}
 use Rattle.path.specs.Path.{onFirst, split, components, allIdent, isRelPath, isRelOrEmpty, spell, isAbs, rootless, isPath, parent, last}
 use Rattle.candidates.specs.Candidates.{ancestors, candidates}
 use Rattle.reply.specs.declared.Refusal.the-variants.{NoRoom}
+use Rattle.reply.specs.declared.Where.{Where}
+use Rattle.reply.specs.declared.Where.the-variants.{Nowhere, Part}
 use Rattle.reply.specs.Reply.{number}
 use Rattle.reply.specs.Outcome.{Outcome, refused as refusedFor, nothing, give, refuse, within}
 use Rattle.field.specs.Field.{fieldAt}
@@ -69,12 +72,12 @@ held =
 abbrev twins : List ℕ
 twins = file "o" (message "T" []) ++ file "o" (message "T" [])
 
--- likewise, and the extensions l = 11 and t = 22, whose type paths name nothing and two messages
+-- likewise, and the extensions l = 11 of F and y = 5 of M, whose type paths name nothing, and t = 22 of F, whose names two messages
 abbrev lacking : List ℕ
 lacking =
     file "o" (message "F" (field "b" 3 8 []) ++ message "M" (field "v" 1 5 []) ++ extension "m" "o.F" 10 11 (to "o.M")
     ++ extension "k" "o.F" 14 5 [] ++ extension "l" "o.F" 11 11 (to "o.N") ++ extension "t" "o.F" 22 11 (to "o.T")
-    ++ extension "x" "o.M" 4 11 (to "o.M"))
+    ++ extension "x" "o.M" 4 11 (to "o.M") ++ extension "y" "o.M" 5 11 (to "o.N"))
     ++ twins
 
 abbrev flags : List ℕ
@@ -90,16 +93,16 @@ direct n = tagged directPartTag (ascii n)
 abbrev ext : String → List ℕ
 ext n = tagged extensionPartTag (ascii n)
 
--- ---- what is said: the words, Absent, or the reply's number
+-- ---- what is said: the words, Absent, or the reply's number and where
 data Says : Type 0 where
   gives : List ℕ → Says
   absent : Says
-  refused : (reply : ℕ) → Says
+  refused : (reply : ℕ) → Where → Says
 
 abbrev saysOf : Outcome ℕ → Says
 saysOf (give ws) = gives ws
 saysOf nothing = absent
-saysOf (refusedFor c) = refused (number (c .why))
+saysOf (refusedFor c) = refused (number (c .why)) (c .place)
 
 abbrev r : (level number typ wire place size low high : ℕ) → Says
 r l n t w p k a b = gives (l ∷ n ∷ t ∷ w ∷ p ∷ k ∷ a ∷ b ∷ [])
@@ -149,19 +152,24 @@ followed-are = refl
 abbrev named : List Case
 named =
     -- 9: no such field, an extension's name as a direct part, a part inside
-    asks (direct "q") (0x18 ∷ 1 ∷ []) (refused 9)
-    ∷ asks (direct "m") (0x52 ∷ 0 ∷ []) (refused 9)
-    ∷ asks (ext "o.m" ++ direct "w") (0x18 ∷ 1 ∷ []) (refused 9)
-    -- 4, from an empty scope; 5; 6; 7 and 8 of parts left, and not of the last part
-    ∷ asks (ext "k") (0x70 ∷ 1 ∷ []) (refused 4)
-    ∷ asks (ext "o.x") [] (refused 5)
-    ∷ asks (direct "b" ++ direct "v") [] (refused 6)
-    ∷ asks (ext "o.l" ++ direct "v") [] (refused 7)
-    ∷ asks (ext "o.t" ++ direct "v") [] (refused 8)
+    asks (direct "q") (0x18 ∷ 1 ∷ []) (refused 9 (Part 0))
+    ∷ asks (direct "m") (0x52 ∷ 0 ∷ []) (refused 9 (Part 0))
+    ∷ asks (ext "o.m" ++ direct "w") (0x18 ∷ 1 ∷ []) (refused 9 (Part 1))
+    -- 4, from an empty scope; 5; each of the first part and of one inside
+    ∷ asks (ext "k") (0x70 ∷ 1 ∷ []) (refused 4 (Part 0))
+    ∷ asks (ext "o.m" ++ ext "x") [] (refused 4 (Part 1))
+    ∷ asks (ext "o.x") [] (refused 5 (Part 0))
+    ∷ asks (ext "o.m" ++ ext "o.k") [] (refused 5 (Part 1))
+    -- 6; 7 and 8 of parts left, and not of the last part: of the part that they are left on
+    ∷ asks (direct "b" ++ direct "v") [] (refused 6 (Part 0))
+    ∷ asks (ext "o.m" ++ direct "v" ++ direct "v") [] (refused 6 (Part 1))
+    ∷ asks (ext "o.l" ++ direct "v") [] (refused 7 (Part 0))
+    ∷ asks (ext "o.m" ++ ext "o.y" ++ direct "v") [] (refused 7 (Part 1))
+    ∷ asks (ext "o.t" ++ direct "v") [] (refused 8 (Part 0))
     ∷ asks (ext "o.l") [] absent
     -- 18, and 7 of a record's type path, before the name
-    ∷ asks (direct "q") (0x18 ∷ []) (refused 18)
-    ∷ asks (direct "b") (0x18 ∷ 1 ∷ 0x5A ∷ 0 ∷ []) (refused 7)
+    ∷ asks (direct "q") (0x18 ∷ []) (refused 18 Nowhere)
+    ∷ asks (direct "b") (0x18 ∷ 1 ∷ 0x5A ∷ 0 ∷ []) (refused 7 Nowhere)
     ∷ []
 
 named-are : map (answerOf lacking) named ≡ map (λ c. c .says) named
@@ -196,28 +204,41 @@ abbrev inner : ℕ → List ℕ
 inner zero = []
 inner (suc k) = direct "i" ++ inner k
 
--- [QUERY-2]: a cut sheet; an options type that is no path; a name of no part; over-long bytes, and not ones at the limit; an options type
--- that is not found, and one that is found twice; bytes that cannot be read; the name
+-- [QUERY-2]: a cut sheet; an options type that is no path; a name of no part, and one whose second part is no name; over-long bytes, and not
+-- ones at the limit; an options type that is not found, and one that is found twice; bytes that cannot be read; the name
 faults :
     map (λ c. saysOf (outcomeOf c))
     (calls (flags ++ 1 ∷ []) "o..F" [] (replicate 65537 0)
     ∷ calls flags "o..F" [] (replicate 65537 0)
     ∷ calls flags "o.G" [] (replicate 65537 0)
+    ∷ calls flags "o.G" (direct "q" ++ direct "1") (replicate 65537 0)
     ∷ calls flags "o.G" (direct "q") (replicate 65537 0)
     ∷ calls flags "o.G" (direct "q") (replicate 65536 0)
     ∷ calls flags "o.T" (direct "q") (255 ∷ [])
     ∷ calls flags "o.F" (direct "q") (255 ∷ [])
     ∷ calls flags "o.F" (direct "q") (0x18 ∷ 1 ∷ [])
     ∷ [])
-    ≡ refused 1 ∷ refused 2 ∷ refused 2 ∷ refused 3 ∷ refused 7 ∷ refused 8 ∷ refused 18 ∷ refused 9 ∷ []
+    ≡ refused 1 Nowhere
+    ∷ refused 2 Nowhere
+    ∷ refused 2 Nowhere
+    ∷ refused 2 Nowhere
+    ∷ refused 3 Nowhere
+    ∷ refused 7 Nowhere
+    ∷ refused 8 Nowhere
+    ∷ refused 18 Nowhere
+    ∷ refused 9 (Part 0)
+    ∷ []
 unfolding outcomeOf
 faults = refl
 
--- 16 parts are taken, and 17 are not
+-- 16 parts are taken, and 17 are not; the last of 16 refused
 parts-limit :
     map (λ c. saysOf (outcomeOf c))
-    (calls nesting "o.F" (ext "o.m" ++ inner 15) (0x52 ∷ 30 ∷ nest 15) ∷ calls nesting "o.F" (ext "o.m" ++ inner 16) (0x52 ∷ 32 ∷ nest 16) ∷ [])
-    ≡ r 15 2 11 2 32 0 0 0 ∷ refused 3 ∷ []
+    (calls nesting "o.F" (ext "o.m" ++ inner 15) (0x52 ∷ 30 ∷ nest 15)
+    ∷ calls nesting "o.F" (ext "o.m" ++ inner 16) (0x52 ∷ 32 ∷ nest 16)
+    ∷ calls nesting "o.F" (ext "o.m" ++ inner 14 ++ direct "v") []
+    ∷ [])
+    ≡ r 15 2 11 2 32 0 0 0 ∷ refused 3 Nowhere ∷ refused 9 (Part 15) ∷ []
 unfolding outcomeOf
 parts-limit = refl
 

@@ -7,11 +7,12 @@
 use Rattle.basis.specs.Kit.{_≡_, refl, sym, ap, _∙_, Bool, true, false, List, [], _∷_, map, ℕ, suc, _+_, _-_, _*_, _≤_, _<_}
 use Rattle.basis.specs.Kit.{eqb, length, sets}
 use Rattle.basis.specs.First.{onlyIf}
-use Rattle.basis.proofs.Kit.{arith, add-one, w64, Fits}
+use Rattle.basis.proofs.Kit.{arith, add-one, Fits}
 use Rattle.basis.proofs.Never.{never as nothing-left}
 use mathlib.Core.Path.{subst}
 use native.Mathlib.Nat.{add-zero}
 use lib.Seq.{length-sets}
+use mir.Syntax.{w32}
 use Rattle.reply.specs.declared.Refusal.{Refusal}
 use Rattle.reply.specs.declared.Refusal.the-variants.{ExtensionIsNotMessage}
 use Rattle.path.specs.Path.{components, allIdent, isRelOrEmpty}
@@ -253,7 +254,7 @@ module _ (q scope : List ℕ) (at k : ℕ) (ws : List ℕ) (o : Namable q scope 
   pub noted-room : k * keyWords + keyWords ≤ length ws
   noted-room = omega (arith, o .room)
 
-  pub index-fits : Fits w64 (k + 1)
+  pub index-fits : Fits w32 (k + 1)
   index-fits = record { fits = omega (arith, o .room, o .few) }
 
 -- ---- declare

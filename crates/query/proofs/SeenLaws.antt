@@ -7,7 +7,9 @@ use Rattle.basis.proofs.Kit.{arith, not-true, not-false}
 use Rattle.basis.proofs.Never.{never as nothing-left}
 use Rattle.limits.specs.Figures.{mostLevels, mostParts}
 use Rattle.reply.specs.declared.Refusal.{Refusal}
+use Rattle.reply.specs.declared.Cause.{Cause}
 use Rattle.reply.specs.declared.Verdict.the-variants.{Fine}
+use Rattle.reply.specs.Reply.{bare}
 use Rattle.reply.specs.Outcome.{Outcome, refused as refusedFor, nothing, give, push}
 use Rattle.field.specs.Walk.{walk}
 use Rattle.request.specs.Name.{partsIn}
@@ -33,6 +35,7 @@ use Rattle.query.specs.declared.name.Naming.the-variants.{Parts, Group, 
 use Rattle.query.specs.declared.Seen.{Seen}
 use Rattle.query.specs.declared.Seen.the-variants.{All, Refused}
 use Rattle.query.specs.Name.{Named, declarations}
+use Rattle.query.specs.Query.{ofPart}
 use Rattle.following.specs.Reached.{never}
 use Rattle.following.specs.inner.Keys.{keyOf, keyWords, keysFrom}
 use Rattle.query.specs.inner.Naming.{Namable, Declares, declares, leaves-group, refuses}
@@ -77,8 +80,8 @@ module _ (s type bs ks : List ℕ) (n : ℕ) (whole : Outcome Row) (st : List �
     pub seeing-none : r ≡ End → o ≡ false → All NoneYet ≡ seenIn ks n nothingYet whole
     seeing-none g h = sym (ended g ∙ ap (λ (x : Bool). All (onlyIf x b NoneYet)) h)
 
-    pub seeing-wrong : (w : Refusal) → r ≡ Wrong w → Refused w ≡ seenIn ks n nothingYet whole
-    seeing-wrong w g = sym (u .rest ∙ ap (seenIn ks n (soFar k o b)) (moved-wrong s type bs _ (c .at) st′ r v w g))
+    pub seeing-wrong : (w : Refusal) → r ≡ Wrong w → (c′ : Cause) → c′ ≡ bare w → Refused c′ ≡ seenIn ks n nothingYet whole
+    seeing-wrong w g c′ e = ap Refused e ∙ sym (u .rest ∙ ap (seenIn ks n (soFar k o b)) (moved-wrong s type bs _ (c .at) st′ r v w g))
 
     module _ (x : Row) (d : Cursor) (g : r ≡ Record x d) (y : Step) (e : y ≡ stepOf ks n k o (x .level) (x .entry .by)) where
       stepped : (b′ : Best) → onlyIf (y .takes) (Found x) b ≡ b′ → Seeing s type bs ks n whole st′ d (y .matched) (y .counts) b′
@@ -130,7 +133,7 @@ module _ (r : Naming) where
     pub settle-group : r ≡ Group → All NoneYet ≡ settled r b
     settle-group e = rw e
 
-    pub settle-refused : (i : ℕ) (w : Refusal) → r ≡ RefusedName i w → Refused w ≡ settled r b
+    pub settle-refused : (i : ℕ) (w : Refusal) → r ≡ RefusedName i w → Refused (ofPart i w) ≡ settled r b
     settle-refused i w e = rw e
 
 pub ruleset name-settle-laws = (count-parts, count-group, count-refused, settle-parts, settle-group, settle-refused)
@@ -176,14 +179,14 @@ module _ (q : List ℕ) (fine : judgeName q ≡ Fine) (us : List ℕ) (size : le
 
 module _ (L : Lookups) (s q : List ℕ) (m : Message) (bs ks : List ℕ) (n : ℕ) (v : Seen)
     (e : v ≡ seenIn ks n nothingYet (flat 0 (reading L s mostLevels m 0 bs))) where
-  pub over-wrong : (w : Refusal) → v ≡ Refused w → Refused w ≡ queried L s q m bs
+  pub over-wrong : (c : Cause) → v ≡ Refused c → Refused c ≡ queried L s q m bs
   unfolding queried
-  over-wrong w g = go (reading L s mostLevels m 0 bs) (sym e ∙ g)
+  over-wrong c g = go (reading L s mostLevels m 0 bs) (sym e ∙ g)
     where
-      go : (x : Listed) → seenIn ks n nothingYet (flat 0 x) ≡ Refused w
-          → Refused w ≡ ofListed (declarations L s q 0 m (partsIn (walk q 0 (length q)))) x
+      go : (x : Listed) → seenIn ks n nothingYet (flat 0 x) ≡ Refused c
+          → Refused c ≡ ofListed (declarations L s q 0 m (partsIn (walk q 0 (length q)))) x
       go (listed t) h = nothing-left cc
-      go (refused w′) h = let same : w ≡ w′ = cc in ap Refused same
+      go (refused w) h = sym h
 
   pub over-settled : (b : Best) → v ≡ All b → (us : List ℕ) (r : Naming) → n ≡ countOf r
       → Declares never (declarations L s q 0 m (partsIn (walk q 0 (length q)))) 0 us ks r

@@ -1,19 +1,23 @@
 -- The value query, from 01's "Listing and lowering".
 --
---                  answered o == the words of the row o, or Absent
---             onNamed joins n t == what a name that comes to n answers in the records t
---         onRecords joins L s q u == what the name q answers in the records u
---    queryOf joins L s t q bs == what the query comes to, of any look-ups, and whichever declarations join their records
---        judgeInputs v t q bs == the first fault of the sheet, which is judged v, the options type, the name and the length of the option bytes
---           queryBy v s t q bs == what a query under the sheet s, which is judged v, comes to
---                query s t q bs == what `query` comes to
---          queryTested s t q bs == what `query_tested` comes to, where of the sheet the length alone is judged
+--                 answered o == the words of the row o, or Absent
+--                 ofPart i w == the refusal w at the i-th part of the name
+--          onNamed joins n t == what a name that comes to n answers in the records t
+--    onRecords joins L s q u == what the name q answers in the records u
+--   queryOf joins L s t q bs == what the query comes to, of any look-ups, and whichever declarations join their records
+--       judgeInputs v t q bs == the first fault of the sheet, which is judged v, the options type, the name and the option bytes' length
+--         queryBy v s t q bs == what a query under the sheet s, which is judged v, comes to
+--             query s t q bs == what `query` comes to
+--       queryTested s t q bs == what `query_tested` comes to, where of the sheet the length alone is judged
 --
 -- Assumes nothing.
 use Rattle.basis.specs.Kit.{Bool, List, Option, none, some, ℕ, length}
+use Rattle.reply.specs.declared.Refusal.{Refusal}
+use Rattle.reply.specs.declared.Where.the-variants.{Part}
+use Rattle.reply.specs.declared.Cause.{Cause}
 use Rattle.reply.specs.declared.Verdict.{Verdict}
 use Rattle.reply.specs.Verdicts.{firstFault}
-use Rattle.reply.specs.Outcome.{Outcome, refuse, unless, nothing, give}
+use Rattle.reply.specs.Outcome.{Outcome, refused, refuse, unless, nothing, give}
 use Rattle.field.specs.Walk.{walk}
 use Rattle.sheet.specs.declared.declaration.Declaration.{Declaration}
 use Rattle.sheetform.specs.Form.{judgeLength, judgeSheet}
@@ -32,9 +36,13 @@ abbrev pub answered : Option Row → Outcome ℕ
 answered none = nothing
 answered (some r) = give (words r)
 
+-- 02, [9], read: "a query has no option, and its name has parts" [WHERE-2]
+abbrev pub ofPart : (part : ℕ) → Refusal → Cause
+ofPart i w = record { why = w; place = Part i }
+
 module _ (joins : Declaration → Bool) where
   abbrev pub onNamed : Named → Tree → Outcome ℕ
-  onNamed (refusedAt i w) t = refuse w
+  onNamed (refusedAt i w) t = refused (ofPart i w)
   onNamed group t = nothing
   onNamed (names ds) t = answered (reached joins 0 ds t)
 

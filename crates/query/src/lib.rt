@@ -33,8 +33,10 @@ use name::Naming;
 use name::declare;
 use payload::check_bytes;
 use reply::Answer;
+use reply::Cause;
 use reply::Refusal;
 use reply::Verdict;
+use reply::Where;
 use requestform::check_name;
 use requestform::check_options_type;
 use rows::put_row;
@@ -43,10 +45,10 @@ use scope::lookup::LookupScope;
 // So many words are the keys of all parts.
 const KEY_WORDS: usize = MOST_PARTS * 2;
 
-// What following all rows comes to: the best one, or the first fault.
+// What following all rows comes to: the best one, or the first fault and where it is.
 pub enum Seen {
     All(Best),
-    Refused(Refusal),
+    Refused(Cause),
 }
 
 // The rows that are left, followed.
@@ -76,7 +78,7 @@ fn follow_rows(
                 }
                 return Seen::All(Best::NoneYet);
             }
-            Event::Wrong(why) => return Seen::Refused(why),
+            Event::Wrong(why) => return Seen::Refused(reply::bare(why)),
             Event::Record { row, rest } => {
                 let level = row.level as usize;
                 let entry = row.entry;
@@ -104,14 +106,17 @@ fn count_of(naming: Naming) -> usize
     }
 }
 
-// The best row, where the name comes to its parts; or the name's refusal.
+// The best row, where the name comes to its parts; or the name's refusal, at its part.
 fn settle(naming: Naming, best: Best) -> Seen
     ensures { λ r. ⌜ r ≡ settled naming best ⌝ }
 {
     match naming {
         Naming::Parts(_) => Seen::All(best),
         Naming::Group => Seen::All(Best::NoneYet),
-        Naming::Refused { part: _, why } => Seen::Refused(why),
+        Naming::Refused { part, why } => Seen::Refused(Cause {
+            why: why,
+            place: Where::Part(part),
+        }),
     }
 }
 
@@ -164,7 +169,7 @@ fn query_over(
         keys,
         count_of(naming),
     ) {
-        Seen::Refused(why) => Seen::Refused(why),
+        Seen::Refused(cause) => Seen::Refused(cause),
         Seen::All(best) => settle(naming, best),
     }
 }
@@ -212,7 +217,7 @@ fn answer_of(seen: Seen, out: &mut [u32]) -> Answer
     ensures { λ r. ⌜ Answered (outcomeOf seen) (now (out .entry)) (now (out .exit)) r ⌝ }
 {
     match seen {
-        Seen::Refused(why) => reply::refused(why),
+        Seen::Refused(cause) => reply::refused_for(cause),
         Seen::All(best) => match best {
             Best::NoneYet => reply::absent(),
             Best::Found(row) => give_row(row, out),

@@ -26,7 +26,7 @@ use steps::why_of;
 pub enum Naming {
     Parts(usize),
     Group,
-    Refused { part: usize, why: Refusal },
+    Refused { part: u32, why: Refusal },
 }
 
 // Whether all records of a declaration count, in order, as one message. Today none do: the last one holds.
@@ -52,7 +52,7 @@ fn declare_behind(
     scope: &[u8],
     d: Declaration,
     from: usize,
-    index: usize,
+    index: u32,
     keys: &mut [usize],
 ) -> Naming
     requires { ⌜ Lies (d .shape .path) (now sheet) ⌝ }
@@ -60,13 +60,11 @@ fn declare_behind(
     ensures { λ r. ⌜ Declares never (behindPart (walking (now (sheet .entry))) (now (sheet .entry)) (now (name .entry)) index d
         (partsIn (walk (now (name .entry)) from (length (now (name .entry)))))) (index + 1) (now (keys .entry)) (now (keys .exit)) r ⌝ }
 {
+    let next = index + 1;
     match behind(sheet, name, d.shape, from, name.len()) {
-        Reach::Constant { shape: _, from: _ } => Naming::Parts(index + 1),
+        Reach::Constant { shape: _, from: _ } => Naming::Parts(next as usize),
         Reach::Nothing => Naming::Group,
-        Reach::Fails(why) => Naming::Refused {
-            part: index,
-            why: why,
-        },
+        Reach::Fails(why) => Naming::Refused { part: index, why },
         Reach::Inside {
             shape,
             place,
@@ -74,16 +72,7 @@ fn declare_behind(
         } => {
             let a = shape.path.from;
             let e = shape.path.to;
-            declare(
-                sheet,
-                name,
-                scope,
-                &sheet[a..e],
-                place,
-                rest,
-                index + 1,
-                keys,
-            )
+            declare(sheet, name, scope, &sheet[a..e], place, rest, next, keys)
         }
     }
 }
@@ -95,7 +84,7 @@ fn declare_step(
     scope: &[u8],
     step: Step,
     from: usize,
-    index: usize,
+    index: u32,
     keys: &mut [usize],
 ) -> Naming
     requires { ⌜ StepLies (now sheet) step ⌝ }
@@ -109,7 +98,7 @@ fn declare_step(
             why: why_of(lack),
         },
         Step::Found(d) => {
-            note_key(keys, index, d);
+            note_key(keys, index as usize, d);
             declare_behind(sheet, name, scope, d, from, index, keys)
         }
     }
@@ -123,7 +112,7 @@ pub fn declare(
     message: &[u8],
     place: LookupScope,
     from: usize,
-    index: usize,
+    index: u32,
     keys: &mut [usize],
 ) -> Naming
     requires { ⌜ InSheet (now sheet) place ⌝ }
@@ -133,7 +122,7 @@ pub fn declare(
         (now (keys .entry)) (now (keys .exit)) r ⌝ }
 {
     let Parted::Is(part) = part_at(name, from, name.len()) else {
-        return Naming::Parts(index);
+        return Naming::Parts(index as usize);
     };
     let step = step_of(sheet, name, scope, message, place, part);
     declare_step(sheet, name, scope, step, part.name.to, index, keys)

@@ -1,7 +1,8 @@
 -- Where that lies to which a part leads, for the step that goes on there: what it asks for holds, and what is left falls.
 -- Assumes nothing.
 use Rattle.basis.specs.Kit.{_≡_, List, ℕ, _+_, _-_, _*_, _≤_, _<_, length}
-use Rattle.basis.proofs.Kit.{arith, w64, Fits}
+use Rattle.basis.proofs.Kit.{arith, Fits}
+use mir.Syntax.{w32}
 use Rattle.sheet.specs.declared.declaration.Shape.{Shape}
 use Rattle.scope.specs.declared.lookup.LookupScope.{LookupScope}
 use Rattle.records.specs.inner.Emits.{Roomy}
@@ -55,7 +56,7 @@ module _ (s r scope : List ℕ) (c : LookupScope) (from to i : ℕ) (o : Steppab
   pub steppable-within : to ≤ length r
   steppable-within = o .within
 
-  pub part-fits : Fits w64 (i + 1)
+  pub part-fits : Fits w32 (i + 1)
   part-fits = record { fits = omega (arith, o .few) }
 
 pub ruleset led-places = (

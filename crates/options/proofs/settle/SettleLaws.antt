@@ -53,7 +53,7 @@ module _ (b : Built) (i at : ℕ) where
   built-sets h y g = rw (g, add-zero at) refl
 
   pub built-wrong : (w : Refusal) → b ≡ Wrong w
-      → Fails (record { place = wheres.Option i 0; why = w }) ≡ settlingOf i (noteIn (settledBuilt [] b)) at (othersOf (settledBuilt [] b))
+      → Fails (record { why = w; place = wheres.Option i 0 }) ≡ settlingOf i (noteIn (settledBuilt [] b)) at (othersOf (settledBuilt [] b))
   unfolding settlingOf
   built-wrong w g = rw g refl
 
@@ -84,7 +84,7 @@ module _ (m : Made Fault) (k : ℕ) (l : List ℕ) (at : ℕ) (l′ : List ℕ) 
       let x = emits-next stepped-tells m n u g in
       emits-laid (settling-tells i 0) (x .recs) n (x .laid) (x .is) (x .few) refl
 
-  pub named-refused : (f : Fault) → y ≡ Refused f → Emits (settlingOf i 0) m k l at l′ (Fails (record { place = wheres.Option i (f .part); why = f .why }))
+  pub named-refused : (f : Fault) → y ≡ Refused f → Emits (settlingOf i 0) m k l at l′ (Fails (record { why = f .why; place = wheres.Option i (f .part) }))
   named-refused f g = refuses (settling-tells i 0) f (emits-refused stepped-tells m f u g) refl
 
 module _ (s r : List ℕ) (h : Start) (k : Started s r h) where
@@ -100,10 +100,10 @@ module _ (s r : List ℕ) (h : Start) (k : Started s r h) where
   pub start-type-within : h .«options_type» .to ≤ length r
   start-type-within = k .type .1
 
-  pub start-steppable : (from to : ℕ) → from ≤ to → to ≤ length r → OptionParts r from to → (at : ℕ) → Roomy at (to - from) r
+  pub start-steppable : (from to : ℕ) → from ≤ to → to ≤ length r → OptionParts r from to
       → Steppable s r (text r (h .scope)) (h .place) from to 0
-  start-steppable from to i j o at c =
-      record { ordered = i; within = j; parts = o; path = k .path; place = k .place; few = omega (arith, c .room) }
+  start-steppable from to i j o =
+      record { ordered = i; within = j; parts = o; path = k .path; place = k .place; few = omega (arith, k .short) }
 
 pub ruleset start-laws = (start-scope-ordered, start-scope-within, start-type-ordered, start-type-within, start-steppable)
 

@@ -10,7 +10,7 @@
 --
 -- Assumes nothing.
 use Rattle.basis.specs.Kit.{_≡_, List, ℕ, _≤_, length}
-use Rattle.limits.specs.Figures.{mostOptions, mostRequest}
+use Rattle.limits.specs.Figures.{mostOptions}
 use Rattle.records.specs.Records.{Recs, nil, append, encode}
 use Rattle.records.specs.inner.Emits.{bytesMost}
 use Rattle.lookups.specs.Lookups.{walking}
@@ -67,7 +67,6 @@ pub record Ready (s r ns : List ℕ) (m : Measured) : Type 0 where
   pub started : Started s r (m .start)
   pub fine : FineFrom r (m .start)
   pub length-is : m .length ≡ length (encode (append (knownRecs (counted .knowns)) (counted .rest)))
-  pub short : length r ≤ mostRequest
 
 pub data Measures (s r : List ℕ) : Steps → (ns : List ℕ) → Measure → Type 0 where
   fine : {ns : List ℕ} {m : Measured} → Ready s r ns m → Measures s r (stepsIn (gatheredBy (walking s) s r (m .start))) ns (measure.Fine m)

@@ -7,11 +7,13 @@
 --              noteIn v ==  the note of the builtin that it sets, its number and 1; 0 where it sets none
 --             setRecs v ==  the record of the builtin that it sets
 --   settlingOf i n at m ==  what is answered of the i-th option: its note n and the place after its records, or its fault
---     Started s r h <-> what the options were started by lies in the sheet s and the request r, and the scope is a path or empty
+--         Started s r h <-> what the options were started by lies in the sheet s and the request r, the scope is a path or empty, and the
+--                           request is no longer than 01 allows
 --
 -- Assumes nothing.
-use Rattle.basis.specs.Kit.{_≡_, true, List, Option, ℕ, _+_, length}
+use Rattle.basis.specs.Kit.{_≡_, true, List, Option, ℕ, _+_, _≤_, length}
 use Rattle.basis.specs.First.{told}
+use Rattle.limits.specs.Figures.{mostRequest}
 use Rattle.path.specs.Path.{isRelOrEmpty}
 use Rattle.field.specs.Leaf.{text, Lies}
 use Rattle.scope.specs.inner.Answers.{InSheet}
@@ -62,3 +64,4 @@ pub record Started (s r : List ℕ) (h : Start) : Type 0 where
   pub scope : Lies (h .scope) r
   pub type : Lies (h .«options_type») r
   pub path : isRelOrEmpty (text r (h .scope)) ≡ true
+  pub short : length r ≤ mostRequest

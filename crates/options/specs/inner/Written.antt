@@ -51,4 +51,4 @@ pub record Steppable (s r scope : List ℕ) (p : LookupScope) (from to part : �
   pub parts : OptionParts r from to
   pub path : isRelOrEmpty scope ≡ true
   pub place : InSheet s p
-  pub few : part + (to - from) < 2 ^ 32
+  pub few : part + (to - from) < 2 ^ 31

@@ -27,6 +27,7 @@ follow-rows-spec = tie.close (tie.spec Inv-loop μ-loop
     (λ c. search)
     (λ c. search seeing-laws)
     (λ c. search)
+    (λ c κs. search)
     (λ c. search)
     (λ c. search seeing-laws)
     (λ c. search)

@@ -11,7 +11,7 @@ measure-all-spec = tie.close (tie.spec
     (λ c. search)
     (λ c. search)
     (λ c. search)
-    (λ c κs. (search (needs, measure-all-laws), (search (needs, measure-all-laws), (search (needs, measure-all-laws), search (needs, measure-all-laws)))))
+    (λ c κs. (search (needs, measure-all-laws), (search (needs, measure-all-laws), search (needs, measure-all-laws))))
     (λ c. search measure-all-laws)
     (λ c. search measure-all-laws)
     (λ c. search)

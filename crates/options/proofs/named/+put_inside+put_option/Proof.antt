@@ -74,7 +74,7 @@ pub +put-inside+put-option-spec : {M : Type 1} → statement M
     (λ c. search put-option-laws)
     (λ c. search put-option-laws)
     (λ c. search put-option-laws)
-    (λ c. search needs)
+    (λ c. search put-option-laws)
     (λ c κs. search put-option-laws)
     (λ c. search put-option-laws)
     (λ c. search put-option-laws)
