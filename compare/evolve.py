@@ -216,8 +216,7 @@ class Parts:
     """optlower and optlist in its place: of a case the newer's bytes, the older's listing and the newer's."""
 
     def wanted(self, case):
-        lists = [told.lines() + lines for told, lines in zip(case.lists, case.people)] if case.lists else []
-        return case.groups[1:2] + lists
+        return case.groups[1:2] + [told.lines() + ([] if told.refused else case.for_people(told)) for told in case.lists]
 
     def told(self, cases):
         asked = []
