@@ -90,6 +90,9 @@ class Case:
         self.groups.append(run.lines())
         answer = run.refused.number if run.refused else "absent" if run.bytes is None else "bytes" if run.bytes else "no bytes"
         self.seen.add(("request", answer))
+        if run.refused:
+            option, part = run.where or (None, None)
+            self.seen |= {("refused at option", steps.few(option)), ("refused at part", steps.few(part))}
         if run.bytes is not None:
             self.kind = dotted(run.kind)
             self.lists = pair.listings(self.kind, run.bytes)
@@ -213,8 +216,7 @@ class Parts:
     """optlower and optlist in its place: of a case the newer's bytes, the older's listing and the newer's."""
 
     def wanted(self, case):
-        lists = [told.lines() + lines for told, lines in zip(case.lists, case.people)] if case.lists else []
-        return case.groups[1:2] + lists
+        return case.groups[1:2] + [told.lines() + ([] if told.refused else case.for_people(told)) for told in case.lists]
 
     def told(self, cases):
         asked = []
@@ -405,6 +407,8 @@ def steps_wanted():
         if not (side == "older" and name in ("left out", "enum left out")) and not (side == "both" and some is pairs.CHANGES)]
     yield "sheets refused", [("refused", side, n) for side in ("older", "newer") for n in (1, 3)]
     yield "requests", [("request", n) for n in ["none", "not read", "bytes", "no bytes", "absent"] + list(range(2, 16))]
+    for what in ("option", "part"):
+        yield "requests refused at %s" % what, [("refused at " + what, n) for n in (0, 1, 2, "later", "none")]
     yield "listing by the older", [("listing", "older", n) for n in (0, 7, 8, 18, 19)]
     yield "listing by the newer", [("listing", "newer", n) for n in (0, 7, 8, 18, 19)]
     yield "known to the older at level", [("known at level", n) for n in range(31)]

@@ -157,7 +157,12 @@ case(NINE, b"\1", BEYOND, P1R)
 case(b"\1", NINE, BAD)
 case(P1S, NINE, BEYOND)
 # ---- requests without bytes
-case(P1S, P1S, YES + "answer 4\nExtensionNotFound\n", asked(opt("(z)", u(7))))
+case(P1S, P1S, YES + "answer 4\nExtensionNotFound\noption 0 part 0\n", asked(opt("(z)", u(7))))
+# at an option and a part further on, and with neither, of the options type
+case(P1S, P1S, YES + "answer 6\nExtensionIsNotMessage\noption 1 part 0\n", asked(opt("(x)", u(7)), opt("(x).v", u(7))))
+case(NESTED, NESTED, YES + "answer 9\nUnknownFieldName\noption 2 part 3\n",
+     asked(opt("(m)", pairs()), opt("(m).r.v", u(1)), opt("(m).r.r.none", u(1))))
+case(P1S, P1S, YES + "answer 7\nMessageNotFound\n", asked(opt("(x)", u(7)), kind="o.G"))
 case(P1S, P1S, YES + "answer 2\nBadRequest\n", b"\1")
 case(P1S, P1S, YES + "answer 0\nabsent\n", asked())
 # ---- and with bytes that are empty

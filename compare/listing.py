@@ -7,7 +7,7 @@ Run it from the root of the repository. options_reader.py is the second implemen
 not, with numbers declared twice or malformed; options types that are found, missing or there twice; option bytes that fit, with overlong
 varints, with misfits, damaged; names for the query. OPTLIST and OPTQUERY are the two programs, target/bin/optlist and target/bin/optquery
 if none is given; `none` leaves one out, and the output says so. Their answers and the second implementation's have to be equal in every
-line; the lines for people, which begin with two blanks, are those of people.py.
+line, that of a query's place of refusal too; the lines for people, which begin with two blanks, are those of people.py.
 
 A difference is printed with its input, made smaller as far as leaving out fields and bytes does it; the exit code is then 1. The tables
 say how many cases came by each step, so that one that never occurs is seen, and the line "never taken" names it. Option bytes of 65,536
@@ -245,6 +245,13 @@ def query_steps():
             b != "name" or a == "bytes")]
     yield "figures", [("figure", label, n) for label, answers in option_bytes.ASKED.items() for n in answers]
     yield "replies", [("reply", n) for n in (0, 1, 2, 3, 4, 5, 6, 7, 8, 9, 18, 19)]
+    yield "refused at part", [("at part", n) for n in (0, 1, "later", "none")]
+    for what, replies in {"extension part": [4, 5], "direct part": [9], "type with parts left": [6, 7, 8]}.items():
+        yield "refused by: %s" % what, [("refused by", what, n) for n in replies]
+        yield "refused by: %s, at part" % what, [("at part", what, n) for n in (0, 1, "later")]
+    for what, replies in {"done": [0], "absent": [0], "sheet": [1, 3], "form of the type": [2], "form of the name": [2, 3], "type": [7, 8],
+                          "bytes": [3, 7, 8, 18, 19]}.items():
+        yield "nowhere: %s" % what, [("nowhere", what, n) for n in replies]
 
 
 TYPED = {"listed", "at level 31", "overlong value of", "low 32 bits kept of", "sign", "high bit", "payload", "19", "parts left", "answered",
@@ -252,7 +259,7 @@ TYPED = {"listed", "at level 31", "overlong value of", "low 32 bits kept of", "s
 
 
 def word(key):
-    rest = list(key[1:])
+    rest = list(key[1:]) if key[0] not in ("refused by", "at part", "nowhere") else [key[-1]]
     if key[0] in TYPED:
         rest[0] = TYPES[rest[0]] if rest[0] else "unknown"
     return " ".join(map(str, rest))

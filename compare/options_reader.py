@@ -5,6 +5,9 @@ docs/DECISIONS.md, and not from the definitions. The form is form.py's.
 `Sheet(data)` reads a sheet and keeps every declaration with its place. `Listing(sheet, kind, data)` reads option bytes under an options
 type; `Query(sheet, kind, name, data)` asks them for the value of a name. `lines()` of either is what optlist or optquery has to print,
 lines for people apart, and `seen` holds every step that was taken. `rows(sheet, kind, data)` is the listing alone, as tuples of eight.
+
+Where a query is refused: before each thing that the steps of its name judge it is noted what that is and which part would be refused, so
+that the last note is the place. Nothing else that is refused has one.
 """
 import form
 from steps import NAMES as STEP_NAMES
@@ -19,8 +22,10 @@ MOST_NUMBER, MOST_BYTES, LAST_LEVEL = 536870911, 65536, 31
 
 
 class Refused(Exception):
+    """`place` is what refused and the part of a name that it did so at, where there is one."""
+
     def __init__(self, number):
-        self.number = number
+        self.number, self.place = number, None
 
 
 # ---- the sheet
@@ -179,11 +184,11 @@ def value_of(kind, bits):
 class Listing:
     def __init__(self, sheet, kind, data):
         self.sheet, self.kind, self.data = sheet, kind, data
-        self.seen, self.refused, self.rows, self.by, self.message = set(), None, [], [], None
+        self.seen, self.refused, self.rows, self.by, self.message, self.place, self.stage = set(), None, [], [], None, None, None
         try:
             self.run()
         except Refused as refused:
-            self.refused = refused.number
+            self.refused, self.place = refused.number, refused.place
         self.note("reply", self.refused or 0)
 
     def note(self, *what):
@@ -208,14 +213,14 @@ class Listing:
                 stage()
             except Refused as refused:
                 if first:
-                    kept.add(("order", first[0], what))
+                    kept.add(("order", self.stage, what))
                 else:
-                    first = what, refused.number
+                    first, self.stage = refused, what
                     continue
             if first:
                 self.seen = kept
         if first:
-            raise Refused(first[1])
+            raise first
 
     def sheet_form(self):
         if self.sheet.fault:
@@ -376,16 +381,28 @@ def rows(sheet, kind, data):
 
 
 # ---- the query
+def few(n):
+    """A position as the tables count it."""
+    return n if n < 2 else "later"
+
+
 class Query(Listing):
     def __init__(self, sheet, kind, name, data):
         self.name, self.answer, self.split = name, None, None
         super().__init__(sheet, kind, data)
         if not self.refused:
             self.note("answer", "record" if self.answer else "absent")
+        if self.place:
+            what, part = self.place
+            self.note("refused by", what, self.refused)
+            self.note("at part", what, few(part))
+        else:
+            self.note("nowhere", self.stage or ("done" if self.answer else "absent"), self.refused or 0)
+        self.note("at part", few(self.place[1]) if self.place else "none")
 
     def lines(self):
         if self.refused:
-            return ["answer %d" % self.refused, NAMES[self.refused]]
+            return ["answer %d" % self.refused, NAMES[self.refused]] + (["part %d" % self.place[1]] if self.place else [])
         return ["answer 0", "record " + " ".join(map(str, self.answer)) if self.answer else "absent"]
 
     def stages(self):
@@ -398,7 +415,11 @@ class Query(Listing):
 
     def name_steps(self):
         if self.message is not None and self.split:
-            steps, on_group = self.steps(self.split)
+            try:
+                steps, on_group = self.steps(self.split)
+            except Refused as refused:
+                refused.place = self.judged
+                raise
             self.answer = None if on_group else self.followed(steps)
 
     def parts(self):
@@ -426,6 +447,7 @@ class Query(Listing):
         message, path, out = self.message, self.kind, []
         for i, (tag, text) in enumerate(parts):
             where = "first" if i == 0 else "later"
+            self.judged = "direct part" if tag == 0x1A else "extension part", i
             if tag == 0x1A:
                 found = next((d for d in message.fields if d.name == text), None)
                 reply = 0 if found else 9
@@ -442,6 +464,7 @@ class Query(Listing):
                 self.note("parts left", GROUP_TYPE)
                 return out, True
             self.note("parts left", found.type)
+            self.judged = "type with parts left", i
             if found.type != MESSAGE:
                 raise Refused(6)
             message, path = self.looked_up(found.path, "path of a part"), found.path

@@ -278,6 +278,76 @@ def long_request(plan):
     return f(0x18, dotted(scope)) + f(0x19, dotted(plan.kind)) + b"".join(sure_option(plan, scope) for _ in range(many))
 
 
+# ---- requests that are refused further on
+def way(plan, wanted):
+    """Parts that go from a message into the next, so many or as many as the plan has, and the message that they lead to."""
+    here, parts = plan.kind, []
+    while len(parts) < wanted:
+        choices = [(None, d) for d in plan.messages[here].fields] + plan.on.get(here, [])
+        choices = [(outer, d) for outer, d in choices if d.kind == 11 and d.path in plan.messages]
+        if not choices:
+            break
+        outer, declared = rnd.choice(choices)
+        parts.append(part(outer, declared))
+        here = declared.path
+    return parts, here
+
+
+def part(outer, declared):
+    return f(0x1A, declared.name) if outer is None else f(0x1B, b"." + dotted(outer + (declared.name,)))
+
+
+def misfit(plan, kind):
+    """A constant that a declaration of this type does not take."""
+    if kind in HOLDS and rnd.random() < 0.6:
+        low, high = HOLDS[kind]
+        return integer(rnd.choice((low - 1, high + 1)))
+    if kind in (9, 14) and rnd.random() < 0.6:
+        return f(STRING, rnd.choice(NO_TEXTS)) if kind == 9 else f(IDENT, b"NONE")
+    if kind == 11 and rnd.random() < 0.5:
+        return f(MESSAGE, f(0x27, b"none") + f(BOOL, b"\1"))
+    return constant(plan, rnd.choice(CONSTANTS), kind, None, 2)
+
+
+def deep_misfit(plan, kind, path, depth):
+    """A misfit so deep in lists and, on a message, in pairs, behind constants that fit, mostly."""
+    if depth < 2:
+        return misfit(plan, kind)
+    message = plan.messages.get(path) if kind == 11 else None
+    if not message or not message.fields or rnd.random() < 0.25:
+        return f(LIST, (value(plan, kind, path, 2) if rnd.random() < 0.3 else b"") + deep_misfit(plan, kind, path, depth - 1))
+    inner = [d for d in message.fields if d.kind == 11]
+    declared, before = rnd.choice(inner if inner and depth > 2 else message.fields), b""
+    if rnd.random() < 0.3:
+        first = rnd.choice(message.fields)
+        before = f(0x27, first.name) + value(plan, first.kind, first.path, 2)
+    return f(MESSAGE, before + f(0x27, declared.name) + deep_misfit(plan, declared.kind, declared.path, depth - 1))
+
+
+def bent(plan):
+    """An option that is refused, mostly, and not at its first part: at one behind which others stand, at one that goes no further, or for a
+    constant deep inside."""
+    parts, here = way(plan, rnd.choice((0, 1, 1, 2, 2, 2, 3, 3, 4, 6, 10)))
+    more, how = b"".join(rnd.choice(parts or [stray_part(plan)]) for _ in range(rnd.choice((0, 1, 2)))), rnd.random()
+    ends = [(None, d) for d in plan.messages[here].fields if parts] + plan.on.get(here, [])
+    if how < 0.3 or not ends:
+        return f(8, b"".join(parts) + stray_part(plan) + more + any_constant(plan, 2))
+    outer, declared = rnd.choice(ends)
+    parts.append(part(outer, declared))
+    if how < 0.5:
+        return f(8, b"".join(parts) + (more or stray_part(plan)) + any_constant(plan, 2))
+    return f(8, b"".join(parts) + deep_misfit(plan, declared.kind, declared.path, rnd.choice((1, 1, 2, 2, 3, 4, 5, 7))))
+
+
+def late_request(plan):
+    """Options that go well, behind them one that does not, mostly, and then others."""
+    scope, many = scope_of(plan), rnd.choice((0, 0, 1, 1, 2, 2, 3, 4, 8))
+    options = [sure_option(plan, scope) for _ in range(many)]
+    options.append(bent(plan) if rnd.random() < 0.75 else f(8, builtin(plan)) if rnd.random() < 0.5 else option(plan, scope))
+    options += [option(plan, scope) for _ in range(rnd.choice((0, 0, 1, 2)))]
+    return f(0x18, dotted(scope)) + f(0x19, dotted(plan.kind)) + b"".join(options)
+
+
 def request(plan):
     scope = scope_of(plan)
     many = rnd.choice((1,) * 12 + (2, 2, 2, 3, 3, 4)) if rnd.random() < 0.97 else rnd.choice((0, 0, 5, 9, 14))
@@ -307,7 +377,7 @@ def cases():
                 plan, what = spoiled(Plan(google=rnd.random() < 0.1)), "not clean"
             else:
                 plan, what = Plan(google=rnd.random() < 0.05), "malformed"
-            queries = [request(plan) for _ in range(8)]
+            queries = [request(plan) for _ in range(8)] + [late_request(plan)]
             if rnd.random() < 0.06:
                 queries.append(long_request(plan))
             if what == "malformed" and rnd.random() < 0.3:

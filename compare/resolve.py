@@ -7,14 +7,19 @@ usage: resolve.py [CASES] [SEED] [--oracle ORACLE] [--program PROGRAM]
 Run it from the root of the repository. steps.py is the second implementation, sheets.py and queries.py draw the cases, a sheet and
 several requests, figures.py has those at each limit, tables.py prints. PROGRAM is optlower, target/bin/optlower if none is given;
 `--program none` leaves it out, and the output says so. Its answers and the second implementation's have to be equal in every line,
-whatever the case.
+whatever the case, the place of a refusal too.
+
+A request that is refused at an option, and has others, is taken apart: behind it come that option and each before it, in a request of its
+own with the same scope and options type. None of those before may be refused, and the option itself has to be as it was, now at option 0.
+Without a program the second implementation is asked.
 
 ORACLE is a program over protobuf-parse 3.7.2 that reads a line of hexadecimal digits, tags 40 and 41, in its mode `sheet`, and prints what
 the original's own option resolver answers; with `--fixed` it takes the eight options types from its own descriptor.proto. It is asked
 where a sheet is clean and all is in form. Look-ups show in the numbers of the records. Bytes are compared record by record, those of one
 number in their order, at each level; errors of the original outside OptionResolverError only as refusals. Where the input is one that
 docs/DIFFERENCES.md lists, the second implementation does as the original does there, so that nothing else can hide behind it; these cases
-are counted by kind.
+are counted by kind. The original answers with no positions, but the text of most of its errors names a part: this has to be the text of the
+part that is refused. On 01's domain the option that is refused has to be the first that the original refuses alone.
 
 A difference is printed with its input, made smaller as far as leaving out fields does it; the exit code is then 1. The tables say how
 many cases came by each step, so that one that never occurs is seen.
@@ -22,7 +27,8 @@ many cases came by each step, so that one that never occurs is seen.
 `list` chooses cases that hit every step once and says whether crates/optlower/stdin and stdout are these, or writes them. The cases of
 examples.py come first; their answers are written by hand. Then come cases drawn here, the smallest that have a step which no other has.
 Their answers are the original's where it is asked and answers with bytes, Absent or an OptionResolverError, and the second
-implementation's everywhere else: an ORACLE is needed to write them. Without one all answers are the second implementation's.
+implementation's everywhere else: an ORACLE is needed to write them. Without one all answers are the second implementation's. The place of
+a refusal is always the second implementation's.
 """
 import argparse
 import collections
@@ -96,7 +102,31 @@ def program_answers(program, cases):
     return groups
 
 
+# ---- options alone
+def alone(case):
+    """Of a request that is refused at an option that one and each before it, as requests of their own; none where it has no others."""
+    if not hasattr(case, "apart"):
+        scope, kind, *options = [f(*field) for field in steps.fields(case.query)] if case.run.where else (b"", b"")
+        many = case.run.where[0] + 1 if len(options) > 1 else 0
+        case.apart = [Case("alone", case.sheet, scope + kind + option) for option in options[:many]]
+    return case.apart
+
+
+def as_alone(lines, each):
+    """Whether a refusal is that of the last of these alone, whose option is 0, and none of the others is refused."""
+    *before, last = each
+    part = lines[-1].partition(" part ")[2]
+    there = lines[2:] == ["option %d part %s" % (len(before), part)] and last == lines[:2] + ["option 0 part " + part]
+    return there and all(told[0] == "answer 0" for told in before)
+
+
 # ---- the original
+class Told(list):
+    """The lines of an answer, and what else was said."""
+
+    said = ""
+
+
 def oracle_answers(oracle, cases, *flags):
     """Each answer as lines; the number of a refusal by another error than OptionResolverError has `~` before it."""
     text = "".join(c.hex() + "\n" for c in cases)
@@ -105,9 +135,10 @@ def oracle_answers(oracle, cases, *flags):
     for line in run.stdout.splitlines():
         words = line.split(" | ")[0].split(" ")
         if words[:2] == ["answer", "0"]:
-            told.append(["answer 0", (words[2] + " " + "".join(words[3:]).upper()).strip()])
+            told.append(Told(["answer 0", (words[2] + " " + "".join(words[3:]).upper()).strip()]))
         else:
-            told.append(["answer " + words[1], words[2]] if words[0] == "answer" else [line])
+            told.append(Told(["answer " + words[1], words[2]] if words[0] == "answer" else [line]))
+            told[-1].said = line.partition(" | ")[2]
     if len(told) != len(cases):
         sys.exit("%s gave %d answers to %d cases" % (oracle, len(told), len(cases)))
     return told
@@ -178,7 +209,7 @@ def ours(case):
 
 def agree(case, run, told):
     """How an answer of the original agrees with a run of the second implementation; None if it does not."""
-    lines = run.lines()
+    lines = run.answer()
     if told[0].startswith("answer ~"):
         return "refused, another error" if run.refused else None
     if told == lines:
@@ -188,6 +219,25 @@ def agree(case, run, told):
         if by_number(case.sheet, run.kind, theirs) == by_number(case.sheet, run.kind, run.bytes):
             return "the same per number"
     return None
+
+
+# the errors that name a part
+NAMING = re.compile(
+    r"parsing custom option `([^`]+)` value |extension not found: (\S+)\Z|wrong extension type: option (\S+) extendee |unknown field name: "
+    r"(\S+)\Z|extension is not a message: scope: \S*, option name: (\S+)\Z|builtin option \S+ (?:not found for options|points to a "
+    r"non-singular field of) (\S+)\Z")
+
+
+def named(told):
+    """The part that an error of the original names, without brackets."""
+    found = NAMING.match(told.said)
+    return next(name for name in found.groups() if name).strip("()").encode() if found else None
+
+
+def refused_part(case, run):
+    """The text of the part that is refused."""
+    option, part = run.where
+    return list(steps.fields(list(steps.fields(case.query))[2 + option][1]))[part][1]
 
 
 def by_number(sheet, path, data):
@@ -285,6 +335,8 @@ class Comparison:
         self.program, self.oracle, self.differ = program, oracle, 0
         self.kinds, self.seen, self.rows = collections.Counter(), collections.Counter(), collections.defaultdict(collections.Counter)
         self.other, self.not_asked, self.changed = collections.Counter(), collections.Counter(), collections.Counter()
+        self.taken_apart = self.alone = self.first = 0
+        self.named = collections.Counter()
 
     def report(self, case, differs, show):
         self.differ += 1
@@ -295,13 +347,28 @@ class Comparison:
         if self.differ >= 5:
             sys.exit(1)
 
-    def with_program(self, cases):
-        def told(case):
-            return program_answers(self.program, [case])[0]
+    def answers(self, cases):
+        return program_answers(self.program, cases) if self.program else [case.run.lines() for case in cases]
 
-        for case, lines in zip(cases, program_answers(self.program, cases)):
-            if lines != case.run.lines():
+    def with_program(self, cases):
+        """Each case, and behind it what it is taken apart to."""
+        def told(case):
+            return self.answers([case])[0]
+
+        def apart(case):
+            return as_alone(told(case), [told(one) for one in alone(case)])
+
+        groups = [[case] + alone(case) for case in cases]
+        answers = iter(self.answers([case for group in groups for case in group]))
+        for group in groups:
+            lines = [next(answers) for _ in group]
+            wrong = [case for case, told_it in zip(group, lines) if told_it != case.run.lines()]
+            for case in wrong:
                 self.report(case, lambda c: told(c) != c.run.lines(), lambda c: [("program", told(c))])
+            self.taken_apart += len(group) > 1
+            self.alone += len(group) - 1
+            if len(group) > 1 and not wrong and not as_alone(lines[0], lines[1:]):
+                self.report(group[0], lambda c: alone(c) and not apart(c), lambda c: [("alone", told(one)) for one in alone(c)])
 
     def with_oracle(self, cases):
         plain = [case for case in cases if asked(case)]
@@ -311,13 +378,36 @@ class Comparison:
         self.with_mode(plain, [], "")
         fixed = [c for c in plain if c.run.kind in EIGHT and c.sheet.google and c.sheet.messages(c.run.kind)]
         self.with_mode(fixed, ["--fixed"], ", --fixed")
+        self.with_first([case for case in plain if row(case) == DOMAIN and alone(case)])
+
+    def with_first(self, cases):
+        """The option that is refused is the first that the original refuses alone."""
+        def refused(case):
+            return [told[0] != "answer 0" for told in oracle_answers(self.oracle, alone(case))]
+
+        def wanted(case):
+            return [False] * case.run.where[0] + [True]
+
+        def differs(case):
+            return asked(case) and row(case) == DOMAIN and alone(case) and refused(case) != wanted(case)
+
+        answers = iter(oracle_answers(self.oracle, [one for case in cases for one in alone(case)]))
+        for case in cases:
+            self.first += 1
+            if [next(answers)[0] != "answer 0" for _ in alone(case)] != wanted(case):
+                self.report(case, differs, lambda c: [("original, alone", told) for told in oracle_answers(self.oracle, alone(c))])
 
     def with_mode(self, cases, flags, suffix):
         def told(case):
             return oracle_answers(self.oracle, [case], *flags)[0]
 
+        def misnamed(run, case, lines):
+            return run.where and named(lines) not in (None, refused_part(case, run))
+
         def differs(case):
-            return asked(case) and told(case)[0][:6] in ("answer", "panic ") and agree(case, ours(case), told(case)) is None
+            if not asked(case) or told(case)[0][:6] not in ("answer", "panic "):
+                return False
+            return agree(case, ours(case), told(case)) is None or misnamed(ours(case), case, told(case))
 
         for case, lines in zip(cases, oracle_answers(self.oracle, cases, *flags) if cases else []):
             if lines[0].split()[0] in ("notloaded", "badinput"):
@@ -325,21 +415,22 @@ class Comparison:
                 continue
             run = ours(case)
             how = agree(case, run, lines)
-            if how is None:
-                self.report(case, differs, lambda c: [("original" + suffix, told(c))])
+            if how is None or misnamed(run, case, lines):
+                self.report(case, differs, lambda c: [("original" + suffix, told(c) + [told(c).said])])
                 continue
+            if run.where:
+                self.named[named(lines) is not None, "%s %d" % (run.judged, run.refused.number)] += 1
             self.rows[row(case) + suffix][how] += 1
             if lines[0].startswith("answer ~"):
                 self.other["%d here, %s there" % (run.refused.number, lines[1])] += 1
-            if run.lines() != case.run.lines():
+            if run.answer() != case.run.answer():
                 self.changed[row(case) + suffix] += 1
 
     def batch(self, cases):
         for case in cases:
             self.kinds[case.what] += 1
             self.seen.update(case.run.seen)
-        if self.program:
-            self.with_program(cases)
+        self.with_program(cases)
         if self.oracle:
             self.with_oracle(cases)
 
@@ -347,8 +438,11 @@ class Comparison:
         total = sum(self.kinds.values())
         print("%d cases in %d s: %s" % (total, seconds, ", ".join("%s %d" % k for k in sorted(self.kinds.items()))))
         print("program: %s" % ("%d compared" % total if self.program else "NOT THERE, not compared"))
+        by = "program" if self.program else "second implementation"
+        print("refused at an option, each up to it alone: %d requests, %d options, of the %s" % (self.taken_apart, self.alone, by))
         if self.oracle:
             tables.original(self.rows, self.changed, self.other, self.not_asked)
+            tables.places_there(self.named, self.first)
         never = tables.steps_taken(self.seen)
         print("%d differ" % self.differ)
         return never
@@ -413,10 +507,10 @@ def stored(oracle):
         if lines[0].startswith("answer ") and "~" not in lines[0] and row(case) == DOMAIN:
             came["the original's"] += 1
         else:
-            lines = case.run.lines()
+            lines = case.run.answer()
             came["the second implementation's"] += 1
-        assert lines == case.run.lines(), (case.hex(), lines, case.run.lines())
-        yield case, lines, came
+        assert lines == case.run.answer(), (case.hex(), lines, case.run.lines())
+        yield case, lines + case.run.place(), came
 
 
 def write_list(oracle, write):

@@ -5,9 +5,11 @@ from the definitions. The form is form.py's.
 `Sheet(data)` reads a sheet and lists every scope under its full path; `Run(sheet, request).lines()` is what optlower has to print, and
 `Run.seen` holds every step that was taken. `Run(sheet, request, crate=True)` does what the original does at the three points of
 docs/DIFFERENCES.md where the two answer differently on sheets that are clean: float constants on integer types, pairs of one name, NaN.
-"""
-import struct
 
+Where a request is refused: before each thing that is judged a run notes what that is and which part would be refused (`judge`), so that the
+last note is the place. `Run.where` is then (option, part), or None; `Run.answer()` has the lines without it, as the original knows no
+places.
+"""
 import form
 
 NAMES = {
@@ -244,35 +246,97 @@ def depth(tag, payload):
     return 1
 
 
+def option_at_fault(data):
+    """Of a request that is refused for its form the position of the option that holds the fault; None where none does."""
+    reader = form.Reader(data, 2)
+    try:
+        reader.leaf(0x18, form.rel_or_empty)
+        reader.leaf(0x19, form.rel)
+        head = data[: reader.at]
+        for n in range(128 if len(data) <= 8192 else 0):
+            start = reader.at
+            if reader.field()[0] != 8:
+                return None
+            if not in_form(head + data[start : reader.at]):
+                return n
+    except form.Fault:
+        pass
+    return None
+
+
+def in_form(request):
+    try:
+        form.request(request)
+    except form.Fault:
+        return False
+    return True
+
+
+def few(n):
+    """A position as the tables count it."""
+    return "none" if n is None else n if n < 3 else "later"
+
+
 # ---- the resolver
 class Refused(Exception):
+    """`constants` are the tags of the constant that is refused and those around it, the innermost first."""
+
     def __init__(self, number, second=0):
-        self.number, self.second = number, second
+        self.number, self.second, self.constants = number, second, []
 
 
 class Run:
     def __init__(self, sheet, data, crate=False):
         self.sheet, self.data, self.crate = sheet, data, crate
         self.seen, self.kinds = set(), set()
-        self.refused = self.bytes = None
+        self.refused = self.bytes = self.where = None
         try:
             self.bytes = self.resolve()
+            self.judge("absent" if self.bytes is None else "done")
             self.note("reply", "absent" if self.bytes is None else 0 if self.bytes else "no bytes")
         except Refused as refused:
             self.refused = refused
             self.note("reply", (refused.number, refused.second))
+        self.note_place(*self.where or (None, None))
 
     def note(self, *what):
         self.seen.add(what)
 
-    def lines(self):
+    def answer(self):
         if self.refused:
             return ["answer %d" % self.refused.number, NOT_SINGULAR if self.refused.second else NAMES[self.refused.number]]
         if self.bytes is None:
             return ["answer 0", "absent"]
         return ["answer 0", ("bytes " + self.bytes.hex().upper()).rstrip()]
 
+    def place(self):
+        return ["option %d part %d" % self.where] if self.where else []
+
+    def lines(self):
+        return self.answer() + self.place()
+
+    # ---- where it is refused
+    def judge(self, what, part=None):
+        """What is judged from here on, and the part that a refusal of it names; without one it has no place."""
+        self.judged, self.where = what, None if part is None else (self.at, part)
+
+    def note_place(self, option, part):
+        self.note("at option", few(option))
+        self.note("at part", few(part))
+        reply = (self.refused.number, self.refused.second) if self.refused else 0
+        if option is None:
+            self.note("nowhere", self.judged, reply)
+            return
+        self.note("refused by", self.judged, reply)
+        self.note("at option", self.judged, few(option))
+        self.note("at part", self.judged, few(part))
+        if self.judged == "constant":
+            around = {"lists" if tag == LIST else "messages" for tag in self.refused.constants[1:]}
+            self.note("constant refused", "itself" if not around else "in both" if len(around) > 1 else "in " + around.pop())
+            self.note("constant refused at depth", min(len(self.refused.constants), 5))
+
     def resolve(self):
+        self.judge("sheet")
         if self.sheet.fault:
             self.note("form", "sheet", self.sheet.fault)
             raise Refused(self.sheet.fault)
@@ -280,6 +344,8 @@ class Run:
             form.request(self.data)
         except form.Fault as fault:
             self.note("form", "request", fault.args[0])
+            inside = option_at_fault(self.data)
+            self.judge("request" if inside is None else "form of option %s" % few(inside))
             raise Refused(fault.args[0]) from None
         (_, scope), (_, kind), *options = fields(self.data)
         self.scope, self.kind = components(scope), components(kind)
@@ -289,8 +355,9 @@ class Run:
             return None
         google = self.kind[:-1] == FIELD_OPTIONS[:2] and self.kind[-1] in EIGHT
         self.note("options type", self.kind[-1].decode() if google else "another")
+        self.judge("options type")
         message = self.message(self.kind, "options type")
-        for _, payload in options:
+        for self.at, (_, payload) in enumerate(options):
             self.option(message, payload)
         self.note("written", ("builtins" if self.known else "") + (" others" if self.others else ""))
         return b"".join(self.known[n] for n in sorted(self.known)) + b"".join(self.others)
@@ -349,6 +416,7 @@ class Run:
             return self.note("skipped", name.decode(), tag)
         if name in (b"default", b"json_name"):
             self.note("not skipped", name.decode())
+        self.judge("builtin", 0)
         field = message.fields.get(name)
         if field is None:
             self.note("builtin", "unknown")
@@ -390,9 +458,12 @@ class Run:
 
     # ---- names
     def step(self, message, path, parts, at, tag, constant):
+        self.judge("direct part" if parts[at][0] == 0x1A else "extension part", at)
         declared = self.part(message, path, *parts[at], at)
         if at + 1 == len(parts):
+            self.judge("constant", at)
             return self.value(declared, tag, constant)
+        self.judge("type with parts left", at)
         left = {11: "message", 10: "group"}.get(declared.type, declared.type)
         self.note("parts left", left)
         if left == "group":
@@ -425,6 +496,7 @@ class Run:
             told = self.records(declared, tag, constant)
         except Refused as refused:
             self.note("value", declared.type, tag, refused.number)
+            refused.constants.append(tag)
             raise
         self.note("value", declared.type, tag, 0)
         return told

@@ -59,12 +59,38 @@ def groups():
     replies = [0, "no bytes", "absent"] + [(n, 0) for n in range(1, 11)] + [(10, 1)] + [(n, 0) for n in range(11, 16)]
     yield "replies", [("reply", n) for n in replies]
     yield "refused by form", [("form", "sheet", 1), ("form", "sheet", 3), ("form", "request", 2), ("form", "request", 3)]
+    yield from places()
+
+
+# what a refusal with a place is of, and its replies
+PLACED = {"extension part": [(4, 0), (5, 0)], "direct part": [(9, 0)], "type with parts left": [(6, 0), (7, 0), (8, 0)],
+          "constant": [(7, 0), (8, 0), (9, 0)] + [(n, 0) for n in range(11, 16)],
+          "builtin": [(10, 0), (10, 1), (12, 0), (15, 0), (7, 0), (8, 0)]}
+POSITIONS = [0, 1, 2, "later"]
+NOWHERE = {"done": [0], "absent": [0], "sheet": [1, 3], "request": [2, 3], "options type": [7, 8]}
+NOWHERE.update({"form of option %s" % n: [2, 3] for n in POSITIONS})
+
+
+def places():
+    """Where requests are refused: each row of the table of positions, with its replies."""
+    yield "refused at option", [("at option", n) for n in POSITIONS + ["none"]]
+    yield "refused at part", [("at part", n) for n in POSITIONS + ["none"]]
+    for what, replies in PLACED.items():
+        yield "refused by: %s" % what, [("refused by", what, reply) for reply in replies]
+        yield "refused by: %s, at option" % what, [("at option", what, n) for n in POSITIONS]
+        yield "refused by: %s, at part" % what, [("at part", what, n) for n in (POSITIONS if what != "builtin" else [0])]
+    yield "refused constants", [("constant refused", how) for how in ("itself", "in lists", "in messages", "in both")]
+    yield "refused constants at depth (5 is 5 and more)", [("constant refused at depth", n) for n in range(1, 6)]
+    for what, replies in NOWHERE.items():
+        yield "nowhere: %s" % what, [("nowhere", what, (reply, 0) if reply else 0) for reply in replies]
 
 
 def word(key):
     """A step in a few words."""
-    if key[0] == "reply" and isinstance(key[1], tuple):
-        return "%d%s" % (key[1][0], ", 1" if key[1][1] else "")
+    if key[0] in ("reply", "refused by", "nowhere") and isinstance(key[-1], tuple):
+        return "%d%s" % (key[-1][0], ", 1" if key[-1][1] else "")
+    if key[0] in ("at option", "at part", "nowhere"):
+        return str(key[-1])
     if key[0] in ("parts left", "integer") and isinstance(key[1], int):
         key = (key[0], TYPES[key[1]]) + key[2:]
     rest = [CONSTANT.get(x, x) if isinstance(x, int) and x >= 0x20 and key[0] in ("within", "skipped", "integer") else x for x in key[1:]]
@@ -121,3 +147,9 @@ def original(rows, changed, other, not_asked):
         print("%-60s" % name + "".join("%24d" % rows[name][how] for how in HOWS) + "%20d" % changed[name])
     print("another error, or none: " + "; ".join("%s: %d" % x for x in sorted(other.items())))
     print("not asked: " + "; ".join("%s: %d" % x for x in sorted(not_asked.items())))
+
+
+def places_there(named, first):
+    for is_named, title in ((True, "refused, with the part in the original's error"), (False, "and with none in it")):
+        print("%s: %s" % (title, "; ".join("%s: %d" % (what, many) for (it, what), many in sorted(named.items()) if it == is_named)))
+    print("refused at the first option that the original refuses alone: %d" % first)

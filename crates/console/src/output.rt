@@ -7,6 +7,7 @@ use field::part::span_in;
 use hex::digits::glyph;
 use inputs::words::least;
 use reply::Answer;
+use reply::NOWHERE;
 
 pub fn text(bytes: &[u8]) {
     io::write_all(1, bytes);
@@ -49,7 +50,26 @@ pub fn hex(bytes: &[u8]) {
     }
 }
 
-// The line `answer N`, and on a refusal a second line with its name.
+// The end of a line that says where a call was refused.
+fn part_line(part: u32) {
+    text(b"part ");
+    number(part as u64);
+    text(b"\n");
+}
+
+// Where a call was refused: the line `option I part J`, `part J` where there is no option, and none where there is no part either.
+fn place_line(a: Answer) {
+    if a.option != NOWHERE {
+        text(b"option ");
+        number(a.option as u64);
+        text(b" ");
+        part_line(a.part);
+    } else if a.part != NOWHERE {
+        part_line(a.part);
+    }
+}
+
+// The line `answer N`, and on a refusal a line with its name and, where it has a position, one that says where.
 pub fn answer(a: Answer) {
     text(b"answer ");
     number(a.reply as u64);
@@ -60,6 +80,7 @@ pub fn answer(a: Answer) {
         let length = name.length;
         text(&bytes[..length]);
         text(b"\n");
+        place_line(a);
     }
 }
 

@@ -19,5 +19,6 @@ answer-spec = tie.close (tie.spec
     (λ c κs. search)
     (λ c. search)
     (λ c κs. search)
+    (λ c κs. search)
     (λ c. search)
     (λ c. search))
