@@ -60,10 +60,7 @@ fn put_constant(
     };
     match put_value(sheet, request, shape, tag, a, e, MOST_CONSTANTS, out, at) {
         Wrote::Next(next) => Stepped::Next(next),
-        Wrote::Refused(why) => Stepped::Refused(Fault {
-            part: part,
-            why: why,
-        }),
+        Wrote::Refused(why) => Stepped::Refused(Fault { part, why }),
     }
 }
 
@@ -139,10 +136,7 @@ pub fn put_option(
         part (messageOf (now (message .entry)) place) from to) (bytesMost (to - from)) (now (out .entry)) at (now (out .exit)) r ⌝ }
 {
     match reach_of(sheet, request, scope, message, place, from, to) {
-        Reach::Fails(why) => Stepped::Refused(Fault {
-            part: part,
-            why: why,
-        }),
+        Reach::Fails(why) => Stepped::Refused(Fault { part, why }),
         Reach::Nothing => Stepped::Next(at),
         Reach::Constant { shape, from: rest } => {
             put_constant(sheet, request, shape, rest, to, part, out, at)
