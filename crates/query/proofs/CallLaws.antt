@@ -38,7 +38,7 @@ use Rattle.following.specs.declared.Best.{Best}
 use Rattle.following.specs.declared.Best.the-variants.{Found, NoneYet}
 use Rattle.query.specs.declared.Seen.{Seen}
 use Rattle.query.specs.declared.Seen.the-variants.{All, Refused}
-use Rattle.query.specs.Name.{Named, names, group, refusedAt, declarations}
+use Rattle.naming.specs.Name.{Named, names, group, refusedAt, declarations}
 use Rattle.following.specs.Reached.{never, reached}
 use Rattle.query.specs.Query.{answered, onNamed, onRecords, queryOf, judgeInputs, queryBy, query, queryTested}
 use Rattle.following.specs.inner.Following.{bestOf}

@@ -1,5 +1,3 @@
-pub mod KeyLaws
-pub mod NameLaws
 pub mod SeenLaws
 pub mod CallLaws
 pub mod Controls

@@ -30,18 +30,17 @@ use Rattle.levels.proofs.MovesLaws.{moved-open, moved-rest, moved-less, moved-e
 use Rattle.following.specs.declared.Best.{Best}
 use Rattle.following.specs.declared.Best.the-variants.{Found, NoneYet}
 use Rattle.following.specs.declared.Step.{Step}
-use Rattle.query.specs.declared.name.Naming.{Naming}
-use Rattle.query.specs.declared.name.Naming.the-variants.{Parts, Group, Refused as RefusedName}
+use Rattle.naming.specs.declared.Naming.{Naming}
+use Rattle.naming.specs.declared.Naming.the-variants.{Parts, Group, Refused as RefusedName}
 use Rattle.query.specs.declared.Seen.{Seen}
 use Rattle.query.specs.declared.Seen.the-variants.{All, Refused}
-use Rattle.query.specs.Name.{Named, declarations}
-use Rattle.query.specs.Query.{ofPart}
+use Rattle.naming.specs.Name.{Named, declarations}
 use Rattle.following.specs.Reached.{never}
 use Rattle.following.specs.inner.Keys.{keyOf, keyWords, keysFrom}
-use Rattle.query.specs.inner.Naming.{Namable, Declares, declares, leaves-group, refuses}
+use Rattle.naming.specs.inner.Naming.{Namable, Declares, declares, leaves-group, refuses}
 use Rattle.following.specs.inner.Following.{Followed, nothingYet, after, stepOf, follow, followed}
 use Rattle.query.specs.inner.Answering.{seenIn, countOf, settled, ofNamed, ofListed, queried}
-use Rattle.query.proofs.NameLaws.{declarations-length}
+use Rattle.naming.proofs.NameLaws.{declarations-length}
 use Rattle.following.proofs.FollowLaws.{step-after}
 use Rattle.following.proofs.ReachedLaws.{followed-reached}
 
@@ -123,8 +122,8 @@ module _ (r : Naming) where
   pub count-group : r ≡ Group → 0 ≡ countOf r
   count-group e = rw e
 
-  pub count-refused : (i : ℕ) (w : Refusal) → r ≡ RefusedName i w → 0 ≡ countOf r
-  count-refused i w e = rw e
+  pub count-refused : (c : Cause) → r ≡ RefusedName c → 0 ≡ countOf r
+  count-refused c e = rw e
 
   module _ (b : Best) where
     pub settle-parts : (n : ℕ) → r ≡ Parts n → All b ≡ settled r b
@@ -133,8 +132,8 @@ module _ (r : Naming) where
     pub settle-group : r ≡ Group → All NoneYet ≡ settled r b
     settle-group e = rw e
 
-    pub settle-refused : (i : ℕ) (w : Refusal) → r ≡ RefusedName i w → Refused (ofPart i w) ≡ settled r b
-    settle-refused i w e = rw e
+    pub settle-refused : (c : Cause) → r ≡ RefusedName c → Refused c ≡ settled r b
+    settle-refused c e = rw e
 
 pub ruleset name-settle-laws = (count-parts, count-group, count-refused, settle-parts, settle-group, settle-refused)
 
@@ -175,7 +174,7 @@ module _ (q : List ℕ) (fine : judgeName q ≡ Fine) (us : List ℕ) (size : le
         → Declares never (declarations L s q 0 m (partsIn (walk q 0 (length q)))) 0 us ws r → n * keyWords ≤ length ws
     over-room (Parts i) n e ws h k = omega (arith, fine-name-few q fine, parts-few {j = i} k refl refl refl)
     over-room Group n e ws h k = omega arith
-    over-room (RefusedName i w) n e ws h k = omega arith
+    over-room (RefusedName c) n e ws h k = omega arith
 
 module _ (L : Lookups) (s q : List ℕ) (m : Message) (bs ks : List ℕ) (n : ℕ) (v : Seen)
     (e : v ≡ seenIn ks n nothingYet (flat 0 (reading L s mostLevels m 0 bs))) where

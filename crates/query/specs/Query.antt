@@ -1,7 +1,6 @@
 -- The value query, from 01's "Listing and lowering".
 --
 --                 answered o == the words of the row o, or Absent
---                 ofPart i w == the refusal w at the i-th part of the name
 --          onNamed joins n t == what a name that comes to n answers in the records t
 --    onRecords joins L s q u == what the name q answers in the records u
 --   queryOf joins L s t q bs == what the query comes to, of any look-ups, and whichever declarations join their records
@@ -12,9 +11,6 @@
 --
 -- Assumes nothing.
 use Rattle.basis.specs.Kit.{Bool, List, Option, none, some, ℕ, length}
-use Rattle.reply.specs.declared.Refusal.{Refusal}
-use Rattle.reply.specs.declared.Where.the-variants.{Part}
-use Rattle.reply.specs.declared.Cause.{Cause}
 use Rattle.reply.specs.declared.Verdict.{Verdict}
 use Rattle.reply.specs.Verdicts.{firstFault}
 use Rattle.reply.specs.Outcome.{Outcome, refused, refuse, unless, nothing, give}
@@ -29,16 +25,12 @@ use Rattle.entries.specs.Tree.{Tree, words}
 use Rattle.payload.specs.Payload.{judgeBytes}
 use Rattle.entries.specs.Reading.{Under, under, refusedBy, recordsOf}
 use Rattle.following.specs.Reached.{never, reached}
-use Rattle.query.specs.Name.{Named, names, group, refusedAt, declarations}
+use Rattle.naming.specs.Name.{Named, names, group, refusedAt, ofPart, declarations}
 
 -- "It answers that record's eight words, or Absent where there is none or parts are left on a group." [QUERY-6]
 abbrev pub answered : Option Row → Outcome ℕ
 answered none = nothing
 answered (some r) = give (words r)
-
--- 02, [9], read: "a query has no option, and its name has parts" [WHERE-2]
-abbrev pub ofPart : (part : ℕ) → Refusal → Cause
-ofPart i w = record { why = w; place = Part i }
 
 module _ (joins : Declaration → Bool) where
   abbrev pub onNamed : Named → Tree → Outcome ℕ

@@ -1,4 +1,3 @@
--- Notions of inner contracts, of a name's parts in lent memory and of rows that are followed: a reader of 01 need not read them.
+-- Notions of inner contracts, of rows that are followed: a reader of 01 need not read them.
 -- Assumes nothing.
-pub mod Naming
 pub mod Answering

@@ -1,7 +1,5 @@
 // The value query: of a sheet, an options type, a name and option bytes, the record that the name leads to. The name becomes a list of
 // declarations first, no option byte being read; then the rows are followed by them in one pass.
-mod name;
-
 ghost use Rattle.basis.specs.Kit.{_≡_, _*_, _≤_, length};
 ghost use Rattle.limits.specs.Figures.{mostOptionBytes, mostLevels, mostParts};
 ghost use Rattle.reply.specs.Outcome.{Answered, give};
@@ -29,14 +27,13 @@ use levels::STACK_WORDS;
 use levels::next;
 use levels::start;
 use limits::MOST_PARTS;
-use name::Naming;
-use name::declare;
+use naming::Naming;
+use naming::declare;
 use payload::check_bytes;
 use reply::Answer;
 use reply::Cause;
 use reply::Refusal;
 use reply::Verdict;
-use reply::Where;
 use requestform::check_name;
 use requestform::check_options_type;
 use rows::put_row;
@@ -102,7 +99,7 @@ fn count_of(naming: Naming) -> usize
     match naming {
         Naming::Parts(count) => count,
         Naming::Group => 0,
-        Naming::Refused { part: _, why: _ } => 0,
+        Naming::Refused(_) => 0,
     }
 }
 
@@ -113,10 +110,7 @@ fn settle(naming: Naming, best: Best) -> Seen
     match naming {
         Naming::Parts(_) => Seen::All(best),
         Naming::Group => Seen::All(Best::NoneYet),
-        Naming::Refused { part, why } => Seen::Refused(Cause {
-            why: why,
-            place: Where::Part(part),
-        }),
+        Naming::Refused(cause) => Seen::Refused(cause),
     }
 }
 

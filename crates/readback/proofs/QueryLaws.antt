@@ -15,7 +15,7 @@ use Rattle.entries.proofs.Either.{either}
 use Rattle.reply.specs.Outcome.{nothing, give}
 use Rattle.lookups.specs.Lookups.{Lookups, Message}
 use Rattle.following.specs.Reached.{isBy, listedBy, insideAfter, lastInside, joined, lastAfter, inside, reached}
-use Rattle.query.specs.Name.{Named, names, group, refusedAt}
+use Rattle.naming.specs.Name.{Named, names, group, refusedAt}
 use Rattle.query.specs.Query.{answered, onNamed, onRecords, queryOf}
 use Rattle.readback.specs.Follows.{partsNamed, Leads, Lacks, on-group, no-record}
 

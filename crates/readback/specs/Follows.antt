@@ -24,7 +24,7 @@ use Rattle.entries.specs.Tree.{Tree, end, one, held, row, words, wordsOf}
 use Rattle.entries.specs.Reading.{under, recordsOf}
 use Rattle.listing.specs.Listing.{listing}
 use Rattle.following.specs.Reached.{isBy, reached}
-use Rattle.query.specs.Name.{Named, names, group, declarations}
+use Rattle.naming.specs.Name.{Named, names, group, declarations}
 
 abbrev pub None : Declaration → Tree → Type 0
 None d end = Unit {0}

@@ -2,14 +2,13 @@
 -- Assumes nothing.
 use Rattle.query.proofs.SeenLaws.{name-settle-laws}
 use Rattle.query.proofs.settle.Statement.{statement}
-use Rattle.basis.proofs.Kit.{needs}
 use Rattle.query.proofs.settle.Tie as tie
 
 pub settle-spec : {M : Type 1} → statement M
 settle-spec = tie.close (tie.spec
-    (λ c. search (needs, name-settle-laws))
-    (λ c. search (needs, name-settle-laws))
-    (λ c. search (needs, name-settle-laws))
-    (λ c. search (needs, name-settle-laws))
-    (λ c. search (needs, name-settle-laws))
-    (λ c. search (needs, name-settle-laws)))
+    (λ c. search)
+    (λ c. search)
+    (λ c. search)
+    (λ c. search name-settle-laws)
+    (λ c. search name-settle-laws)
+    (λ c. search name-settle-laws))

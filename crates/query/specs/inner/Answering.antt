@@ -25,13 +25,13 @@ use Rattle.entries.specs.Tree.{Tree, words}
 use Rattle.entries.specs.Reading.{Listed, listed, refused, reading}
 use Rattle.following.specs.declared.Best.{Best}
 use Rattle.following.specs.declared.Best.the-variants.{Found, NoneYet}
-use Rattle.query.specs.declared.name.Naming.{Naming}
-use Rattle.query.specs.declared.name.Naming.the-variants.{Parts, Group, Refused as RefusedName}
+use Rattle.naming.specs.declared.Naming.{Naming}
+use Rattle.naming.specs.declared.Naming.the-variants.{Parts, Group, Refused as RefusedName}
 use Rattle.query.specs.declared.Seen.{Seen}
 use Rattle.query.specs.declared.Seen.the-variants.{All, Refused}
-use Rattle.query.specs.Name.{Named, names, group, refusedAt, declarations}
+use Rattle.naming.specs.Name.{Named, names, group, refusedAt, ofPart, declarations}
 use Rattle.following.specs.Reached.{never, reached}
-use Rattle.query.specs.Query.{ofPart, judgeInputs}
+use Rattle.query.specs.Query.{judgeInputs}
 use Rattle.following.specs.inner.Following.{bestOf, Followed, followed}
 
 abbrev pub seenIn : (words : List ℕ) (count : ℕ) → Followed → Outcome Row → Seen
@@ -42,12 +42,12 @@ seenIn ks n f (refusedFor c) = Refused c
 abbrev pub countOf : Naming → ℕ
 countOf (Parts n) = n
 countOf Group = 0
-countOf (RefusedName i w) = 0
+countOf (RefusedName c) = 0
 
 abbrev pub settled : Naming → Best → Seen
 settled (Parts n) b = All b
 settled Group b = All NoneYet
-settled (RefusedName i w) b = Refused (ofPart i w)
+settled (RefusedName c) b = Refused c
 
 abbrev pub ofNamed : Named → Tree → Seen
 ofNamed (names ds) t = All (bestOf (reached never 0 ds t))

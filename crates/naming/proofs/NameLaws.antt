@@ -41,12 +41,12 @@ use Rattle.steps.specs.declared.Reach.the-variants.{Constant, Inside, Nothing, 
 use Rattle.steps.specs.Steps.{whyOf, stepOf}
 use Rattle.steps.specs.inner.Reached.{message, entered, leftOn, followed, behind}
 use Rattle.steps.proofs.StepLaws.{step-path-ordered, step-path-within}
-use Rattle.query.specs.declared.name.Naming.{Naming}
-use Rattle.query.specs.declared.name.Naming.the-variants.{Parts, Group, Refused}
-use Rattle.query.specs.Name.{Named, names, group, refusedAt, also, onStep, onMessage, left, declarations}
+use Rattle.naming.specs.declared.Naming.{Naming}
+use Rattle.naming.specs.declared.Naming.the-variants.{Parts, Group, Refused}
+use Rattle.naming.specs.Name.{Named, names, group, refusedAt, ofPart, also, onStep, onMessage, left, declarations}
 use Rattle.following.specs.inner.Keys.{keyOf, keyWords, keyAt, keysFrom, keysAt}
-use Rattle.query.specs.inner.Naming.{behindPart, stepPart, Namable, Declares, declares, leaves-group, refuses}
-use Rattle.query.proofs.KeyLaws.{key-noted, keys-before, keys-fewer, keys-last}
+use Rattle.naming.specs.inner.Naming.{behindPart, stepPart, Namable, Declares, declares, leaves-group, refuses}
+use Rattle.naming.proofs.KeyLaws.{key-noted, keys-before, keys-fewer, keys-last}
 
 -- ---- what parts left on a declaration lead to
 abbrev ofReach : (s : List ℕ) (part : ℕ) → Reach → (Message → Named) → Named
@@ -189,14 +189,15 @@ module _ (L : Lookups) (s q : List ℕ) where
       go false true u e = nothing-left cc
       go false false u e = nothing-left cc
 
-  more-length : (i : ℕ) (ds : List Declaration) (ps : List Part) (f : Message → Named)
-      → ((n : Message) (es : List Declaration) → f n ≡ names es → length es ≡ length ps) → (v : Step)
-      → onStep i v (λ d. left L s q i d (λ n. also d (f n))) ≡ names ds → length ds ≡ suc (length ps)
-  more-length i ds ps f more (NotFound l) e = nothing-left cc
-  more-length i ds ps f more (Found d) e =
-      let x = left-onward i d f ds e in
-      let y = also-behind d (f (x .message)) ds (x .is) in
-      rw (y .one) (ap suc (more (x .message) (y .rest) (y .is)))
+  -- whichever places the parts behind have
+  more-length : (i k : ℕ) (ds : List Declaration) (ps : List Part)
+      → ((j : ℕ) (n : Message) (es : List Declaration) → declarations L s q j n ps ≡ names es → length es ≡ length ps) → (v : Step)
+      → onStep i v (λ d. left L s q i d (λ n. also d (declarations L s q k n ps))) ≡ names ds → length ds ≡ suc (length ps)
+  more-length i k ds ps more (NotFound l) e = nothing-left cc
+  more-length i k ds ps more (Found d) e =
+      let x = left-onward i d (λ n. declarations L s q k n ps) ds e in
+      let y = also-behind d (declarations L s q k (x .message) ps) ds (x .is) in
+      rw (y .one) (ap suc (more k (x .message) (y .rest) (y .is)))
 
   pub declarations-length : (ps : List Part) (i : ℕ) (m : Message) (ds : List Declaration) → declarations L s q i m ps ≡ names ds
       → length ds ≡ length ps
@@ -206,9 +207,7 @@ module _ (L : Lookups) (s q : List ℕ) where
       go : (v : Step) → onStep i v (λ d. names (d ∷ [])) ≡ names ds → length ds ≡ 1
       go (NotFound l) e = nothing-left cc
       go (Found d) e = let z : ds ≡ d ∷ [] = cc in rw z
-  declarations-length (p ∷ o ∷ ps) i m ds e =
-      more-length i ds (o ∷ ps) (λ n. declarations L s q (i + 1) n (o ∷ ps)) (λ n es. declarations-length (o ∷ ps) (i + 1) n es)
-      (stepOf L s q [] m p) e
+  declarations-length (p ∷ o ∷ ps) i m ds e = more-length i _ ds (o ∷ ps) (declarations-length (o ∷ ps)) (stepOf L s q [] m p) e
 
 -- ---- the keys of declarations, one in front of others
 module _ (joins : Declaration → Bool) (d : Declaration) (k : ℕ) (ws ws′ : List ℕ)
@@ -293,7 +292,7 @@ module _ (q : List ℕ) (at : ℕ) (r : Parted) (y : r ≡ partAt q at (length q
 -- ---- declare_step
 module _ (joins : Declaration → Bool) (L : Lookups) (s q : List ℕ) (k : ℕ) (ws ws′ : List ℕ) (ps : List Part) (v : Step) where
   pub step-refused : (l : Lack) → v ≡ NotFound l → (w : Refusal) → w ≡ whyOf l
-      → Declares joins (stepPart L s q k v ps) k ws ws′ (Refused k w)
+      → Declares joins (stepPart L s q k v ps) k ws ws′ (Refused (ofPart k w))
   step-refused l n w e = rw (n, e) refuses
 
   pub step-noted : (d : Declaration) → v ≡ Found d → ws′ ≡ sets ws (k * keyWords) (d .name .from ∷ onlyIf (joins d) 1 0 ∷ [])
@@ -325,7 +324,7 @@ module _ (s q : List ℕ) (d : Declaration) (at : ℕ) (v : Reach) where
         rw (i, g) leaves-group
 
     pub behind-fails : (w : Refusal) → v ≡ Fails w
-        → Declares joins (behindPart L s q k d (partsIn (walk q at (length q)))) (k + 1) ws ws (Refused k w)
+        → Declares joins (behindPart L s q k d (partsIn (walk q at (length q)))) (k + 1) ws ws (Refused (ofPart k w))
     behind-fails w g =
         let i = behind-reach L s q d at (length q) v e (λ h x y. nothing-left cc) k in
         rw (i, g) refuses

@@ -17,9 +17,9 @@ use Rattle.optionform.specs.inner.Parts.{NameParts}
 use Rattle.lookups.specs.Lookups.{Lookups}
 use Rattle.steps.specs.declared.Step.{Step}
 use Rattle.following.specs.inner.Keys.{keyOf, keyWords, keysFrom, keysAt}
-use Rattle.query.specs.declared.name.Naming.{Naming}
-use Rattle.query.specs.declared.name.Naming.the-variants.{Parts, Group, Refused}
-use Rattle.query.specs.Name.{Named, names, group, refusedAt, also, onStep, left, declarations}
+use Rattle.naming.specs.declared.Naming.{Naming}
+use Rattle.naming.specs.declared.Naming.the-variants.{Parts, Group, Refused}
+use Rattle.naming.specs.Name.{Named, names, group, refusedAt, ofPart, also, onStep, left, declarations}
 
 module _ (L : Lookups) (s q : List ℕ) where
   abbrev pub behindPart : (part : ℕ) → Declaration → List Part → Named
@@ -41,4 +41,4 @@ pub data Declares (joins : Declaration → Bool) : Named → (index : ℕ) (befo
   declares : {ds : List Declaration} {k n : ℕ} {ws ws′ : List ℕ} → n ≡ k + length ds → keysFrom ws′ k (length ds) ≡ map (keyOf joins) ds
       → keysAt ws′ k ≡ keysAt ws k → Declares joins (names ds) k ws ws′ (Parts n)
   leaves-group : {k : ℕ} {ws ws′ : List ℕ} → Declares joins group k ws ws′ Group
-  refuses : {k i : ℕ} {w : Refusal} {ws ws′ : List ℕ} → Declares joins (refusedAt i w) k ws ws′ (Refused i w)
+  refuses : {k i : ℕ} {w : Refusal} {ws ws′ : List ℕ} → Declares joins (refusedAt i w) k ws ws′ (Refused (ofPart i w))

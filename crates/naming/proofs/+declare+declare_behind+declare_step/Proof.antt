@@ -1,22 +1,22 @@
--- `query::name::declare`, `query::name::declare_behind` and `query::name::declare_step` meet their contracts.
+-- `naming::declare`, `naming::declare_behind` and `naming::declare_step` meet their contracts.
 -- Assumes nothing.
-use Rattle.query.proofs.NameLaws.{declare-laws, declare-behind-laws, declare-step-laws}
+use Rattle.naming.proofs.NameLaws.{declare-laws, declare-behind-laws, declare-step-laws}
 use Rattle.basis.proofs.Kit.{needs}
 use Rattle.basis.specs.Kit.{ℕ, _+_, _-_, _*_, _<_, length}
 use borrow.Fn.Kinds.{In}
 use borrow.Fn.PlainCycle.{Measures, is, falls, and}
-use Rattle.query.proofs.name.+declare+declare_behind+declare_step.{statement}
-use Rattle.query.proofs.name.+declare+declare_behind+declare_step.Tie.{close}
-use Rattle.query.proofs.name.declare.Reads as declare
-use Rattle.query.proofs.name.declare.Kinds as declare-kinds
-use Rattle.query.proofs.name.+declare+declare_behind+declare_step.Lts-declare as declare-lts
-use Rattle.query.proofs.name.declare_behind.Reads as declare-behind
-use Rattle.query.proofs.name.declare_behind.Kinds as declare-behind-kinds
-use Rattle.query.proofs.name.+declare+declare_behind+declare_step.Lts-declare_behind as declare-behind-lts
-use Rattle.query.proofs.name.declare_step.Reads as declare-step
-use Rattle.query.proofs.name.declare_step.Kinds as declare-step-kinds
-use Rattle.query.proofs.name.+declare+declare_behind+declare_step.Lts-declare_step as declare-step-lts
-use Rattle.query.proofs.name.note_key.Reads as note-key-reads
+use Rattle.naming.proofs.+declare+declare_behind+declare_step.{statement}
+use Rattle.naming.proofs.+declare+declare_behind+declare_step.Tie.{close}
+use Rattle.naming.proofs.declare.Reads as declare
+use Rattle.naming.proofs.declare.Kinds as declare-kinds
+use Rattle.naming.proofs.+declare+declare_behind+declare_step.Lts-declare as declare-lts
+use Rattle.naming.proofs.declare_behind.Reads as declare-behind
+use Rattle.naming.proofs.declare_behind.Kinds as declare-behind-kinds
+use Rattle.naming.proofs.+declare+declare_behind+declare_step.Lts-declare_behind as declare-behind-lts
+use Rattle.naming.proofs.declare_step.Reads as declare-step
+use Rattle.naming.proofs.declare_step.Kinds as declare-step-kinds
+use Rattle.naming.proofs.+declare+declare_behind+declare_step.Lts-declare_step as declare-step-lts
+use Rattle.naming.proofs.note_key.Reads as note-key-reads
 use Rattle.request.proofs.name.part_at.Reads as part-at-reads
 use Rattle.steps.proofs.behind.Reads as behind-reads
 use Rattle.steps.proofs.step_of.Reads as step-of-reads
@@ -75,14 +75,14 @@ pub +declare+declare-behind+declare-step-spec : {M : Type 1} → statement M
       declare-step-below t,
       declare-step.Post,
     ) (declare-at t) declare.Post
-    (λ c κs. search needs)
-    (λ c. search)
-    (λ c. search)
-    (λ c. search declare-laws)
+    (λ c κs. search (needs, declare-laws))
+    (λ c. search (needs, declare-laws))
+    (λ c. search (needs, declare-laws))
+    (λ c. search (needs, declare-laws))
     (λ c κs. (search (needs, declare-laws), (search (needs, declare-laws), (search (needs, declare-laws), search (needs, declare-laws)))))
     (λ c κs. (search (needs, declare-laws), (search (needs, declare-laws), search (needs, declare-laws))))
-    (λ c. search)
-    (λ c. search declare-laws))
+    (λ c. search (needs, declare-laws))
+    (λ c. search (needs, declare-laws)))
     (λ t. declare-behind-lts.spec (behind-reads.Asked, behind-reads.Learnt, declare-below t, declare.Post)
     (declare-behind-at t) declare-behind.Post
     (λ c. search (needs, declare-behind-laws))
@@ -109,11 +109,11 @@ pub +declare+declare-behind+declare-step-spec : {M : Type 1} → statement M
       declare-behind-below t,
       declare-behind.Post,
     ) (declare-step-at t) declare-step.Post
-    (λ c. search)
-    (λ c κs. search)
-    (λ c. search)
-    (λ c κs. search needs)
+    (λ c. search (needs, declare-step-laws))
+    (λ c κs. search (needs, declare-step-laws))
+    (λ c. search (needs, declare-step-laws))
+    (λ c κs. search (needs, declare-step-laws))
     (λ c κs. (search (needs, declare-step-laws), (search (needs, declare-step-laws), search (needs, declare-step-laws))))
-    (λ c. search declare-step-laws)
-    (λ c. search)
-    (λ c. search declare-step-laws)
+    (λ c. search (needs, declare-step-laws))
+    (λ c. search (needs, declare-step-laws))
+    (λ c. search (needs, declare-step-laws))

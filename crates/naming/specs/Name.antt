@@ -2,6 +2,7 @@
 -- steps from an empty scope, a direct part always a field (9)".
 --
 --                       Named == the declarations of a name's parts; or that parts are left on a group; or why not, and of which part
+--                  ofPart i w == the refusal w at the i-th part of the name
 --                    also d n == the declaration d, then those of n
 --                onStep i x f == what f makes of the declaration that the i-th part comes to, or its refusal
 --           onMessage i n u f == what f makes of the message of the full name n that a look-up u comes to, or its refusal
@@ -12,6 +13,8 @@
 use Rattle.basis.specs.Kit.{true, false, List, [], _∷_, ℕ, _+_, eqb}
 use Rattle.reply.specs.declared.Refusal.{Refusal}
 use Rattle.reply.specs.declared.Refusal.the-variants.{ExtensionIsNotMessage}
+use Rattle.reply.specs.declared.Where.the-variants.{Part as AtPart}
+use Rattle.reply.specs.declared.Cause.{Cause}
 use Rattle.field.specs.Leaf.{text}
 use Rattle.types.specs.Types.{TYPE_GROUP, TYPE_MESSAGE}
 use Rattle.sheet.specs.declared.declaration.Declaration.{Declaration}
@@ -27,6 +30,10 @@ pub data Named : Type 0 where
   names : List Declaration → Named
   group : Named
   refusedAt : (part : ℕ) → Refusal → Named
+
+-- 02, [9], read: "a query has no option, and its name has parts" [WHERE-2]
+abbrev pub ofPart : (part : ℕ) → Refusal → Cause
+ofPart i w = record { why = w; place = AtPart i }
 
 abbrev pub also : Declaration → Named → Named
 also d (names ds) = names (d ∷ ds)

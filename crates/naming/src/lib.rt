@@ -7,11 +7,12 @@ ghost use Rattle.request.specs.Name.{partsIn};
 ghost use Rattle.scope.specs.inner.Answers.{InSheet};
 ghost use Rattle.lookups.specs.Lookups.{walking};
 ghost use Rattle.steps.specs.inner.Reached.{message as messageOf, StepLies};
-ghost use Rattle.query.specs.Name.{declarations};
+ghost use Rattle.naming.specs.Name.{declarations};
 ghost use Rattle.following.specs.Reached.{never};
 ghost use Rattle.following.specs.inner.Keys.{keyWords};
-ghost use Rattle.query.specs.inner.Naming.{Declares, Namable, behindPart, stepPart};
-use reply::Refusal;
+ghost use Rattle.naming.specs.inner.Naming.{Declares, Namable, behindPart, stepPart};
+use reply::Cause;
+use reply::Where;
 use request::name::Parted;
 use request::name::part_at;
 use scope::lookup::LookupScope;
@@ -26,7 +27,7 @@ use steps::why_of;
 pub enum Naming {
     Parts(usize),
     Group,
-    Refused { part: u32, why: Refusal },
+    Refused(Cause),
 }
 
 // Whether all records of a declaration count, in order, as one message. Today none do: the last one holds.
@@ -64,7 +65,10 @@ fn declare_behind(
     match behind(sheet, name, d.shape, from, name.len()) {
         Reach::Constant { shape: _, from: _ } => Naming::Parts(next as usize),
         Reach::Nothing => Naming::Group,
-        Reach::Fails(why) => Naming::Refused { part: index, why },
+        Reach::Fails(why) => {
+            let place = Where::Part(index);
+            Naming::Refused(Cause { why, place })
+        }
         Reach::Inside {
             shape,
             place,
@@ -93,10 +97,10 @@ fn declare_step(
         (partsIn (walk (now (name .entry)) from (length (now (name .entry)))))) index (now (keys .entry)) (now (keys .exit)) r ⌝ }
 {
     match step {
-        Step::NotFound(lack) => Naming::Refused {
-            part: index,
+        Step::NotFound(lack) => Naming::Refused(Cause {
             why: why_of(lack),
-        },
+            place: Where::Part(index),
+        }),
         Step::Found(d) => {
             note_key(keys, index as usize, d);
             declare_behind(sheet, name, scope, d, from, index, keys)
