@@ -1,6 +1,5 @@
 -- What is refused nowhere, if at all: the ways to an outcome, and that its answer has neither position.
 -- Assumes nothing.
-use Rattle.reply.specs.Outcome.{Outcome, refused, refuse, unless, nothing, give, push, within, answerOf, Answered}
 use Rattle.basis.specs.Kit.{_≡_, refl, sym, ap, _∙_, Bool, true, false, List, ℕ, ltb, length}
 use Rattle.basis.proofs.Never.{never}
 use Rattle.reply.specs.declared.Refusal.{Refusal}
@@ -11,6 +10,7 @@ use Rattle.reply.specs.declared.Where.the-variants.{Nowhere}
 use Rattle.reply.specs.declared.Cause.{Cause}
 use Rattle.reply.specs.declared.Answer.{Answer}
 use Rattle.reply.specs.Reply.{nowhere, positions, bare, refusedFor}
+use Rattle.reply.specs.Outcome.{Outcome, refused, refuse, unless, nothing, give, push, within, answerOf, Answered}
 use Rattle.places.specs.Places.{Bare, Neither}
 
 module _ {A : Type 0} where

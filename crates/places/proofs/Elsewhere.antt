@@ -1,13 +1,11 @@
 -- Every other call is refused nowhere, if it is.
 -- Assumes nothing.
-use Rattle.basis.specs.Kit.{_≡_, refl, Bool, List, [], _∷_, ℕ, suc, _%_, eqb, ltb, length}
+use Rattle.basis.specs.Kit.{refl, Bool, List, [], _∷_, ℕ, suc, _%_, eqb, ltb, length}
 use lib.IntN.{ℤ}
 use Rattle.limits.specs.Figures.{mostWords}
 use Rattle.reply.specs.declared.Refusal.the-variants.{BadRequest, BeyondLimit, RangeEnd}
 use Rattle.reply.specs.declared.Verdict.{Verdict}
 use Rattle.reply.specs.declared.Verdict.the-variants.{Fine, Refused}
-use Rattle.reply.specs.declared.Answer.{Answer}
-use Rattle.reply.specs.Reply.{nowhere}
 use Rattle.reply.specs.Verdicts.{firstFault, asked}
 use Rattle.reply.specs.Outcome.{Outcome}
 use Rattle.sheetform.specs.Form.{judgeSheet}

@@ -17,8 +17,8 @@ use Rattle.lookups.specs.Lookups.{Lookups, Message}
 use Rattle.steps.specs.declared.Step.{Step}
 use Rattle.steps.specs.declared.Step.the-variants as step
 use Rattle.steps.specs.Steps.{whyOf, stepOf}
-use Rattle.query.specs.Name as name
-use Rattle.query.specs.Name.{Named, names, group, refusedAt, also, declarations}
+use Rattle.naming.specs.Name as name
+use Rattle.naming.specs.Name.{Named, names, group, refusedAt, also, declarations}
 use Rattle.places.specs.Parts.{lacks, no-message, not-message, AtPart}
 use Rattle.places.specs.Places.{nothingBehind}
 use Rattle.places.proofs.PartLaws.{other, PartFault, fault-here, fault-inside}

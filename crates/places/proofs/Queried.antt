@@ -12,13 +12,12 @@ use Rattle.reply.specs.Outcome as outcome
 use Rattle.reply.proofs.VerdictLaws.{refused-fine}
 use Rattle.sheetform.specs.Form.{judgeSheet}
 use Rattle.lookups.specs.Lookups.{Message, walking}
-use Rattle.options.specs.Steps.{records, refused}
 use Rattle.entries.specs.declared.Row.{Row}
 use Rattle.entries.specs.Tree.{Tree}
 use Rattle.entries.specs.Reading.{Under, under, refusedBy as unread, recordsOf}
 use Rattle.following.specs.Reached.{never as joinsNone, reached}
-use Rattle.query.specs.Name.{Named, names, group, refusedAt, declarations}
-use Rattle.query.specs.Query.{ofPart, answered, onNamed, onRecords, queryOf, judgeInputs, queryBy, query}
+use Rattle.naming.specs.Name.{Named, names, group, refusedAt, ofPart, declarations}
+use Rattle.query.specs.Query.{answered, onNamed, onRecords, queryOf, judgeInputs, queryBy, query}
 use Rattle.places.specs.Parts.{AtPart}
 use Rattle.places.specs.Places.{partsOf, nothingBehind, NameRefused, QueryPlaced, Bare}
 use Rattle.places.proofs.PartLaws.{at-below}

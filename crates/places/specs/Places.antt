@@ -45,8 +45,8 @@ use Rattle.options.specs.Resolve.{resolveBytes}
 use Rattle.alone.specs.Alone.{alone}
 use Rattle.entries.specs.Tree.{Tree}
 use Rattle.entries.specs.Reading.{under, recordsOf}
-use Rattle.query.specs.Name.{refusedAt, declarations}
-use Rattle.query.specs.Query.{ofPart, judgeInputs}
+use Rattle.naming.specs.Name.{refusedAt, ofPart, declarations}
+use Rattle.query.specs.Query.{judgeInputs}
 use Rattle.places.specs.Parts.{AtPart, FaultOf}
 
 -- ---- a request

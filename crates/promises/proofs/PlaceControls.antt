@@ -4,7 +4,7 @@
 use Rattle.basis.specs.Kit.{_≡_, refl, List, [], _∷_, _++_, map, ℕ, zero, suc}
 use Rattle.reply.specs.declared.Where.the-variants.{Nowhere, Option}
 use Rattle.promises.proofs.Asking.{Example, asks, bytes, absent, refused, answer}
-use Rattle.sheet.proofs.Sheets.{file, message, value, enum, extensionTo, fieldWith}
+use Rattle.sheet.proofs.Sheets.{file, message, value, enum, extensionTo}
 use Rattle.promises.proofs.Sheets.{extension, field, fieldTo}
 use Rattle.promises.proofs.Sheets.{request, option, direct, ext, boolean, unsigned, string, ident, messageOf, pair, list}
 

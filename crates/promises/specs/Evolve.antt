@@ -17,10 +17,8 @@ use Rattle.reply.specs.declared.Verdict.the-variants.{Fine}
 use Rattle.reply.specs.declared.Answer.{Answer}
 use Rattle.reply.specs.Reply.{doneWith}
 use Rattle.reply.specs.Outcome.{give}
-use Rattle.field.specs.Leaf.{text}
 use Rattle.sheet.specs.Table.{messageTag}
 use Rattle.sheetform.specs.Form.{judgeSheet}
-use Rattle.request.specs.Request.{requestOf}
 use Rattle.fullname.specs.declared.LookedUp.{LookedUp}
 use Rattle.fullname.specs.declared.LookedUp.the-variants.{Message as Found, NoMessage}
 use Rattle.lookups.specs.Lookups.{walking}

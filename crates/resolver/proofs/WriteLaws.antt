@@ -9,7 +9,7 @@ use Rattle.reply.specs.declared.Cause.{Cause}
 use Rattle.judged.specs.declared.Judged.the-variants as judged
 use Rattle.judged.specs.inner.Answering.{Judges, fine, absent, refuses, answerIn}
 use Rattle.judged.proofs.JudgedLaws.{judged-absent, judged-refused, granted-within, judged-written}
-use Rattle.records.specs.Records.{Recs, append, encode}
+use Rattle.records.specs.Records.{append, encode}
 use Rattle.lookups.specs.Lookups.{walking}
 use Rattle.known.specs.Known.{knownRecs}
 use Rattle.options.specs.Options.{Gathered}

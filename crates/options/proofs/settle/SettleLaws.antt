@@ -20,9 +20,9 @@ use Rattle.request.proofs.PartLaws.{parts-nil, parts-cons, after-parts-here, af
 use Rattle.optionform.specs.inner.Parts.{LastConstant, OptionParts}
 use Rattle.optionform.proofs.PartsLaws.{fine-part-next, fine-part-last}
 use Rattle.records.specs.declared.Body.{Body}
-use Rattle.records.specs.Records.{Recs, nil, encode}
+use Rattle.records.specs.Records.{nil, encode}
 use Rattle.records.specs.Made.{Made, made, wrong}
-use Rattle.records.specs.inner.Emits.{Emits, Roomy}
+use Rattle.records.specs.inner.Emits.{Emits}
 use Rattle.records.proofs.EmitsLaws.{Tells, emits-next, emits-refused, emits-laid, refuses}
 use Rattle.lookups.specs.Lookups.{Lookups}
 use Rattle.options.specs.declared.named.Fault.{Fault}
