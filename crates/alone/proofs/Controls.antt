@@ -23,8 +23,8 @@ use Rattle.request.specs.Request.{headingOf, optionOf, optionIn, requestOf}
 use Rattle.lookups.specs.Lookups.{Lookups, Message}
 use Rattle.steps.specs.Steps.{stepOf}
 use Rattle.builtins.specs.Builtins.{isSkipped, builtinOf}
-use Rattle.options.specs.declared.named.Fault.{Fault}
-use Rattle.options.specs.Named.{faultAt}
+use Rattle.faults.specs.declared.Fault.{Fault}
+use Rattle.faults.specs.Faults.{faultAt}
 use Rattle.options.specs.Settle.{settle}
 use Rattle.alone.specs.Alone.{alone, faultOf}
 

@@ -33,8 +33,9 @@ use Rattle.steps.specs.declared.Lack.the-variants.{NoField}
 use Rattle.steps.specs.declared.Step.{Step}
 use Rattle.steps.specs.declared.Step.the-variants.{Found, NotFound}
 use Rattle.steps.specs.Steps.{whyOf, stepExtension, stepOf}
-use Rattle.options.specs.declared.named.Fault.{Fault}
-use Rattle.options.specs.Named.{faultAt, at, onStep, reached, left, optionFrom}
+use Rattle.faults.specs.declared.Fault.{Fault}
+use Rattle.options.specs.Named.{at, onStep, reached, left, optionFrom}
+use Rattle.faults.specs.Faults.{faultAt}
 use Rattle.options.specs.Settle.{settledBuilt, settled, builtinPart, settle}
 use Rattle.alone.specs.Alone.{faultOf}
 use Rattle.alone.proofs.Tests.{by-cases, by-test}

@@ -20,7 +20,7 @@ use Rattle.request.specs.Request as tree
 use Rattle.request.specs.Request.{headingOf, requestOf}
 use Rattle.requestform.specs.Form.{judgeRequest}
 use Rattle.lookups.specs.Lookups.{Lookups, Message}
-use Rattle.options.specs.declared.named.Fault.{Fault}
+use Rattle.faults.specs.declared.Fault.{Fault}
 use Rattle.options.specs.Settle.{Settled, known, others, fails, settle}
 
 abbrev pub fieldBytes : (r : List ℕ) → Walk → (index : ℕ) → List ℕ

@@ -6,8 +6,7 @@
 --
 -- Assumes nothing.
 use Rattle.basis.specs.Kit.{_≡_, refl, sym, ap, _∙_, List, [], ℕ, _+_, _-_, _≤_, _<_, length, drop}
-use Rattle.basis.proofs.Kit.{arith, Fits}
-use mir.Syntax.{w32}
+use Rattle.basis.proofs.Kit.{arith}
 use native.Mathlib.Nat.{add-zero}
 use lib.ListN.{length-append}
 use Rattle.basis.proofs.Never.{never}
@@ -98,8 +97,8 @@ module _ (L : Lookups) (s r : List ℕ) (h : Start) (l m ns₀ ns : List ℕ) (a
   pub gathering-noted : i < length r → n < length ns
   gathering-noted o = omega (arith, reached-few r h n i (u .reached) o, u .kept, u .places)
 
-  pub gathering-counts : Fits w32 n
-  gathering-counts = record { fits = omega (arith, u .reached .count) }
+  pub gathering-counts : n ≤ mostOptions
+  gathering-counts = u .reached .count
 
   module _ (o : i < length r) (f : Field) (q : f ≡ fieldAt r i (length r)) where
     pub gathering-cut : f ≡ Cut → Gathers (madeAt L s r h) (bytesMost (length r)) (gatheredBy L s r h) at l m ns (Gives n p)

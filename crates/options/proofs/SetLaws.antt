@@ -18,7 +18,7 @@ use Rattle.records.specs.Records.{encode}
 use Rattle.records.specs.Made.{Made, made, wrong}
 use Rattle.records.specs.inner.Emits.{bytesMost}
 use Rattle.lookups.specs.Lookups.{Lookups}
-use Rattle.options.specs.declared.named.Fault.{Fault}
+use Rattle.faults.specs.declared.Fault.{Fault}
 use Rattle.options.specs.Named.{optionFrom}
 use Rattle.builtins.specs.declared.Built.{Built}
 use Rattle.builtins.specs.declared.Built.the-variants.{Skipped, Sets, Wrong}

@@ -1,6 +1,5 @@
 -- The steps of an option over the parts of its name, from 01's "Option steps".
 --
---            faultAt i w == the refusal w, as one of the i-th part
 --                 at i x == the records x of a constant, or its refusal as one of the i-th part, the last
 --           onStep i x f == what f makes of the declaration that the i-th part comes to, or the fault of its lack
 --   reached i n name u f == what the message that a look-up u comes to holds, f, in a record of the number n
@@ -26,12 +25,10 @@ use Rattle.values.specs.Values.{on, records}
 use Rattle.steps.specs.declared.Step.{Step}
 use Rattle.steps.specs.declared.Step.the-variants.{Found, NotFound}
 use Rattle.steps.specs.Steps.{whyOf, stepOf}
-use Rattle.options.specs.declared.named.Fault.{Fault}
+use Rattle.faults.specs.declared.Fault.{Fault}
+use Rattle.faults.specs.Faults.{faultAt}
 
-abbrev pub faultAt : (part : ℕ) → Refusal → Fault
-faultAt i w = record { part = i; why = w }
-
--- of a constant's refusal the part is the last one of the name
+-- of a constant's refusal the part is the last one of the name [WHERE-4]
 abbrev pub at : (part : ℕ) → Made Refusal → Made Fault
 at i (made x) = made x
 at i (wrong w) = wrong (faultAt i w)

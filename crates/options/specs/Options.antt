@@ -10,7 +10,8 @@ use Rattle.records.specs.Records.{Recs, append}
 use Rattle.lookups.specs.Lookups.{Lookups, Message}
 use Rattle.known.specs.Known.{Known, setKnown}
 use Rattle.reply.specs.declared.Cause.{Cause}
-use Rattle.options.specs.Settle.{Settled, known, others, fails, causeAt, settle}
+use Rattle.options.specs.Settle.{Settled, known, others, fails, settle}
+use Rattle.faults.specs.Faults.{causeAt}
 
 pub data Gathered : Type 0 where
   gathered : (knowns : List Known) (rest : Recs) → Gathered

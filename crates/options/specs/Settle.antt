@@ -3,7 +3,6 @@
 --                Settled == what one option comes to: a builtin that is set, other records, or a fault
 --         builtinPart ps == the part that is the whole name of a builtin
 --               settle o == what the option o comes to
---            causeAt i f == the fault f of the i-th option
 --
 -- Assumes nothing.
 use Rattle.basis.specs.Kit.{List, [], _∷_, Option, none, some, ℕ}
@@ -15,13 +14,12 @@ use Rattle.records.specs.Records.{Recs, nil, recordOf}
 use Rattle.records.specs.Made.{Made, made, wrong}
 use Rattle.lookups.specs.Lookups.{Lookups, Message}
 use Rattle.known.specs.Known.{Known}
-use Rattle.options.specs.declared.named.Fault.{Fault}
-use Rattle.options.specs.Named.{faultAt, optionFrom}
+use Rattle.faults.specs.declared.Fault.{Fault}
+use Rattle.options.specs.Named.{optionFrom}
+use Rattle.faults.specs.Faults.{faultAt}
 use Rattle.builtins.specs.declared.Built.{Built}
 use Rattle.builtins.specs.declared.Built.the-variants.{Skipped, Sets, Wrong}
 use Rattle.builtins.specs.Builtins.{builtinOf}
-use Rattle.reply.specs.declared.Cause.{Cause}
-use Rattle.reply.specs.declared.Where.the-variants as wheres
 
 -- ---- one option
 pub data Settled : Type 0 where
@@ -43,9 +41,6 @@ abbrev pub builtinPart : List Part → Option Part
 builtinPart [] = none
 builtinPart (p ∷ []) = onlyIf (p .extension) none (some p)
 builtinPart (p ∷ q ∷ ps) = none
-
-abbrev pub causeAt : (option : ℕ) → Fault → Cause
-causeAt i f = record { why = f .why; place = wheres.Option i (f .part) }
 
 module _ (L : Lookups) (s r scope : List ℕ) (m : Message) where
   -- "Other names resolve the first part in the options message" [STEP-5]

@@ -8,29 +8,18 @@ ghost use Rattle.lookups.specs.Lookups.{walking};
 ghost use Rattle.steps.specs.inner.Reached.{message as messageOf};
 ghost use Rattle.options.specs.Named.{at as atPart};
 ghost use Rattle.options.specs.inner.Written.{steppedOf, Steppable, constantMade, optionMade};
+use faults::Fault;
+use faults::Stepped;
+use faults::on_last;
 use field::Field;
 use field::field_at;
 use limits::MOST_CONSTANTS;
-use records::Wrote;
 use records::put_head;
-use reply::Refusal;
 use scope::lookup::LookupScope;
 use sheet::declaration::Shape;
 use steps::Reach;
 use steps::reach_of;
 use values::put_value;
-
-// Why an option is refused, and at which part of its name, counted from 0.
-pub struct Fault {
-    pub part: u32,
-    pub why: Refusal,
-}
-
-// What the step over name parts answers: the place after what it wrote, or the fault.
-pub enum Stepped {
-    Next(usize),
-    Refused(Fault),
-}
 
 // The constant at a place, which an option ends with, on a field of that shape; its refusal is one of this part.
 fn put_constant(
@@ -58,10 +47,8 @@ fn put_constant(
     else {
         return Stepped::Next(at);
     };
-    match put_value(sheet, request, shape, tag, a, e, MOST_CONSTANTS, out, at) {
-        Wrote::Next(next) => Stepped::Next(next),
-        Wrote::Refused(why) => Stepped::Refused(Fault { part, why }),
-    }
+    let wrote = put_value(sheet, request, shape, tag, a, e, MOST_CONSTANTS, out, at);
+    on_last(part, wrote)
 }
 
 // The record of a message that parts go inside: they are measured in no room, and written only where there is some.

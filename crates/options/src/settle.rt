@@ -1,5 +1,6 @@
 // One option in the options message: a builtin, or the steps over the parts of its name.
 ghost use Rattle.basis.specs.Kit.{_≡_, [], _+_, _-_, _^_, _≤_, _<_, length};
+ghost use Rattle.limits.specs.Figures.{mostOptions};
 ghost use Rattle.octets.specs.inner.Laid.{Laid};
 ghost use Rattle.field.specs.Leaf.{text, Lies};
 ghost use Rattle.field.specs.Walk.{walk};
@@ -13,16 +14,17 @@ ghost use Rattle.builtins.specs.inner.Inside.{InBuilt};
 ghost use Rattle.options.specs.Settle.{settledBuilt, builtinPart};
 ghost use Rattle.options.specs.inner.Written.{constantAt, optionMade};
 ghost use Rattle.options.specs.inner.Settling.{messageOf, settledAt, parted, othersOf, noteIn, setRecs, settlingOf, Started};
-use crate::named::Stepped;
 use crate::named::put_option;
 use builtins::Built;
 use builtins::builtin_of;
 use builtins::put_builtin;
+use faults::Fault;
+use faults::Stepped;
+use faults::cause_at;
 use field::Field;
 use field::Span;
 use field::field_at;
 use reply::Cause;
-use reply::Where;
 use request::name::Part;
 use request::name::Parted;
 use request::name::part_at;
@@ -95,7 +97,8 @@ fn built_at(sheet: &[u8], request: &[u8], start: Start, part: Part, to: usize) -
 }
 
 // What is answered of a builtin: nothing is written yet.
-fn settled_built(built: Built, option: u32, at: usize) -> Settling
+fn settled_built(built: Built, option: usize, at: usize) -> Settling
+    requires { ⌜ option ≤ mostOptions ⌝ }
     ensures { λ r. ⌜ r ≡ settlingOf option (noteIn (settledBuilt [] built)) at (othersOf (settledBuilt [] built)) ⌝ }
 {
     match built {
@@ -104,10 +107,7 @@ fn settled_built(built: Built, option: u32, at: usize) -> Settling
             note: shape.number as usize + 1,
             next: at,
         },
-        Built::Wrong(why) => Settling::Fails(Cause {
-            why: why,
-            place: Where::Option(option, 0),
-        }),
+        Built::Wrong(why) => Settling::Fails(cause_at(option, Fault { part: 0, why })),
     }
 }
 
@@ -116,13 +116,14 @@ fn settle_named(
     sheet: &[u8],
     request: &[u8],
     start: Start,
-    option: u32,
+    option: usize,
     from: usize,
     to: usize,
     out: &mut [u8],
     at: usize,
 ) -> Settling
     requires { ⌜ Started (now sheet) (now request) start ⌝ }
+    requires { ⌜ option ≤ mostOptions ⌝ }
     requires { ⌜ (from ≤ to) × (to ≤ length (now request)) ⌝ }
     requires { ⌜ OptionParts (now request) from to ⌝ }
     requires { ⌜ Roomy at (to - from) (now request) ⌝ }
@@ -150,13 +151,7 @@ fn settle_named(
             note: 0,
             next: next,
         },
-        Stepped::Refused(fault) => {
-            let why = fault.why;
-            Settling::Fails(Cause {
-                why: why,
-                place: Where::Option(option, fault.part),
-            })
-        }
+        Stepped::Refused(fault) => Settling::Fails(cause_at(option, fault)),
     }
 }
 
@@ -165,13 +160,14 @@ pub fn settle(
     sheet: &[u8],
     request: &[u8],
     start: Start,
-    option: u32,
+    option: usize,
     from: usize,
     to: usize,
     out: &mut [u8],
     at: usize,
 ) -> Settling
     requires { ⌜ Started (now sheet) (now request) start ⌝ }
+    requires { ⌜ option ≤ mostOptions ⌝ }
     requires { ⌜ (from ≤ to) × (to ≤ length (now request)) ⌝ }
     requires { ⌜ OptionParts (now request) from to ⌝ }
     requires { ⌜ Roomy at (to - from) (now request) ⌝ }

@@ -31,8 +31,9 @@ use Rattle.requestform.specs.Form.{judgeRequest}
 use Rattle.records.specs.Records.{Recs, nil}
 use Rattle.lookups.specs.Lookups.{Lookups, Message, walking}
 use Rattle.known.specs.Known.{Known}
-use Rattle.options.specs.declared.named.Fault.{Fault}
-use Rattle.options.specs.Settle.{Settled, known, others, fails, causeAt, settle}
+use Rattle.faults.specs.declared.Fault.{Fault}
+use Rattle.options.specs.Settle.{Settled, known, others, fails, settle}
+use Rattle.faults.specs.Faults.{causeAt}
 use Rattle.options.specs.Options.{Gathered, gathered, stopped, next, gather}
 use Rattle.options.specs.Steps.{Steps, refused, stepsIn, onType, someOptions, requestSteps, stepsOf, resolvingBy, resolving}
 use Rattle.alone.specs.Alone.{faultOf}

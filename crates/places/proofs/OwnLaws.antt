@@ -12,8 +12,9 @@ use Rattle.request.specs.Request as tree
 use Rattle.request.specs.Request.{requestOf}
 use Rattle.records.specs.Records.{Recs, nil}
 use Rattle.lookups.specs.Lookups.{walking}
-use Rattle.options.specs.declared.named.Fault.{Fault}
-use Rattle.options.specs.Settle.{Settled, known, others, fails, causeAt, settle}
+use Rattle.faults.specs.declared.Fault.{Fault}
+use Rattle.options.specs.Settle.{Settled, known, others, fails, settle}
+use Rattle.faults.specs.Faults.{causeAt}
 use Rattle.options.specs.Options.{gather}
 use Rattle.options.specs.Steps.{records, refused, stepsIn, onType, resolving}
 use Rattle.alone.specs.Alone.{alone, faultOf, Own}

@@ -32,8 +32,9 @@ use Rattle.builtins.specs.Builtins.{builtinOf}
 use Rattle.steps.specs.declared.Step.{Step}
 use Rattle.steps.specs.declared.Step.the-variants as step
 use Rattle.steps.specs.Steps.{whyOf, stepOf}
-use Rattle.options.specs.declared.named.Fault.{Fault}
-use Rattle.options.specs.Named.{faultAt, at, onStep, left, reached, optionFrom}
+use Rattle.faults.specs.declared.Fault.{Fault}
+use Rattle.options.specs.Named.{at, onStep, left, reached, optionFrom}
+use Rattle.faults.specs.Faults.{faultAt}
 use Rattle.options.specs.Settle.{fails, settledBuilt, settled, builtinPart, settle}
 use Rattle.places.specs.Parts.{Means, here, inside, Blamed, lacks, no-message, not-message, ends, AtPart, onLast, FaultOf, builtin, named}
 

@@ -20,8 +20,8 @@ use Rattle.requestform.specs.Form.{judgeRequest}
 use Rattle.requestform.proofs.FineLaws.{fine-few-options}
 use Rattle.records.specs.Records.{Recs, encode}
 use Rattle.lookups.specs.Lookups.{walking}
-use Rattle.options.specs.declared.named.Fault.{Fault}
-use Rattle.options.specs.Settle.{causeAt}
+use Rattle.faults.specs.declared.Fault.{Fault}
+use Rattle.faults.specs.Faults.{causeAt}
 use Rattle.options.specs.Steps.{Steps, records, absent, refused, resolving}
 use Rattle.options.specs.Resolve.{outcomeOf, resolveBytes}
 use Rattle.alone.specs.Alone.{alone}

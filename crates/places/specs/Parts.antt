@@ -29,8 +29,8 @@ use Rattle.builtins.specs.Builtins.{builtinOf}
 use Rattle.steps.specs.declared.Lack.{Lack}
 use Rattle.steps.specs.declared.Step.the-variants as step
 use Rattle.steps.specs.Steps.{whyOf, stepOf}
-use Rattle.options.specs.declared.named.Fault.{Fault}
-use Rattle.options.specs.Named.{faultAt}
+use Rattle.faults.specs.declared.Fault.{Fault}
+use Rattle.faults.specs.Faults.{faultAt}
 use Rattle.options.specs.Settle.{builtinPart}
 
 module _ (L : Lookups) (s r scope : List ℕ) where

@@ -39,8 +39,9 @@ use Rattle.request.specs.Name.{partsIn}
 use Rattle.request.specs.Request.{Option, requestOf}
 use Rattle.requestform.specs.Form.{judgeRequest}
 use Rattle.lookups.specs.Lookups.{Message, walking}
-use Rattle.options.specs.declared.named.Fault.{Fault}
-use Rattle.options.specs.Settle.{Settled, fails, causeAt, settle}
+use Rattle.faults.specs.declared.Fault.{Fault}
+use Rattle.options.specs.Settle.{Settled, fails, settle}
+use Rattle.faults.specs.Faults.{causeAt}
 use Rattle.options.specs.Resolve.{resolveBytes}
 use Rattle.alone.specs.Alone.{alone}
 use Rattle.entries.specs.Tree.{Tree}

@@ -47,12 +47,13 @@ use Rattle.records.specs.Raw.{rawOf, rawsOf, Proper}
 use Rattle.records.proofs.ReadBack as encoding
 use Rattle.lookups.specs.Lookups.{Lookups, Message, walking}
 use Rattle.known.specs.Known.{Known}
-use Rattle.options.specs.declared.named.Fault.{Fault}
+use Rattle.faults.specs.declared.Fault.{Fault}
 use Rattle.steps.specs.declared.Lack.{Lack}
 use Rattle.steps.specs.declared.Lack.the-variants.{NoExtension, OtherMessage}
 use Rattle.steps.specs.declared.Step.the-variants.{NotFound}
 use Rattle.steps.specs.Steps.{whyOf, stepOf}
-use Rattle.options.specs.Settle.{fails, causeAt, settle}
+use Rattle.options.specs.Settle.{fails, settle}
+use Rattle.faults.specs.Faults.{causeAt}
 use Rattle.options.specs.Options.{stopped, gather}
 use Rattle.options.specs.Steps.{records}
 use Rattle.options.specs.Resolve.{resolving, resolveBytes, resolveTested}

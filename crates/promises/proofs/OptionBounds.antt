@@ -44,11 +44,12 @@ use Rattle.scalars.specs.declared.Scalar.the-variants.{Fits, Misfit}
 use Rattle.scalars.specs.Scalars.{scalarOn, unsupported}
 use Rattle.values.specs.Values.{on, records}
 use Rattle.known.specs.Known.{Known}
-use Rattle.options.specs.declared.named.Fault.{Fault}
+use Rattle.faults.specs.declared.Fault.{Fault}
 use Rattle.steps.specs.declared.Step.{Step}
 use Rattle.steps.specs.declared.Step.the-variants.{Found, NotFound}
 use Rattle.steps.specs.Steps.{stepOf}
-use Rattle.options.specs.Named.{faultAt, at, onStep, reached, left, optionFrom}
+use Rattle.options.specs.Named.{at, onStep, reached, left, optionFrom}
+use Rattle.faults.specs.Faults.{faultAt}
 use Rattle.builtins.specs.declared.Built.the-variants.{Skipped, Wrong}
 use Rattle.builtins.specs.Builtins.{repeated, isSkipped, builtOf, builtinOn, builtinField, builtinOf}
 use Rattle.options.specs.Settle.{Settled, known, others, fails, settledBuilt, settled, builtinPart, settle}

@@ -28,10 +28,11 @@ use Rattle.known.specs.Known.{Known}
 use Rattle.steps.specs.declared.Lack.{Lack}
 use Rattle.steps.specs.declared.Lack.the-variants.{NoField, NoExtension, OtherMessage}
 use Rattle.steps.specs.declared.Step.the-variants.{NotFound}
-use Rattle.options.specs.declared.named.Fault.{Fault}
+use Rattle.faults.specs.declared.Fault.{Fault}
 use Rattle.steps.specs.Steps.{whyOf, stepExtension, stepOf}
-use Rattle.options.specs.Named.{faultAt, optionFrom}
-use Rattle.options.specs.Settle.{Settled, known, others, fails, causeAt, settle}
+use Rattle.options.specs.Named.{optionFrom}
+use Rattle.faults.specs.Faults.{faultAt, causeAt}
+use Rattle.options.specs.Settle.{Settled, known, others, fails, settle}
 use Rattle.options.specs.Options.{stopped, next, gather}
 
 -- ---- an extension part that is reached

@@ -49,8 +49,9 @@ use Rattle.steps.specs.declared.Step.{Step}
 use Rattle.steps.specs.declared.Step.the-variants.{Found as Is, NotFound}
 use Rattle.steps.specs.declared.Lack.the-variants.{NoField}
 use Rattle.steps.specs.Steps.{stepExtension, stepOf}
-use Rattle.options.specs.declared.named.Fault.{Fault}
-use Rattle.options.specs.Named.{faultAt, at, onStep, left, optionFrom}
+use Rattle.faults.specs.declared.Fault.{Fault}
+use Rattle.options.specs.Named.{at, onStep, left, optionFrom}
+use Rattle.faults.specs.Faults.{faultAt}
 use Rattle.options.specs.Named as named
 use Rattle.builtins.specs.declared.Built.the-variants.{Skipped, Wrong}
 use Rattle.builtins.specs.Builtins.{repeated, isSkipped, builtOf, builtinOn, builtinField, builtinOf}

@@ -16,14 +16,15 @@ use Rattle.request.proofs.PartLaws.{parts-nil, parts-cons, after-parts-here, af
 use Rattle.records.specs.Records.{nil}
 use Rattle.records.specs.Made.{Made, made, wrong, holding}
 use Rattle.lookups.specs.Lookups.{Lookups, Message}
-use Rattle.options.specs.declared.named.Fault.{Fault}
+use Rattle.faults.specs.declared.Fault.{Fault}
 use Rattle.steps.specs.declared.Step.{Step}
 use Rattle.steps.specs.declared.Step.the-variants.{Found, NotFound}
 use Rattle.steps.specs.declared.Reach.{Reach}
 use Rattle.steps.specs.declared.Reach.the-variants.{Constant, Inside, Nothing, Fails}
 use Rattle.steps.specs.Steps.{stepOf}
 use Rattle.steps.specs.inner.Reached.{message, entered, leftOn, followed, behind, stepped, firstPart, reachOf}
-use Rattle.options.specs.Named.{faultAt, at, onStep, reached, left, optionFrom}
+use Rattle.options.specs.Named.{at, onStep, reached, left, optionFrom}
+use Rattle.faults.specs.Faults.{faultAt}
 use Rattle.options.specs.inner.Written.{constantAt, constantMade, optionMade}
 
 module _ (L : Lookups) (s r scope : List ℕ) where

@@ -24,13 +24,14 @@ use Rattle.records.proofs.InsideLaws.{inside-laws}
 use Rattle.lookups.specs.Lookups.{Lookups}
 use Rattle.values.specs.Values.{on, records}
 use Rattle.values.specs.inner.Writers.{valueMade}
-use Rattle.options.specs.declared.named.Fault.{Fault}
-use Rattle.options.specs.declared.named.Stepped.{Stepped}
-use Rattle.options.specs.declared.named.Stepped.the-variants.{Next, Refused}
+use Rattle.faults.specs.declared.Fault.{Fault}
+use Rattle.faults.specs.declared.Stepped.{Stepped}
+use Rattle.faults.specs.declared.Stepped.the-variants.{Next, Refused}
 use Rattle.steps.specs.declared.Reach.{Reach}
 use Rattle.steps.specs.declared.Reach.the-variants.{Constant, Inside, Nothing, Fails}
 use Rattle.steps.specs.inner.Reached.{message, reachOf, Led}
-use Rattle.options.specs.Named.{faultAt, at as atPart}
+use Rattle.options.specs.Named.{at as atPart}
+use Rattle.faults.specs.Faults.{faultAt, onLast}
 use Rattle.options.specs.inner.Written.{steppedOf, constantMade, optionMade}
 use Rattle.options.proofs.settle.LedPlaces.{led-places}
 use Rattle.options.proofs.settle.OptionLaws.{option-of}
@@ -70,7 +71,7 @@ module _ (L : Lookups) (s r : List ℕ) (h : Shape) (from to : ℕ) (f : Field) 
 
     module _ (l : List ℕ) (at : ℕ) (l′ : List ℕ) (y : Wrote)
         (u : Emits wroteOf (valueMade L s r h mostConstants t a e) (bytesMost (3 + (e - a))) l at l′ y) where
-      pub constant-next : (n : ℕ) → y ≡ Wrote-next n → (i : ℕ)
+      constant-next : (n : ℕ) → y ≡ Wrote-next n → (i : ℕ)
           → Emits steppedOf (atPart i (constantMade L s r h from to)) (bytesMost (to - from)) l at l′ (Next n)
       constant-next n z i =
           let x = emits-next wrote-tells (valueMade L s r h mostConstants t a e) n u z in
@@ -78,13 +79,22 @@ module _ (L : Lookups) (s r : List ℕ) (h : Shape) (from to : ℕ) (f : Field) 
           emits-laid stepped-tells (x .recs) n (x .laid) (ap (atPart i) (constant-value ∙ x .is))
           (omega (arith, x .few, b .starts, b .ordered, b .inside)) refl
 
-      pub constant-refused : (w : Refusal) → y ≡ Wrote-refused w → (i : ℕ)
+      constant-refused : (w : Refusal) → y ≡ Wrote-refused w → (i : ℕ)
           → Emits steppedOf (atPart i (constantMade L s r h from to)) (bytesMost (to - from)) l at l′ (Refused (faultAt i w))
       constant-refused w z i =
           refuses stepped-tells (faultAt i w)
           (ap (atPart i) (constant-value ∙ emits-refused wrote-tells (valueMade L s r h mostConstants t a e) w u z)) refl
 
-pub ruleset constant-laws = (constant-cut, constant-room, constant-next, constant-refused, field-ordered, field-within)
+      pub constant-last : (i : ℕ) (z : Stepped) → z ≡ onLast i y
+          → Emits steppedOf (atPart i (constantMade L s r h from to)) (bytesMost (to - from)) l at l′ z
+      constant-last i z o = rw o (go y refl)
+        where
+          go : (x : Wrote) → y ≡ x
+              → Emits steppedOf (atPart i (constantMade L s r h from to)) (bytesMost (to - from)) l at l′ (onLast i x)
+          go (Wrote-next n) k = constant-next n k i
+          go (Wrote-refused w) k = constant-refused w k i
+
+pub ruleset constant-laws = (constant-cut, constant-room, constant-last, field-ordered, field-within)
 
 -- ---- put_inside
 pub inside-falls : (from to n : ℕ) → 2 * (to - from) + 1 ≡ n → 2 * (to - from) < n

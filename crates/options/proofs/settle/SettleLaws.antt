@@ -25,9 +25,9 @@ use Rattle.records.specs.Made.{Made, made, wrong}
 use Rattle.records.specs.inner.Emits.{Emits}
 use Rattle.records.proofs.EmitsLaws.{Tells, emits-next, emits-refused, emits-laid, refuses}
 use Rattle.lookups.specs.Lookups.{Lookups}
-use Rattle.options.specs.declared.named.Fault.{Fault}
-use Rattle.options.specs.declared.named.Stepped.{Stepped}
-use Rattle.options.specs.declared.named.Stepped.the-variants.{Next, Refused}
+use Rattle.faults.specs.declared.Fault.{Fault}
+use Rattle.faults.specs.declared.Stepped.{Stepped}
+use Rattle.faults.specs.declared.Stepped.the-variants.{Next, Refused}
 use Rattle.options.specs.inner.Written.{constantAt, steppedOf, optionMade, Steppable}
 use Rattle.options.proofs.settle.PutLaws.{stepped-tells}
 use Rattle.builtins.specs.declared.Built.{Built}
@@ -38,7 +38,8 @@ use Rattle.reply.specs.declared.Cause.{Cause}
 use Rattle.options.specs.declared.settle.Start.{Start}
 use Rattle.options.specs.declared.settle.Settling.{Settling}
 use Rattle.options.specs.declared.settle.Settling.the-variants.{Gives, Fails}
-use Rattle.options.specs.Settle.{settledBuilt, settled, builtinPart, causeAt, settle}
+use Rattle.options.specs.Settle.{settledBuilt, settled, builtinPart, settle}
+use Rattle.faults.specs.Faults.{faultAt, causeAt}
 use Rattle.options.specs.inner.Settling.{messageOf, settledAt, parted, othersOf, noteIn, setRecs, settlingOf, Started}
 
 -- ---- settled_built
@@ -52,10 +53,10 @@ module _ (b : Built) (i at : ℕ) where
   unfolding settlingOf encode
   built-sets h y g = rw (g, add-zero at) refl
 
-  pub built-wrong : (w : Refusal) → b ≡ Wrong w
-      → Fails (record { why = w; place = wheres.Option i 0 }) ≡ settlingOf i (noteIn (settledBuilt [] b)) at (othersOf (settledBuilt [] b))
+  pub built-wrong : (w : Refusal) → b ≡ Wrong w → (y : Cause) → y ≡ causeAt i (faultAt 0 w)
+      → Fails y ≡ settlingOf i (noteIn (settledBuilt [] b)) at (othersOf (settledBuilt [] b))
   unfolding settlingOf
-  built-wrong w g = rw g refl
+  built-wrong w g y e = rw (g, e) refl
 
 pub ruleset settled-built-laws = (built-skipped, built-sets, built-wrong)
 
@@ -84,8 +85,8 @@ module _ (m : Made Fault) (k : ℕ) (l : List ℕ) (at : ℕ) (l′ : List ℕ) 
       let x = emits-next stepped-tells m n u g in
       emits-laid (settling-tells i 0) (x .recs) n (x .laid) (x .is) (x .few) refl
 
-  pub named-refused : (f : Fault) → y ≡ Refused f → Emits (settlingOf i 0) m k l at l′ (Fails (record { why = f .why; place = wheres.Option i (f .part) }))
-  named-refused f g = refuses (settling-tells i 0) f (emits-refused stepped-tells m f u g) refl
+  pub named-refused : (f : Fault) → y ≡ Refused f → (z : Cause) → z ≡ causeAt i f → Emits (settlingOf i 0) m k l at l′ (Fails z)
+  named-refused f g z e = rw e (refuses (settling-tells i 0) f (emits-refused stepped-tells m f u g) refl)
 
 module _ (s r : List ℕ) (h : Start) (k : Started s r h) where
   pub start-scope-ordered : h .scope .from ≤ h .scope .to

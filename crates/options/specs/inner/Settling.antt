@@ -25,11 +25,12 @@ use Rattle.records.specs.Records.{Recs, nil, encode}
 use Rattle.records.specs.Made.{Made, made, wrong}
 use Rattle.lookups.specs.Lookups.{Lookups, Message}
 use Rattle.known.specs.inner.Notes.{noteOf}
-use Rattle.options.specs.declared.named.Fault.{Fault}
+use Rattle.faults.specs.declared.Fault.{Fault}
 use Rattle.options.specs.declared.settle.Start.{Start}
 use Rattle.options.specs.declared.settle.Settling.{Settling}
 use Rattle.options.specs.declared.settle.Settling.the-variants.{Gives, Fails}
-use Rattle.options.specs.Settle.{Settled, known, others, fails, causeAt, settle}
+use Rattle.options.specs.Settle.{Settled, known, others, fails, settle}
+use Rattle.faults.specs.Faults.{causeAt}
 
 abbrev pub messageOf : (request : List ℕ) → Start → Message
 messageOf r h = record { name = text r (h .«options_type»); place = h .place }

@@ -24,9 +24,9 @@ use Rattle.records.specs.Records.{encode}
 use Rattle.records.specs.Made.{Made, made, wrong}
 use Rattle.lookups.specs.Lookups.{Lookups, Message}
 use Rattle.values.specs.Values.{on, records}
-use Rattle.options.specs.declared.named.Fault.{Fault}
-use Rattle.options.specs.declared.named.Stepped.{Stepped}
-use Rattle.options.specs.declared.named.Stepped.the-variants.{Next, Refused}
+use Rattle.faults.specs.declared.Fault.{Fault}
+use Rattle.faults.specs.declared.Stepped.{Stepped}
+use Rattle.faults.specs.declared.Stepped.the-variants.{Next, Refused}
 use Rattle.options.specs.Named.{optionFrom}
 
 unfoldable pub steppedOf : (at : ℕ) → Made Fault → Stepped

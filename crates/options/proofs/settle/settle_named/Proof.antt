@@ -15,6 +15,7 @@ settle-named-spec = tie.close (tie.spec
     (λ c κs. search settle-named-laws)
     (λ c. search)
     (λ c. search)
+    (λ c κs. search)
     (λ c. search)
     (λ c. search settle-named-laws)
     (λ c. search)

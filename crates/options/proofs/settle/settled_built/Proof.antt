@@ -12,6 +12,7 @@ settled-built-spec = tie.close (tie.spec
     (λ c. search needs)
     (λ c. search needs)
     (λ c. search)
+    (λ c κs. search)
     (λ c. search settled-built-laws)
     (λ c. search settled-built-laws)
     (λ c. search settled-built-laws))
