@@ -34,7 +34,7 @@ use Rattle.reply.specs.declared.Cause.{Cause}
 use Rattle.options.specs.declared.settle.Settling.{Settling}
 use Rattle.options.specs.declared.settle.Settling.the-variants.{Gives, Fails}
 use Rattle.options.specs.Settle.{Settled, known, others, fails}
-use Rattle.options.specs.inner.Settling.{messageOf, settledAt, othersOf, noteIn, setRecs, settlingOf}
+use Rattle.options.specs.inner.Settling.{messageOf, settledAt, othersOf, noteIn, setRecs, settlingOf, Started, Settleable}
 use Rattle.options.specs.Options.{Gathered, stopped, next, gather}
 use Rattle.options.specs.inner.Gathering.{optionsOf, gatheredBy, madeAt, FineFrom, Gathers, gives, stops}
 use Rattle.options.proofs.ReachedLaws.{Reached, reached-start, reached-end, reached-cut, reached-parts, reached-few, reached-fits}
@@ -97,18 +97,25 @@ module _ (L : Lookups) (s r : List ℕ) (h : Start) (l m ns₀ ns : List ℕ) (a
   pub gathering-noted : i < length r → n < length ns
   gathering-noted o = omega (arith, reached-few r h n i (u .reached) o, u .kept, u .places)
 
-  pub gathering-counts : n ≤ mostOptions
-  gathering-counts = u .reached .count
-
   module _ (o : i < length r) (f : Field) (q : f ≡ fieldAt r i (length r)) where
     pub gathering-cut : f ≡ Cut → Gathers (madeAt L s r h) (bytesMost (length r)) (gatheredBy L s r h) at l m ns (Gives n p)
     gathering-cut g = reached-cut r h n i (u .reached) o f q g
 
     module _ (t a e : ℕ) (g : f ≡ Whole t a e) where
-      pub gathering-room : Roomy at (length r) r → Roomy p (e - a) r
+      gathering-room : Roomy at (length r) r → Roomy p (e - a) r
       gathering-room k =
           let x = reached-next r h n i (u .reached) o f q t a e g in
           record { room = omega (arith, k .room, u .few, u .laid .next, x .inside, reached-size r h n i (u .reached) o f q t a e g) }
+
+      pub gathering-settleable : Started s r h → Roomy at (length r) r → Settleable s r h n a e p
+      gathering-settleable y k = record {
+        started = y;
+        count = u .reached .count;
+        ordered = field-ordered r i (length r) f q t a e g;
+        within = reached-next r h n i (u .reached) o f q t a e g .inside;
+        parts = reached-parts r h n i (u .reached) o f q t a e g;
+        room = gathering-room k;
+      }
 
       -- what is come to by what this option comes to
       gathering-whole : (v : Settled) → v ≡ settledAt L s r h a e
@@ -185,12 +192,10 @@ pub ruleset gather-laws = (
   gathering-notes,
   gathering-end,
   gathering-cut,
-  gathering-room,
+  gathering-settleable,
   gathering-noted,
-  gathering-counts,
   gathering-refused,
   gathering-next,
-  reached-parts,
   reached-fits,
   field-place-laws,
 )

@@ -7,13 +7,13 @@ ghost use Rattle.field.specs.Walk.{walk};
 ghost use Rattle.request.specs.Name.{partsIn};
 ghost use Rattle.optionform.specs.inner.Parts.{OptionParts, LastConstant};
 ghost use Rattle.records.specs.Records.{encode};
-ghost use Rattle.records.specs.inner.Emits.{bytesMost, Emits, Roomy};
+ghost use Rattle.records.specs.inner.Emits.{bytesMost, Emits};
 ghost use Rattle.lookups.specs.Lookups.{walking};
 ghost use Rattle.builtins.specs.Builtins.{builtinOf};
 ghost use Rattle.builtins.specs.inner.Inside.{InBuilt};
 ghost use Rattle.options.specs.Settle.{settledBuilt, builtinPart};
 ghost use Rattle.options.specs.inner.Written.{constantAt, optionMade};
-ghost use Rattle.options.specs.inner.Settling.{messageOf, settledAt, parted, othersOf, noteIn, setRecs, settlingOf, Started};
+ghost use Rattle.options.specs.inner.Settling.{messageOf, settledAt, parted, othersOf, noteIn, setRecs, settlingOf, Started, Settleable};
 use crate::named::put_option;
 use builtins::Built;
 use builtins::builtin_of;
@@ -122,11 +122,7 @@ fn settle_named(
     out: &mut [u8],
     at: usize,
 ) -> Settling
-    requires { ⌜ Started (now sheet) (now request) start ⌝ }
-    requires { ⌜ option ≤ mostOptions ⌝ }
-    requires { ⌜ (from ≤ to) × (to ≤ length (now request)) ⌝ }
-    requires { ⌜ OptionParts (now request) from to ⌝ }
-    requires { ⌜ Roomy at (to - from) (now request) ⌝ }
+    requires { ⌜ Settleable (now sheet) (now request) start option from to at ⌝ }
     ensures { λ r. ⌜ Emits (settlingOf option 0) (optionMade (walking (now (sheet .entry))) (now (sheet .entry)) (now (request .entry))
         (text (now (request .entry)) (start .scope)) 0 (messageOf (now (request .entry)) start) from to) (bytesMost (to - from))
         (now (out .entry)) at (now (out .exit)) r ⌝ }
@@ -166,11 +162,7 @@ pub fn settle(
     out: &mut [u8],
     at: usize,
 ) -> Settling
-    requires { ⌜ Started (now sheet) (now request) start ⌝ }
-    requires { ⌜ option ≤ mostOptions ⌝ }
-    requires { ⌜ (from ≤ to) × (to ≤ length (now request)) ⌝ }
-    requires { ⌜ OptionParts (now request) from to ⌝ }
-    requires { ⌜ Roomy at (to - from) (now request) ⌝ }
+    requires { ⌜ Settleable (now sheet) (now request) start option from to at ⌝ }
     ensures { λ r. ⌜ Emits (settlingOf option (noteIn (settledAt (walking (now (sheet .entry))) (now (sheet .entry)) (now (request .entry))
         start from to)))
         (othersOf (settledAt (walking (now (sheet .entry))) (now (sheet .entry)) (now (request .entry)) start from to)) (bytesMost (to - from))

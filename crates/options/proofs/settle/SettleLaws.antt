@@ -6,6 +6,7 @@ use Rattle.basis.proofs.Kit.{arith}
 use mathlib.Core.Path.{subst}
 use native.Mathlib.Nat.{add-zero}
 use Rattle.basis.proofs.Never.{never}
+use Rattle.limits.specs.Figures.{mostOptions}
 use Rattle.octets.specs.inner.Laid.{Laid}
 use Rattle.reply.specs.declared.Refusal.{Refusal}
 use Rattle.field.specs.Leaf.{text}
@@ -22,7 +23,7 @@ use Rattle.optionform.proofs.PartsLaws.{fine-part-next, fine-part-last}
 use Rattle.records.specs.declared.Body.{Body}
 use Rattle.records.specs.Records.{nil, encode}
 use Rattle.records.specs.Made.{Made, made, wrong}
-use Rattle.records.specs.inner.Emits.{Emits}
+use Rattle.records.specs.inner.Emits.{Emits, Roomy}
 use Rattle.records.proofs.EmitsLaws.{Tells, emits-next, emits-refused, emits-laid, refuses}
 use Rattle.lookups.specs.Lookups.{Lookups}
 use Rattle.faults.specs.declared.Fault.{Fault}
@@ -40,7 +41,7 @@ use Rattle.options.specs.declared.settle.Settling.{Settling}
 use Rattle.options.specs.declared.settle.Settling.the-variants.{Gives, Fails}
 use Rattle.options.specs.Settle.{settledBuilt, settled, builtinPart, settle}
 use Rattle.faults.specs.Faults.{faultAt, causeAt}
-use Rattle.options.specs.inner.Settling.{messageOf, settledAt, parted, othersOf, noteIn, setRecs, settlingOf, Started}
+use Rattle.options.specs.inner.Settling.{messageOf, settledAt, parted, othersOf, noteIn, setRecs, settlingOf, Started, Settleable}
 
 -- ---- settled_built
 module _ (b : Built) (i at : ℕ) where
@@ -88,25 +89,57 @@ module _ (m : Made Fault) (k : ℕ) (l : List ℕ) (at : ℕ) (l′ : List ℕ) 
   pub named-refused : (f : Fault) → y ≡ Refused f → (z : Cause) → z ≡ causeAt i f → Emits (settlingOf i 0) m k l at l′ (Fails z)
   named-refused f g z e = rw e (refuses (settling-tells i 0) f (emits-refused stepped-tells m f u g) refl)
 
-module _ (s r : List ℕ) (h : Start) (k : Started s r h) where
+module _ (s r : List ℕ) (h : Start) (option from to at : ℕ) (k : Settleable s r h option from to at) where
   pub start-scope-ordered : h .scope .from ≤ h .scope .to
-  start-scope-ordered = k .scope .0
+  start-scope-ordered = k .started .scope .0
 
   pub start-scope-within : h .scope .to ≤ length r
-  start-scope-within = k .scope .1
+  start-scope-within = k .started .scope .1
 
   pub start-type-ordered : h .«options_type» .from ≤ h .«options_type» .to
-  start-type-ordered = k .type .0
+  start-type-ordered = k .started .type .0
 
   pub start-type-within : h .«options_type» .to ≤ length r
-  start-type-within = k .type .1
+  start-type-within = k .started .type .1
 
-  pub start-steppable : (from to : ℕ) → from ≤ to → to ≤ length r → OptionParts r from to
-      → Steppable s r (text r (h .scope)) (h .place) from to 0
-  start-steppable from to i j o =
-      record { ordered = i; within = j; parts = o; path = k .path; place = k .place; few = omega (arith, k .short) }
+  pub start-steppable : Steppable s r (text r (h .scope)) (h .place) from to 0
+  start-steppable = record {
+    ordered = k .ordered;
+    within = k .within;
+    parts = k .parts;
+    path = k .started .path;
+    place = k .started .place;
+    few = omega (arith, k .started .short, k .within);
+  }
 
-pub ruleset start-laws = (start-scope-ordered, start-scope-within, start-type-ordered, start-type-within, start-steppable)
+  pub settleable-started : Started s r h
+  settleable-started = k .started
+
+  pub settleable-count : option ≤ mostOptions
+  settleable-count = k .count
+
+  pub settleable-ordered : from ≤ to
+  settleable-ordered = k .ordered
+
+  pub settleable-within : to ≤ length r
+  settleable-within = k .within
+
+  pub settleable-parts : OptionParts r from to
+  settleable-parts = k .parts
+
+  pub settleable-room : Roomy at (to - from) r
+  settleable-room = k .room
+
+pub ruleset settleable-laws = (
+  settleable-started,
+  settleable-count,
+  settleable-ordered,
+  settleable-within,
+  settleable-parts,
+  settleable-room,
+)
+
+pub ruleset start-laws = (start-scope-ordered, start-scope-within, start-type-ordered, start-type-within, start-steppable, settleable-laws)
 
 pub ruleset settle-named-laws = (named-next, named-refused, start-laws)
 
@@ -234,6 +267,6 @@ module _ (r : List ℕ) (from to : ℕ) (v : Parted) (q : v ≡ parted (builtinP
       let a = alone r from to v q p g in
       fine-part-last _ r (p .name .to) to (fine-part-next _ r from to o (Is p) (sym (a .is)) p refl) NoPart (sym (a .last)) refl
 
-pub ruleset settle-laws = (settle-named, settle-built, alone-ordered, alone-inside, alone-within, alone-last)
+pub ruleset settle-laws = (settleable-laws, settle-named, settle-built, alone-ordered, alone-inside, alone-within, alone-last)
 
 pub ruleset put-set-laws = (set-named, set-built, alone-ordered, alone-inside, alone-within, alone-last)
