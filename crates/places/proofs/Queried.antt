@@ -1,16 +1,21 @@
 -- What the two positions of an answer of `query` say.
 -- Assumes nothing.
-use Rattle.basis.specs.Kit.{_≡_, refl, sym, ap, _∙_, List, [], Option, none, some, ℕ, length}
+use Rattle.basis.specs.Kit.{_≡_, refl, sym, ap, _∙_, List, [], Option, none, some, ℕ, _<_, length}
+use Rattle.basis.proofs.Kit.{arith}
 use Rattle.basis.proofs.Never.{never}
 use Rattle.reply.specs.declared.Refusal.{Refusal}
 use Rattle.reply.specs.declared.Verdict.{Verdict}
 use Rattle.reply.specs.declared.Verdict.the-variants.{Fine, Refused}
 use Rattle.reply.specs.declared.Answer.{Answer}
-use Rattle.reply.specs.Reply.{refusedFor}
+use Rattle.reply.specs.Reply.{nowhere, refusedFor}
 use Rattle.reply.specs.Outcome.{Outcome, refuse, within, answerOf, Answered}
 use Rattle.reply.specs.Outcome as outcome
-use Rattle.reply.proofs.VerdictLaws.{refused-fine}
+use Rattle.reply.specs.Verdicts.{firstFault}
+use Rattle.reply.proofs.VerdictLaws.{refused-fine, first-fine-front, first-fine-rest}
 use Rattle.sheetform.specs.Form.{judgeSheet}
+use Rattle.requestform.specs.Form.{judgeOptionsType, judgeName}
+use Rattle.requestform.proofs.FineLaws.{fine-name-few}
+use Rattle.payload.specs.Payload.{judgeBytes}
 use Rattle.lookups.specs.Lookups.{Message, walking}
 use Rattle.entries.specs.declared.Row.{Row}
 use Rattle.entries.specs.Tree.{Tree}
@@ -32,6 +37,13 @@ module _ (s type q bs : List ℕ) where
   query-named : (k : NameRefused s type q bs) → come ≡ outcome.refused (ofPart (k .part) (k .why))
   unfolding queryBy queryOf
   query-named k = rw (k .fine, k .read, k .refused) refl
+
+  name-fine : judgeInputs (judgeSheet s) type q bs ≡ Fine → judgeName q ≡ Fine
+  unfolding judgeInputs
+  name-fine f =
+      first-fine-front (judgeName q) (judgeBytes bs)
+      (first-fine-rest (judgeOptionsType type) (firstFault (judgeName q) (judgeBytes bs))
+      (first-fine-rest (judgeSheet s) (firstFault (judgeOptionsType type) (firstFault (judgeName q) (judgeBytes bs))) f))
 
   data Asked : Type 0 where
     named : NameRefused s type q bs → Asked
@@ -88,11 +100,18 @@ module _ (s type q bs : List ℕ) where
     named-at : (n : NameRefused s type q bs) → AtPart (walking s) s q [] nothingBehind (n .message) (partsOf q) (n .part) (n .why)
     named-at n = query-fault (walking s) s q (n .part) (n .why) (n .message) (partsOf q) (n .refused)
 
+    named-below : (n : NameRefused s type q bs) → n .part < length (partsOf q)
+    named-below n = at-below (walking s) s q [] (named-at n)
+
+    named-small : (n : NameRefused s type q bs) → n .part < nowhere
+    named-small n = omega (arith, named-below n, fine-name-few q (name-fine (n .fine)))
+
     placed-by : Asked → QueryPlaced s type q bs a
     placed-by (named n) = record {
       no-option = ap (λ (x : Answer). x .option) (named-answer n);
       whenever = named-answer;
-      below = λ x. at-below (walking s) s q [] (named-at x);
+      below = named-below;
+      small = named-small;
       at = named-at;
       neither = λ z. absurd (z n);
     }
@@ -102,6 +121,7 @@ module _ (s type q bs : List ℕ) where
           no-option = y .0;
           whenever = λ x. absurd (z x);
           below = λ x. absurd (z x);
+          small = λ x. absurd (z x);
           at = λ x. absurd (z x);
           neither = λ _. y .1;
         }

@@ -1,20 +1,22 @@
 -- Where a call is refused, from 02's request [9]: what the two positions of its answer say, of `resolve` and of `query`.
 --
---             scopeOf r ==  the scope of the request r
---         optionsType r ==  the options type that it names
---         optionsAt r p ==  the options message, where that type is the message at p
---     settledIn s r p o ==  what the option o of r comes to in it
---     OptionRefused s r <-> sheet, request and options type are fine, and an option is refused by its own steps
---      Positioned s r a <-> the answer a has an option's position exactly then, and else neither position
---              Passes b <-> the answer b is no refusal, 17 aside
---             atFirst a ==  the answer a, at option 0
---    FirstRefused s r a <-> every option before that one, in a request of its own, is not refused, and it is refused there as it is here
---     PartRefused s r a <-> the option is the one at that position, and the part's position is that of the part of its name at fault
---             partsOf q ==  the parts of a query's name q
+--              scopeOf r ==  the scope of the request r
+--          optionsType r ==  the options type that it names
+--          optionsAt r p ==  the options message, where that type is the message at p
+--      settledIn s r p o ==  what the option o of r comes to in it
+--      OptionRefused s r <-> sheet, request and options type are fine, and an option is refused by its own steps
+--              Neither a <-> the answer a has neither position
+--       Positioned s r a <-> the answer a has an option's position exactly where an option is refused so, and else neither position
+--               Passes b <-> the answer b is no refusal, 17 aside
+--              atFirst a ==  the answer a, at option 0
+--     FirstRefused s r a <-> every option before that one, in a request of its own, is not refused, and it is refused there as it is here
+--      PartRefused s r a <-> the option is the one at that position, and the part's position is that of the part of its name at fault
+--              partsOf q ==  the parts of a query's name q
+--      nothingBehind h w <-> never: a name alone has nothing behind its last part
 --   NameRefused s t q bs <-> the inputs of a query are fine, its bytes are read, and its name is refused by its steps
---         QueryPlaced .. <-> its answer a has no option's position, and a part's exactly then: that of the part at fault
---                Bare o <-> what comes to o is refused nowhere, if it is
---             Neither a <-> the answer a has neither position
+--         QueryPlaced .. <-> its answer a has no option's position, and a part's exactly where its name is refused so: that of the part at
+--                            fault
+--                 Bare o <-> what comes to o is refused nowhere, if it is
 --
 -- Assumes nothing.
 use Rattle.basis.specs.Kit.{_≡_, List, [], some, ℕ, _<_, length}
@@ -115,7 +117,6 @@ pub record PartRefused (s r : List ℕ) (a : Answer) : Type 0 where
 abbrev pub partsOf : (name : List ℕ) → List Part
 partsOf q = partsIn (walk q 0 (length q))
 
--- a name alone has nothing behind its last part
 abbrev pub nothingBehind : {A B : Type 0} → A → B → Type 0
 nothingBehind h w = ⊥
 
@@ -133,6 +134,7 @@ pub record QueryPlaced (s type q bs : List ℕ) (a : Answer) : Type 0 where
   pub no-option : a .option ≡ nowhere
   pub whenever : (k : NameRefused s type q bs) → a ≡ refusedFor (ofPart (k .part) (k .why))
   pub below : (k : NameRefused s type q bs) → k .part < length (partsOf q)
+  pub small : (k : NameRefused s type q bs) → k .part < nowhere
   pub at : (k : NameRefused s type q bs) → AtPart (walking s) s q [] nothingBehind (k .message) (partsOf q) (k .part) (k .why)
   pub neither : (NameRefused s type q bs → ⊥) → a .part ≡ nowhere
 
