@@ -5,13 +5,14 @@ use Rattle.reply.specs.declared.Refusal.{Refusal}
 use Rattle.records.specs.declared.Wrote.{Wrote}
 use Rattle.records.specs.declared.Wrote.the-variants as wrote
 use Rattle.faults.specs.declared.Stepped.the-variants.{Next, Refused}
-use Rattle.faults.specs.Faults.{faultAt, onLast}
+use Rattle.faults.specs.Faults.{faultAt}
+use Rattle.faults.specs.inner.Answering.{steppedBy}
 
 module _ (i : ℕ) (x : Wrote) where
-  pub last-next : (n : ℕ) → x ≡ wrote.Next n → Next n ≡ onLast i x
+  pub last-next : (n : ℕ) → x ≡ wrote.Next n → Next n ≡ steppedBy i x
   last-next n g = rw g
 
-  pub last-refused : (w : Refusal) → x ≡ wrote.Refused w → Refused (faultAt i w) ≡ onLast i x
+  pub last-refused : (w : Refusal) → x ≡ wrote.Refused w → Refused (faultAt i w) ≡ steppedBy i x
   last-refused w g = rw g
 
 pub ruleset on-last-laws = (last-next, last-refused)

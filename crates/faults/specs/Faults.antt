@@ -1,7 +1,6 @@
 -- The fault of an option, and the place that it gives a refusal, from 02's request [9].
 --
 --   faultAt i w == the refusal w, as one of the i-th part
---    onLast i x == what the writer of a constant answers, x, as what the step on the i-th part answers, the last
 --   causeAt i f == the fault f of the i-th option, as the cause of a refusal
 --
 -- Assumes nothing.
@@ -9,19 +8,10 @@ use Rattle.basis.specs.Kit.{ℕ}
 use Rattle.reply.specs.declared.Refusal.{Refusal}
 use Rattle.reply.specs.declared.Where.the-variants.{Option}
 use Rattle.reply.specs.declared.Cause.{Cause}
-use Rattle.records.specs.declared.Wrote.{Wrote}
-use Rattle.records.specs.declared.Wrote.the-variants as wrote
 use Rattle.faults.specs.declared.Fault.{Fault}
-use Rattle.faults.specs.declared.Stepped.{Stepped}
-use Rattle.faults.specs.declared.Stepped.the-variants.{Next, Refused}
 
 abbrev pub faultAt : (part : ℕ) → Refusal → Fault
 faultAt i w = record { part = i; why = w }
-
--- "the last one of the option's name" [WHERE-4]
-abbrev pub onLast : (part : ℕ) → Wrote → Stepped
-onLast i (wrote.Next n) = Next n
-onLast i (wrote.Refused w) = Refused (faultAt i w)
 
 -- "the option's position and the part's position, both from 0" [WHERE-1, WHERE-3]
 abbrev pub causeAt : (option : ℕ) → Fault → Cause

@@ -1,1 +1,2 @@
 pub mod Faults
+pub mod inner

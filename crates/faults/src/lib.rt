@@ -2,7 +2,8 @@
 // the last part, and the fault of an option the cause of the request's refusal.
 ghost use Rattle.basis.specs.Kit.{_≡_, _≤_};
 ghost use Rattle.limits.specs.Figures.{mostOptions};
-ghost use Rattle.faults.specs.Faults.{onLast, causeAt};
+ghost use Rattle.faults.specs.Faults.{causeAt};
+ghost use Rattle.faults.specs.inner.Answering.{steppedBy};
 use records::Wrote;
 use reply::Cause;
 use reply::Refusal;
@@ -22,7 +23,7 @@ pub enum Stepped {
 
 // What the step on the last part answers, where the writer of the constant answered this: its refusal is one of that part.
 pub fn on_last(part: u32, wrote: Wrote) -> Stepped
-    ensures { λ r. ⌜ r ≡ onLast part wrote ⌝ }
+    ensures { λ r. ⌜ r ≡ steppedBy part wrote ⌝ }
 {
     match wrote {
         Wrote::Next(next) => Stepped::Next(next),

@@ -31,7 +31,8 @@ use Rattle.steps.specs.declared.Reach.{Reach}
 use Rattle.steps.specs.declared.Reach.the-variants.{Constant, Inside, Nothing, Fails}
 use Rattle.steps.specs.inner.Reached.{message, reachOf, Led}
 use Rattle.options.specs.Named.{at as atPart}
-use Rattle.faults.specs.Faults.{faultAt, onLast}
+use Rattle.faults.specs.Faults.{faultAt}
+use Rattle.faults.specs.inner.Answering.{steppedBy}
 use Rattle.options.specs.inner.Written.{steppedOf, constantMade, optionMade}
 use Rattle.options.proofs.settle.LedPlaces.{led-places}
 use Rattle.options.proofs.settle.OptionLaws.{option-of}
@@ -85,12 +86,12 @@ module _ (L : Lookups) (s r : List ℕ) (h : Shape) (from to : ℕ) (f : Field) 
           refuses stepped-tells (faultAt i w)
           (ap (atPart i) (constant-value ∙ emits-refused wrote-tells (valueMade L s r h mostConstants t a e) w u z)) refl
 
-      pub constant-last : (i : ℕ) (z : Stepped) → z ≡ onLast i y
+      pub constant-last : (i : ℕ) (z : Stepped) → z ≡ steppedBy i y
           → Emits steppedOf (atPart i (constantMade L s r h from to)) (bytesMost (to - from)) l at l′ z
       constant-last i z o = rw o (go y refl)
         where
           go : (x : Wrote) → y ≡ x
-              → Emits steppedOf (atPart i (constantMade L s r h from to)) (bytesMost (to - from)) l at l′ (onLast i x)
+              → Emits steppedOf (atPart i (constantMade L s r h from to)) (bytesMost (to - from)) l at l′ (steppedBy i x)
           go (Wrote-next n) k = constant-next n k i
           go (Wrote-refused w) k = constant-refused w k i
 
