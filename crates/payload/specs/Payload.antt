@@ -12,8 +12,7 @@ use Rattle.reply.specs.declared.Refusal.the-variants.{BadRequest, BeyondLimit}
 use Rattle.reply.specs.declared.Verdict.{Verdict}
 use Rattle.reply.specs.declared.Verdict.the-variants.{Fine, Refused}
 use Rattle.reply.specs.declared.Answer.{Answer}
-use Rattle.reply.specs.Verdicts.{firstFault, judged}
-use Rattle.reply.specs.Reply.{refusedBy as refusedAnswer, doneWith}
+use Rattle.reply.specs.Verdicts.{firstFault, judged, answerFor}
 use Rattle.field.specs.declared.Span.{Span}
 use Rattle.field.specs.Leaf.{span}
 use Rattle.field.specs.Part.{noBytes}
@@ -33,10 +32,6 @@ spanFor at n (Refused w) = noBytes
 
 unfoldable pub payloadSpan : (bs : List ℕ) (at size : ℕ) → Span
 payloadSpan bs at n = spanFor at n (judgePayload bs at n)
-
-abbrev pub answerFor : (size : ℕ) → Verdict → Answer
-answerFor n Fine = doneWith n
-answerFor n (Refused w) = refusedAnswer w
 
 unfoldable pub payloadAnswer : (bs : List ℕ) (at size : ℕ) → Answer
 payloadAnswer bs at n = answerFor n (judgePayload bs at n)

@@ -6,7 +6,7 @@ use Rattle.limits.specs.Figures.{mostWords}
 use Rattle.reply.specs.declared.Refusal.the-variants.{BadRequest, BeyondLimit, RangeEnd}
 use Rattle.reply.specs.declared.Verdict.{Verdict}
 use Rattle.reply.specs.declared.Verdict.the-variants.{Fine, Refused}
-use Rattle.reply.specs.Verdicts.{firstFault, asked}
+use Rattle.reply.specs.Verdicts.{firstFault, asked, answerFor}
 use Rattle.reply.specs.Outcome.{Outcome}
 use Rattle.sheetform.specs.Form.{judgeSheet}
 use Rattle.lookups.specs.Lookups.{walking}
@@ -16,7 +16,7 @@ use Rattle.search.specs.declared.extension.Resolved.{Resolved}
 use Rattle.search.specs.declared.extension.Resolved.the-variants.{Field, Refused as Unfound}
 use Rattle.find.specs.Find.{wordsOf, worded, finding, findWords}
 use Rattle.listing.specs.Listing.{judgeInputs, listed, listingBy, listing}
-use Rattle.payload.specs.Payload.{judgePayload, answerFor, payloadAnswer}
+use Rattle.payload.specs.Payload.{judgePayload, payloadAnswer}
 use Rattle.ranges.specs.declared.End.{End}
 use Rattle.ranges.specs.declared.End.the-variants.{At, NoNext}
 use Rattle.ranges.specs.Ranges.{enumReserved, endOf, withEnd, pairs, lowerRanges}

@@ -6,11 +6,12 @@ use Rattle.limits.specs.Figures.{mostOptionBytes}
 use Rattle.reply.specs.declared.Refusal.the-variants.{BadRequest, BeyondLimit}
 use Rattle.reply.specs.declared.Verdict.{Verdict}
 use Rattle.reply.specs.declared.Verdict.the-variants.{Fine, Refused}
+use Rattle.reply.specs.Verdicts.{answerFor}
 use Rattle.reply.specs.Reply.{refusedBy, doneWith}
 use Rattle.field.specs.declared.Span.{Span}
 use Rattle.field.specs.Leaf.{span}
 use Rattle.field.specs.Part.{PartOf, noBytes}
-use Rattle.payload.specs.Payload.{judgeBytes, judgePayload, spanFor, payloadSpan, answerFor, payloadAnswer}
+use Rattle.payload.specs.Payload.{judgeBytes, judgePayload, spanFor, payloadSpan, payloadAnswer}
 
 module _ (bs : List ℕ) (at n : ℕ) where
   judged-inside : length bs ≤ mostOptionBytes → at + n ≤ length bs → judgePayload bs at n ≡ Fine

@@ -5,6 +5,7 @@
 --           beyond ==  a limit that is passed
 --        replyOf v ==  the number of a verdict in 01's table, 0 where it is fine
 --       secondOf v ==  its second word
+--    answerFor n v ==  the answer of length n where v is fine, else the refusal of v
 --        asked v b ==  the answer yes or no where v is fine, else the refusal of v
 --         Says v r <-> the answer r is the verdict v, and so has its number and its second word
 --
@@ -15,7 +16,7 @@ use Rattle.reply.specs.declared.Refusal.the-variants.{BeyondLimit}
 use Rattle.reply.specs.declared.Verdict.{Verdict}
 use Rattle.reply.specs.declared.Verdict.the-variants.{Fine, Refused}
 use Rattle.reply.specs.declared.Answer.{Answer}
-use Rattle.reply.specs.Reply.{number, second, refusedBy, decided}
+use Rattle.reply.specs.Reply.{number, second, refusedBy, doneWith, decided}
 
 abbrev pub firstFault : (u v : Verdict) → Verdict
 firstFault Fine v = v
@@ -38,6 +39,11 @@ replyOf (Refused w) = number w
 abbrev pub secondOf : Verdict → ℕ
 secondOf Fine = 0
 secondOf (Refused w) = second w
+
+-- a call that comes to a length of inputs that are judged v [REPLY-4]
+abbrev pub answerFor : (size : ℕ) → Verdict → Answer
+answerFor n Fine = doneWith n
+answerFor n (Refused w) = refusedBy w
 
 -- a call that answers yes or no of inputs that are judged v [REPLY-2]
 abbrev pub asked : Verdict → (holds : Bool) → Answer

@@ -4,7 +4,7 @@ ghost use Rattle.reply.specs.Reply.{positions as positionsOf, bare as ba
 ghost use Rattle.reply.specs.Reply.{doneWith, absentAnswer, decided as decidedOf};
 ghost use Rattle.reply.specs.Reply.{NameOf, mostName, textOf};
 ghost use Rattle.reply.specs.inner.Table.{codeOf, Tabled};
-ghost use Rattle.reply.specs.Verdicts.{judged};
+ghost use Rattle.reply.specs.Verdicts.{judged, answerFor};
 use octets::wide;
 
 // Why a call is refused, by the names of 01 and of protobuf-parse's OptionResolverError, with 01's number times 100 and the second word.
@@ -61,7 +61,8 @@ pub enum Verdict {
 }
 
 // What every public call returns: the reply's number, its second word, 1 for Absent, how much was written to the lent memory, and where it
-// was refused, the positions of an option and of a part of its name.
+// was refused, the positions of an option and of a part of its name. C has the same record (include/opt.h).
+#[repr(C)]
 pub struct Answer {
     pub reply: u32,
     pub second: u32,
@@ -185,6 +186,16 @@ pub fn decided(holds: bool) -> Answer
         length: 0,
         option: NOWHERE,
         part: NOWHERE,
+    }
+}
+
+// The answer of a call whose inputs are judged so, and that comes to this length where they are fine.
+pub fn answer_for(length: u32, verdict: Verdict) -> Answer
+    ensures { λ r. ⌜ r ≡ answerFor length verdict ⌝ }
+{
+    match verdict {
+        Verdict::Fine => done(length),
+        Verdict::Refused(why) => refused(why),
     }
 }
 
