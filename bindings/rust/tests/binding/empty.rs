@@ -1,4 +1,4 @@
-//! Slices of no elements: Rust's, whose pointers dangle, and C's, which are NULL. By [FORM-6], [FORM-13], [FORM-14] and
+//! Slices of no elements, Rust's, whose pointers dangle, and C's, which are NULL. By [FORM-6], [FORM-13], [FORM-14] and
 //! [REPLY-6] of docs/RULES.md a sheet may be empty, and so may a scope, bytes and words, but no request, path, options
 //! type or name.
 use crate::nowhere;

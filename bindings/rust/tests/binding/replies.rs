@@ -274,16 +274,6 @@ fn every_refusal_is_produced_by_a_call() {
     assert_eq!(produced, numbers);
 }
 
-/// [LOWER-2]: the kinds are 0 to 2. The type leaves no other, so this one goes by C.
-#[test]
-fn a_kind_of_ranges_that_is_none_is_refused() {
-    let mut out = [7i32; 2];
-    let words = [1i32, 2];
-    // SAFETY: both slices are lent for the call, with their own counts.
-    let answer = unsafe { sys::opt_ranges(3, words.as_ptr(), words.len(), out.as_mut_ptr(), out.len()) };
-    assert_eq!((answer.reply, answer.length, out), (2, 0, [7, 7]));
-}
-
 #[test]
 fn a_refusal_says_where_and_what_to_do() {
     let refused = resolve(&mistaken_schema(), &seven("(order)"), &mut [0; 64]).unwrap_err();
