@@ -24,10 +24,9 @@ fn schema(extendee: &str) -> Vec<u8> {
         0x01,
         [f(0x10, "plant"), order(50001, FIELD), dispatch].concat(),
     );
-    let types = ["FieldOptions", "MessageOptions"]
-        .map(|name| f(0x02, f(0x11, name)))
-        .concat();
-    [plant, f(0x01, [f(0x10, "google.protobuf"), types].concat())].concat()
+    let types = ["FieldOptions", "MessageOptions"].map(|name| f(0x02, f(0x11, name)));
+    let google = f(0x01, [f(0x10, "google.protobuf"), types.concat()].concat());
+    [plant, google].concat()
 }
 
 /// `[(NAME) = 7]` on a field of Dispatch, resolved, as hexadecimal digits.
@@ -45,6 +44,6 @@ fn main() -> Result<(), Refused> {
     println!("(.plant.order) sets:{}", seven(".plant.order", &sheet)?);
     // Dispatch's own is on MessageOptions by mistake: found first, and none of a field's.
     let refused = seven("order", &schema(MESSAGE)).expect_err("a refusal");
-    println!("in the mistaken schema: refused, {refused}");
+    println!("in the mistaken schema, (order) is refused at {refused}");
     Ok(())
 }

@@ -1,4 +1,5 @@
-//! The C functions as `include/opt.h` declares them, and the only `unsafe` code of this crate.
+//! The C functions as `include/opt.h` declares them, and the only `unsafe` code of this crate. `tools/boundary.py`
+//! holds these lines against the header and against `crates/optc`.
 
 /// What every call returns.
 #[allow(non_camel_case_types)]

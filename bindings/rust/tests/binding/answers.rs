@@ -60,7 +60,7 @@ fn constants_of_several_kinds() {
     assert_eq!(set(3, message_type("p.M"), pairs(&[("a", unsigned(150))])), Some(hex("1A03089601")));
 }
 
-/// [FIND-2], and where README.md says that the two names stand.
+/// [FIND-2], and where docs/PROGRAMS.md says that the two names stand.
 #[test]
 fn find_tells_where_in_the_sheet() {
     let sheet = fleet(&["low"], &[]);
@@ -74,7 +74,7 @@ fn find_tells_where_in_the_sheet() {
     assert_eq!(&sheet[limits.type_path.expect("a message").range()], b"plant.Limits");
 }
 
-/// README.md, what `optevolve` prints for examples/evolve.hex: what an old device reads of a newer one's bytes.
+/// docs/PROGRAMS.md, what `optevolve` prints for examples/evolve.hex: what an old device reads of a newer one's bytes.
 #[test]
 fn a_year_on() {
     let unit = extension("unit", 50004, STRING, FIELD_OPTIONS);
@@ -110,7 +110,7 @@ fn a_value_has_64_bits() {
     assert_eq!(values, [-1i64 as u64, 0x0102030405060708]);
 }
 
-/// 01, "At each part the last record of that number is followed", and README.md for the record and for Absent.
+/// 01, "At each part the last record of that number is followed", and docs/PROGRAMS.md for the record and for Absent.
 #[test]
 fn a_query_follows_the_last_record() {
     let sheet = schema();

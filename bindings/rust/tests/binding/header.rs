@@ -1,10 +1,10 @@
-//! include/opt.h, read as text, beside what this crate has of it.
+//! include/opt.h, read as text, beside what this crate has of it. The functions are left to tools/boundary.py, which
+//! holds both against crates/optc.
 use cizasmok::sys::{self, opt_answer};
 use cizasmok::*;
 use std::mem::{align_of, offset_of, size_of};
 
 const HEADER: &str = include_str!("../../../../include/opt.h");
-const SYS: &str = include_str!("../../src/sys.rs");
 
 /// The header without its comments, in one line.
 fn code() -> String {
@@ -88,43 +88,4 @@ fn an_answer_is_laid_out_as_its_struct() {
     assert_eq!(between(&code(), "struct opt_answer {", "}"), declared);
     assert_eq!(fields.map(|(_, offset)| offset), [0, 4, 8, 12, 16, 20]);
     assert_eq!((size_of::<opt_answer>(), align_of::<opt_answer>()), (24, 4));
-}
-
-/// An argument of the header in Rust's words, `sheet: u8` for a pointer to bytes.
-fn argument(text: &str) -> String {
-    let (kind, name) = text.rsplit_once(' ').expect("a type and a name");
-    let kind = kind.trim_start_matches("const ").replace("uint", "u").replace("int", "i").replace("_t", "");
-    // `type` is a word of Rust's own.
-    let name = name.trim_start_matches('*').replace("type", "options_type");
-    format!("{name}: {kind}")
-}
-
-/// A function of the header as sys.rs has it, without the counts, which stand behind their pointers.
-fn function(text: &str) -> String {
-    let (name, arguments) = text.split_once('(').expect("arguments");
-    let arguments: Vec<&str> = arguments.split(", ").collect();
-    for pair in arguments.windows(2).filter(|pair| pair[0].contains('*')) {
-        assert_eq!(pair[1], format!("size_t {}_count", pair[0].split_once('*').expect("a pointer").1));
-    }
-    let some = |kept: fn(&str) -> bool| {
-        let kept = arguments.iter().filter(|text| !text.starts_with("size_t ") && kept(text));
-        kept.map(|text| argument(text)).collect::<Vec<_>>().join(", ")
-    };
-    let before = some(|text| text.starts_with("uint32_t ") && !text.contains('*'));
-    let inputs = some(|text| text.starts_with("const "));
-    let behind = some(|text| text.starts_with("uint64_t "));
-    let out = some(|text| text.contains('*') && !text.starts_with("const "));
-    let before = if before.is_empty() { before } else { before + ", " };
-    let behind = if behind.is_empty() { behind } else { format!(", {behind}") };
-    let out = if out.is_empty() { out } else { format!("; {out}") };
-    format!("fn opt_{name}({before}[{inputs}]{behind}{out});")
-}
-
-#[test]
-fn functions_take_its_arguments() {
-    let code = code();
-    let declared = code.split("struct opt_answer opt_").skip(1);
-    let declared: Vec<String> = declared.map(|text| function(text.split_once(')').expect("an end").0)).collect();
-    let ours: Vec<&str> = SYS.lines().map(str::trim).filter(|line| line.starts_with("fn opt_")).collect();
-    assert_eq!(ours, declared);
 }

@@ -35,8 +35,8 @@ fn of_resolve() {
     in_every_room(0xAA, &answer, |out| sheet.resolve(&request, out).map(Option::unwrap));
 }
 
-/// README.md: number 50002, type 13, label 1, in file 0, its name at 88. The extendee stands behind the name and three
-/// bytes of header, and there is no type path.
+/// docs/PROGRAMS.md: number 50002, type 13, label 1, in file 0, its name at 88. The extendee stands behind the name and
+/// three bytes of header, and there is no type path.
 #[test]
 fn of_find() {
     let bytes = schema();
@@ -46,7 +46,7 @@ fn of_find() {
     in_every_room(7, &answer, |out| sheet.find(b"plant.Dispatch", b"order", out).map(|words| &words[..]));
 }
 
-/// README.md, what `optlist` prints for examples/list.hex.
+/// docs/PROGRAMS.md, what `optlist` prints for examples/list.hex.
 #[test]
 fn of_list() {
     let bytes = schema();
@@ -57,7 +57,7 @@ fn of_list() {
     in_every_room(9, &answer, |out| sheet.list(on, &SET, out));
 }
 
-/// README.md, what `optquery` prints for examples/query.hex.
+/// docs/PROGRAMS.md, what `optquery` prints for examples/query.hex.
 #[test]
 fn of_query() {
     let bytes = schema();
@@ -68,7 +68,7 @@ fn of_query() {
     in_every_room(9, &answer, |out| sheet.query(on, &fleet, &SET, out).map(|words| &words.unwrap()[..]));
 }
 
-/// README.md, what `optranges` and `optoneofs` print for examples/ranges.hex and examples/oneofs.hex.
+/// docs/PROGRAMS.md, what `optranges` and `optoneofs` print for examples/ranges.hex and examples/oneofs.hex.
 #[test]
 fn of_the_lowerings() {
     let ranges = [100, 199, 300, 300, 1000, 536870911];
