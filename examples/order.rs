@@ -20,10 +20,8 @@ fn order(number: u32, extendee: &str) -> Vec<u8> {
 /// order.proto, with Dispatch's own `order` on this extendee, and the file of the options types.
 fn schema(extendee: &str) -> Vec<u8> {
     let dispatch = f(0x02, [f(0x11, "Dispatch"), order(50002, extendee)].concat());
-    let plant = f(
-        0x01,
-        [f(0x10, "plant"), order(50001, FIELD), dispatch].concat(),
-    );
+    let fleet = order(50001, FIELD);
+    let plant = f(0x01, [f(0x10, "plant"), fleet, dispatch].concat());
     let types = ["FieldOptions", "MessageOptions"].map(|name| f(0x02, f(0x11, name)));
     let google = f(0x01, [f(0x10, "google.protobuf"), types.concat()].concat());
     [plant, google].concat()
