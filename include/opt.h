@@ -1,5 +1,5 @@
-/* Cizasmok's option resolver, for C and C++: link target/staticlib/liboptc.a, which `rt staticlib optc` writes (x86-64 Linux, no other
- * library needed).
+/* Cizasmok's option resolver, for C and C++: link target/staticlib/liboptc.a, which `rt staticlib optc` writes (x86-64 Linux; it
+ * needs nothing but the C library's memset).
  *
  * A slice is a pointer and, right behind it, how many elements it has (not bytes). NULL with a count of 0 is allowed everywhere and means
  * no elements; with any other count the pointer has to lead to that many elements, which `words` want aligned as uint32_t is. Inputs are
@@ -61,7 +61,7 @@ struct opt_answer {
 enum {
     OPT_MOST_OPTION_BYTES = 65536, /* of opt_resolve */
     OPT_FOUND_WORDS = 10,          /* of opt_find */
-    OPT_RECORD_WORDS = 8,          /* of opt_query, and a record of opt_list, which has at most a record for two option bytes */
+    OPT_RECORD_WORDS = 8,          /* of opt_query; so many for each option byte are enough for opt_list */
     OPT_MOST_WORDS = 4096          /* of opt_ranges and opt_fields */
 };
 
@@ -121,7 +121,7 @@ struct opt_answer opt_fields(const uint32_t *words, size_t words_count, uint32_t
 struct opt_answer opt_clean(const uint8_t *sheet, size_t sheet_count);
 
 /* Whether an older sheet is contained in a newer one: `second` is 1 for yes. Where both are clean besides, what opt_resolve writes under
- * the newer opt_list reads under the older, and misreads nothing. */
+ * the newer opt_list reads under the older, where that declares the options type, and misreads nothing. */
 struct opt_answer opt_contained(const uint8_t *older, size_t older_count,
                                 const uint8_t *newer, size_t newer_count);
 

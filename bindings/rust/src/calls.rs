@@ -80,14 +80,14 @@ pub fn find<'o>(
 
 /// Lists the records of option bytes, eight words each: [`records`](crate::records) reads them.
 ///
-/// No record has fewer than two bytes, so `bytes.len() / 2 * RECORD_WORDS` words are room enough.
+/// `bytes.len() * RECORD_WORDS` words are always room enough.
 ///
 /// ```
 /// # mod form { include!(concat!(env!("CARGO_MANIFEST_DIR"), "/tests/binding/form.rs")); } use form::*;
 /// use cizasmok::{list, records, RECORD_WORDS};
 ///
 /// let bytes = [0x90, 0xB5, 0x18, 7, 0x88, 0xB5, 0x18, 3]; // what two options of a field set
-/// let mut out = vec![0; bytes.len() / 2 * RECORD_WORDS];
+/// let mut out = vec![0; bytes.len() * RECORD_WORDS];
 /// let words = list(&schema(), b"google.protobuf.FieldOptions", &bytes, &mut out)?;
 /// let set: Vec<_> = records(words).map(|record| (record.number, record.value())).collect();
 /// assert_eq!(set, [(50002, 7), (50001, 3)]);

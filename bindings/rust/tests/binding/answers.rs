@@ -86,7 +86,7 @@ fn a_year_on() {
     let bytes = resolved(&newer, &request("plant.Dispatch", FIELD_OPTIONS, &options)).expect("options");
     assert_eq!(bytes, hex("90B51807A2B518026B579AB5180408011005"));
 
-    let mut out = vec![0; bytes.len() / 2 * RECORD_WORDS];
+    let mut out = vec![0; bytes.len() * RECORD_WORDS];
     let words = list(&older, FIELD_OPTIONS.as_bytes(), &bytes, &mut out).expect("records");
     let records: Vec<Record> = records(words).collect();
     let known: Vec<_> = records.iter().map(|r| (r.level, r.number, r.field_type, r.wire_type, r.value())).collect();
