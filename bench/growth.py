@@ -6,8 +6,8 @@ import random
 from collections import namedtuple
 
 from inputs import (
-    BOOL, ENUM, INT32, MESSAGE, UINT32, Job, Plan, enum, f, file, inmost, listed, member, message, one_record, option, record, request, scalar,
-    sheet, sized)
+    BOOL, ENUM, INT32, MESSAGE, UINT32, Job, Plan, enum, f, file, inmost, listed, member, message, one_record, option, record, request,
+    scalar, sheet, sized)
 
 Curve = namedtuple("Curve", "what axis points")
 DEPTHS = 1, 2, 4, 8, 16
@@ -109,20 +109,20 @@ def search(options):
     last = member(3, b"x", 1, MESSAGE, extendee=b"M", path=b"M") + message(b"M", b"")
     data = file(b"", full(last, message(b"b", b""), 32762))
     asked = f(0x18, b".".join([b"a"] * 128)) + f(0x19, b"M") + f(8, f(0x1B, b"x") * 16 + f(0x26)) * options
-    return Job("resolve: %d options of 16 parts, 129 candidates each" % options, "resolve_tested", data, [(asked,)])
+    return Job("resolve: names of 16 parts, 129 candidates; options %d" % options, "resolve_tested", data, [(asked,)])
 
 
 def nesting(elements=2004):
-    """A request of one option: a name of 16 parts, then a constant 16 deep, innermost a list of identifiers on an enum. Field and enum stand
-    behind all else in their message, which fills the sheet. An element is written once, and measured for each of the 29 messages around it
-    and once before."""
+    """A request of one option: a name of 16 parts, then a constant 16 deep, innermost a list of identifiers on an enum. Field and enum
+    stand behind all else in their message, which fills the sheet. An element is written once, and measured for each of the 29 messages
+    around it and once before."""
     last = enum(b"E", [b"v"]) + member(5, b"n", 1, MESSAGE, path=b"M") + member(5, b"e", 2, ENUM, 3, path=b"M.E")
     data = file(b"", message(b"M", full(last, enum(b"b", []), 32755)))
     value = f(0x27, b"e") + f(0x2A, f(0x25, b"v") * elements)
     for _ in range(13):
         value = f(0x27, b"n") + f(0x26, value)
     asked = f(0x18) + f(0x19, b"M") + f(8, f(0x1A, b"n") * 16 + f(0x26, value))
-    return Job("resolve: a constant 16 deep of %d elements" % elements, "resolve_tested", data, [(asked,)])
+    return Job("resolve: a constant 16 deep; elements %d" % elements, "resolve_tested", data, [(asked,)])
 
 
 def listings():
@@ -171,7 +171,8 @@ def fullest():
 
 
 def schemas():
-    """Jobs of `clean` and `contained`, of a schema and of it with itself; how many declarations there are where the square counts."""
+    """Jobs of `clean` and `contained`, of a schema and of it with itself, all answered yes; and how many declarations there are, where the
+    cost grows with their square."""
     for size in (50, 100, 200, 400, 800, 1000):
         data = schema(size)
         yield size, Job("clean, %d declarations" % size, "clean", data, [()])

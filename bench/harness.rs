@@ -1,6 +1,7 @@
 // What each program of the bench does around the calls. It reads a job from standard input, makes each of its calls once and adds up what
 // is answered, makes all of them again as often as the job says, and prints one line: how many calls there were, how many were answered 0,
-// the two sums, and the processor time of what was made again, in nanoseconds.
+// the sum of answers and what they wrote, how many say 1 as their second number, the sum of places, and the processor time of what was made
+// again, in nanoseconds.
 use std::hint::black_box;
 use std::io::Read;
 
@@ -67,8 +68,8 @@ pub fn job(input: &[u8]) -> Job<'_> {
     Job { sheet: parts[0], call: parts[1][0], times, cases: parts[3..].iter().map(|case| strings(case)).collect() }
 }
 
-// So many elements of the lent memory are filled before a call that is added up, and added whatever its length: to see that a refusal writes
-// nothing, and that nothing stands behind an answer.
+// So many elements of the lent memory are filled before a call that is added up, and added whatever its length: to see that a refusal
+// writes nothing, and that nothing stands behind an answer.
 const FILLED: usize = 64;
 
 fn mixed(sum: u64, n: u32) -> u64 {
@@ -110,17 +111,18 @@ fn bench_rounds(times: u32, round: &mut dyn FnMut()) {
     }
 }
 
-// Makes the calls of a job, one a case, whose inputs may have been read into another form. What `second`, `option` and `part` say is added by
+// Makes the calls of a job, one a case, whose inputs may have been read into another form. What `second`, `option` and `part` say stands by
 // itself: the original has no such numbers.
 pub fn run<C>(times: u32, cases: &[C], called: impl Fn(&C, &mut Room) -> Answer) {
     let mut room = Room { bytes: vec![0; 65_536], words: vec![0; 262_144] };
-    let (mut done, mut sum, mut places) = (0, 0, 0);
+    let (mut done, mut sum, mut second, mut places) = (0, 0, 0, 0);
     for case in cases {
         room.bytes[..FILLED].fill(0xa5);
         room.words[..FILLED].fill(0xa5a5_a5a5);
         let answer = called(case, &mut room);
         done += (answer.reply == 0) as u32;
         sum = added(sum, answer, &room);
+        second += answer.second;
         places = [answer.second, answer.option, answer.part].into_iter().fold(places, mixed);
     }
     let start = processor_time();
@@ -129,5 +131,5 @@ pub fn run<C>(times: u32, cases: &[C], called: impl Fn(&C, &mut Room) -> Answer)
             black_box(called(black_box(case), &mut room));
         }
     });
-    println!("{} {} {:x} {:x} {}", cases.len(), done, sum, places, processor_time() - start);
+    println!("{} {} {:x} {} {:x} {}", cases.len(), done, sum, second, places, processor_time() - start);
 }

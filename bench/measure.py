@@ -8,10 +8,14 @@ import re
 import shutil
 import struct
 import subprocess
+from collections import namedtuple
 from concurrent.futures import ThreadPoolExecutor
 
 CALLS = ["check", "find", "find_tested", "resolve", "resolve_tested", "list", "list_tested", "query", "query_tested", "clean", "contained"]
 HERE, RUST, ORIGINAL = "here", "Rust", "original"
+
+# How many calls of a job were answered 0, how many say 1 as their second number, and of each program the seconds of making them.
+Made = namedtuple("Made", "done second spent")
 
 
 # ---- programs
@@ -69,24 +73,24 @@ def job_bytes(job, times):
 
 
 def run(program, data):
-    """What a program prints: how many calls, how many were answered 0, the sum, the sum of places, nanoseconds."""
     return subprocess.run([program], input=data, stdout=subprocess.PIPE, check=True).stdout.decode().split()
 
 
 def made(programs, job, times=0):
-    """How many calls of a job are answered 0, by all programs alike, and of each program the seconds of making all of them so often. All but
-    the original say where a call is refused."""
+    """The calls of a job, made once to see that all programs answer alike, and so often to be timed. All but the original say where a call
+    is refused."""
     data = job_bytes(job, times)
     lines = {name: run(program, data) for name, program in able(programs, job).items()}
-    own = {tuple(line[:4]) for name, line in lines.items() if name != ORIGINAL}
+    own = {tuple(line[:-1]) for name, line in lines.items() if name != ORIGINAL}
     assert len(own) == 1 and len({tuple(line[:3]) for line in lines.values()}) == 1, (job.what, lines)
-    return int(lines[HERE][1]), {name: int(line[4]) / 1e9 for name, line in lines.items()}
+    _, done, _, second, _, _ = lines[HERE]
+    return Made(int(done), int(second), {name: int(line[-1]) / 1e9 for name, line in lines.items()})
 
 
 def seconds(programs, job, rounds):
     """Of each program the time of one call of a job: the least of so many runs, each long enough to be told from nothing."""
-    times = max(1, round(0.05 / made(programs, job, 1)[1][HERE]))
-    runs = [made(programs, job, times)[1] for _ in range(rounds)]
+    times = max(1, round(0.05 / made(programs, job, 1).spent[HERE]))
+    runs = [made(programs, job, times).spent for _ in range(rounds)]
     return {name: min(spent[name] for spent in runs) / times / len(job.cases) for name in runs[0]}
 
 

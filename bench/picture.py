@@ -8,7 +8,8 @@ WIDTH = 900
 INK, FAINT, GRID = "#1f2328", "#59636e", "#d8dee4"
 FIGURES = {"instructions": "#1f5fa8", "time": "#7db3e8"}
 PROGRAMS = {HERE: "#1f5fa8", RUST: "#c8641e", ORIGINAL: "#7a7f87"}
-CURVES = ["#1f5fa8", "#2e8b57", "#c8641e", "#8e4ec6", "#b3261e"]
+CURVES = {"check": "#1f5fa8", "find": "#2e8b57", "resolve": "#c8641e", "list": "#8e4ec6", "query": "#b3261e"}
+NESTED = "#0b7a75"
 
 
 # ---- marks
@@ -68,7 +69,8 @@ def beside_original(x, y, rows):
     if not row:
         return [], y
     left, scale = x + 220, 480
-    out = title(x, y, "resolve beside the original", "a request, the " + row.what.split(", ")[1] + "; the original is handed requests that are read already")
+    said = "a request, the sheet tested once; the original is handed requests that are read already"
+    out = title(x, y, "resolve beside the original", said)
     top = y + 34
     groups = [("instructions", row.counts, "{:,.0f}".format), ("processor time", row.times, lambda t: "%.2f us" % (t * 1e6))]
     for i, (said, figures, form) in enumerate(groups):
@@ -96,18 +98,16 @@ def curve(points, across, up, fill, dash, hollow):
     marks = [(across(size), up(count)) for size, count in points]
     out = ['<polyline points="%s" fill="none" stroke="%s" stroke-width="1.8"%s/>' % (
         " ".join("%.1f,%.1f" % mark for mark in marks), fill, ' stroke-dasharray="%s"' % dash if dash else "")]
-    for x, y in marks:
-        out.append('<circle cx="%.1f" cy="%.1f" r="3" fill="%s" stroke="%s" stroke-width="1.4"/>' % (x, y, "#ffffff" if hollow else fill, fill))
-    return out
+    inside = "#ffffff" if hollow else fill
+    return out + ['<circle cx="%.1f" cy="%.1f" r="3" fill="%s" stroke="%s" stroke-width="1.4"/>' % (*mark, inside, fill) for mark in marks]
 
 
 STYLES = {HERE: ("", False), RUST: ("5 4", True), ORIGINAL: ("1 4", True)}
 
 
-def growth(x, y, said, below, sizes, curves, labels):
-    """Instructions over sizes, both by their logarithms: a line for each curve and each program."""
-    left, right, top, bottom = x + 62, x + 305, y + 40, y + 320
-    counts = [count for one in curves for _, figures in one.points for count in figures.values()]
+def axes(box, sizes, counts, below):
+    """A grid by powers of ten over sizes, both by their logarithms, and where a size and a count stand in it."""
+    left, right, top, bottom = box
     low, high = math.floor(math.log10(min(counts))), math.ceil(math.log10(max(counts)))
 
     def across(size):
@@ -116,22 +116,28 @@ def growth(x, y, said, below, sizes, curves, labels):
     def up(count):
         return bottom - (bottom - top) * (math.log10(count) - low) / (high - low)
 
-    out = title(x, y, said, "instructions of a call")
-    for power in range(low, high + 1):
-        out.append(line(left, up(10**power), right, up(10**power)))
-        out.append(text(left - 8, up(10**power) + 4, "{:,}".format(10**power), 11, "end", FAINT))
+    out = [text((left + right) / 2, bottom + 33, below, 12, "middle")]
+    for count in (10**power for power in range(low, high + 1)):
+        out += [line(left, up(count), right, up(count)), text(left - 8, up(count) + 4, "{:,}".format(count), 11, "end", FAINT)]
     for size in sizes:
-        out.append(line(across(size), top, across(size), bottom))
-        out.append(text(across(size), bottom + 16, str(size), 11, "middle", FAINT))
-    out.append(text((left + right) / 2, bottom + 33, below, 12, "middle"))
+        out += [line(across(size), top, across(size), bottom), text(across(size), bottom + 16, str(size), 11, "middle", FAINT)]
+    return out, across, up
+
+
+def growth(x, y, said, below, sizes, curves, labels):
+    """Instructions over sizes: a line for each curve and each program, and a label at the right of each curve."""
+    right, bottom = x + 305, y + 320
+    counts = [count for one in curves for _, figures in one.points for count in figures.values()]
+    out, across, up = axes((x + 62, right, y + 40, bottom), sizes, counts, below)
+    out += title(x, y, said, "instructions of a call")
     ends = []
-    for one, fill, label in zip(curves, CURVES, labels):
+    for one, label in zip(curves, labels):
+        fill = NESTED if one.axis == "constants nested" else CURVES[one.what]
         for name, (dash, hollow) in STYLES.items():
             points = [(size, figures[name]) for size, figures in one.points if name in figures]
-            if points:
-                out += curve(points, across, up, fill, dash, hollow)
-        ends.append((up(one.points[-1][1][HERE]), across(one.points[-1][0]), label, fill))
-    for at, (_, _, label, fill) in zip(spread([end[0] for end in ends], 15), ends):
+            out += curve(points, across, up, fill, dash, hollow) if points else []
+        ends.append((up(one.points[-1][1][HERE]), label, fill))
+    for at, (_, label, fill) in zip(spread([end[0] for end in ends], 15), ends):
         out.append(text(right + 9, at + 4, label, 11, fill=fill))
     return out, bottom + 40
 

@@ -6,13 +6,13 @@ usage: run.py [ROUNDS] [--library FOLDER] [--original FOLDER] [--picture FILE]
        run.py schemas [ROUNDS] [--library FOLDER]
 
 Run it from the root of the repository, after `rt staticlib optc`, which writes liboptc.a to target/staticlib; another FOLDER may hold it.
-It needs rustc, valgrind for the count of instructions, and an x86-64 machine. The original's FOLDER is a workspace in which cargo builds the
-published source of protobuf-parse 3.7.2 over a stand-in for its runtime (original.rs). FILE is the picture, docs/speed.svg.
+It needs rustc, valgrind for the count of instructions, and an x86-64 machine. The original's FOLDER is a workspace in which cargo builds
+the published source of protobuf-parse 3.7.2 over a stand-in for its runtime (original.rs). FILE is the picture, docs/speed.svg.
 
-Three programs make the same calls: ours.rs, linked with liboptc.a; the modules under rust/; original.rs. All have to print the same sums over
-their answers and what they wrote before anything is measured, the first two on inputs with a fault as well. Printed are the instructions of
-a call, the processor time of a call, the least of ROUNDS runs of each program in turn, and their ratios; then how the cost grows with
-extensions and with depth, in instructions. A ratio above 1.2 is marked.
+Three programs make the same calls: ours.rs, linked with liboptc.a; the modules under rust/; original.rs. All have to print the same sums
+over their answers and what they wrote before anything is measured, the first two on inputs with a fault as well. Printed are the
+instructions of a call, the processor time of a call, the least of ROUNDS runs of each program in turn, and their ratios; then how the cost
+grows with extensions and with depth, in instructions. A ratio above 1.2 is marked.
 
 `worst` times requests and listings that are made to cost much, once; OPTIONS is how many options the first of them has, of at most 113.
 `schemas` times `clean` and `contained`.
@@ -47,7 +47,9 @@ def grouped(count):
 
 
 def clock(seconds):
-    return "%.3g ms" % (seconds * 1e3) if seconds >= 1e-3 else "%.3g us" % (seconds * 1e6)
+    """Three digits, in microseconds or milliseconds."""
+    scaled, unit = (seconds * 1e3, "ms") if seconds >= 1e-3 else (seconds * 1e6, "us")
+    return ("%#.3g" % scaled).rstrip(".") + " " + unit
 
 
 # ---- the table
@@ -56,11 +58,12 @@ def rows(programs, rounds):
     jobs = list(inputs.table())
     own = {name: program for name, program in programs.items() if name != ORIGINAL}
     for job in jobs:
-        done, _ = measure.made(programs, job)
+        done = measure.made(programs, job).done
         faults = inputs.spoiled(job)
         for fault in faults:
             measure.made(own, fault)
-        print("%-34s %4d calls, %3d answered; the same with a fault, %3d" % (job.what, len(job.cases), done, sum(len(x.cases) for x in faults)))
+        many = sum(len(fault.cases) for fault in faults)
+        print("%-34s agreed on %4d calls, %4d of them answered 0, and on %4d with a fault" % (job.what, len(job.cases), done, many))
     counts = measure.instructions(programs, jobs)
     return [Row(job.what, count, measure.seconds(programs, job, rounds)) for job, count in zip(jobs, counts)]
 
@@ -86,7 +89,7 @@ def grown(programs):
     curves = growth.by_extensions() + growth.by_depth()
     jobs = [job for curve in curves for _, job in curve.points]
     for job in jobs:
-        assert measure.made(programs, job)[0] == len(job.cases)
+        assert measure.made(programs, job).done == len(job.cases)
     counts = iter(measure.instructions(programs, jobs))
     return [curve._replace(points=[(size, next(counts)) for size, _ in curve.points]) for curve in curves]
 
@@ -97,7 +100,8 @@ def show_growth(curves):
     for curve in curves:
         for size, counts in curve.points:
             beside = [grouped(counts[ORIGINAL]), marked(ratio(counts, ORIGINAL))] if ORIGINAL in counts else ["", ""]
-            print(line % (curve.what + ", " + curve.axis, size, grouped(counts[HERE]), grouped(counts[RUST]), marked(ratio(counts)), *beside))
+            what = curve.what + ", " + curve.axis
+            print(line % (what, size, grouped(counts[HERE]), grouped(counts[RUST]), marked(ratio(counts)), *beside))
 
 
 # ---- the commands
@@ -116,13 +120,14 @@ def compare(programs, args):
 
 def worst(programs, args):
     for job in growth.worst(int(args.what[1]) if len(args.what) > 1 else 1):
-        _, spent = measure.made(programs, job, 1)
+        spent = measure.made(programs, job, 1).spent
         print("%-52s %s" % (job.what, ", ".join("%s %.3f s" % x for x in spent.items())))
 
 
 def schemas(programs, args):
     rounds = int(args.what[1]) if len(args.what) > 1 else 5
     for size, job in growth.schemas():
+        assert measure.made(programs, job).second == 1, job.what
         spent = measure.seconds(programs, job, rounds)[HERE]
         square = ", %3.0f ns for the square of their number" % (spent * 1e9 / size**2) if size else ""
         print("%-36s %6d bytes %9.2f ms%s" % (job.what, len(job.sheet), spent * 1e3, square))

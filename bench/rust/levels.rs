@@ -1,5 +1,5 @@
-// Option bytes, record by record: numbers looked up in the sheet, one record, and the levels that are open. Crates numbers, varint, payloads,
-// taken, entries and levels.
+// Option bytes, record by record: numbers looked up in the sheet, one record, and the levels that are open. Crates numbers, varint,
+// payloads, taken, entries, levels and rows.
 use crate::fields::*;
 use crate::reply::Refusal::{self, *};
 use crate::search::{find_message_by_abs_name, LookupScope, MOST_MESSAGES};

@@ -17,14 +17,7 @@ pub fn check_bytes(bytes: &[u8]) -> Verdict {
 }
 
 // The rows from the front of the lent memory on, as far as there is room, and how many words they are.
-fn put_rows(
-    s: &[u8],
-    options_type: &[u8],
-    place: LookupScope,
-    bytes: &[u8],
-    stack: &mut Stack,
-    out: &mut [u32],
-) -> Result<usize, Refusal> {
+fn put_rows(s: &[u8], options_type: &[u8], place: LookupScope, bytes: &[u8], stack: &mut Stack, out: &mut [u32]) -> Result<usize, Refusal> {
     let mut cursor = start(bytes, stack, place);
     let mut n = 0;
     while let Some((row, rest)) = next(s, options_type, bytes, stack, cursor)? {
