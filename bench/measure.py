@@ -95,9 +95,10 @@ def seconds(programs, job, rounds):
 
 
 def counted(program, data):
-    """The instructions between start and end of the function that makes the calls."""
-    command = ["valgrind", "--tool=callgrind", "--toggle-collect=bench_rounds", "--callgrind-out-file=" + os.devnull, program]
-    done = subprocess.run(command, input=data, capture_output=True, check=True)
+    """The instructions between start and end of the function that makes the calls. The environment is empty: what stands in it moves the
+    stack, and with that what a comparison of bytes by the C library takes."""
+    tool = [shutil.which("valgrind"), "--tool=callgrind", "--toggle-collect=bench_rounds", "--callgrind-out-file=" + os.devnull]
+    done = subprocess.run([*tool, program], input=data, capture_output=True, check=True, env={})
     return int(re.search(rb"Collected : (\d+)", done.stderr).group(1))
 
 
