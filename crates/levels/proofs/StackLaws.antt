@@ -25,20 +25,6 @@ words-end l at ws m i k h = laying-end l at ws m (length ws) i k h .left
 
 pub ruleset words-laws = (words-start, words-end, laying-next, laying-inside, laying-room, laying-length)
 
--- ---- an element of a list that others were laid over
-module _ {A : Type 0} (d : A) where
-  getD-sets-before : (vs l : List A) (i j : ℕ) → j < i → getD (sets l i vs) j d ≡ getD l j d
-  getD-sets-before [] l i j h = refl
-  getD-sets-before (v ∷ vs) l i j h =
-      getD-sets-before vs (set l i v) (suc i) j (omega arith) ∙ getD-set-other l i j v d (λ e. omega arith)
-
-  getD-sets-at : (vs l : List A) (i k : ℕ) → i + length vs ≤ length l → k < length vs → getD (sets l i vs) (i + k) d ≡ getD vs k d
-  getD-sets-at [] l i k h g = absurd (omega arith)
-  getD-sets-at (v ∷ vs) l i zero h g =
-      rw (add-zero i) (getD-sets-before vs (set l i v) (suc i) i (omega arith) ∙ getD-set-same l i v d (omega arith))
-  getD-sets-at (v ∷ vs) l i (suc k) h g =
-      rw (add-suc i k, ← (suc-add i k)) (getD-sets-at vs (set l i v) (suc i) k (rw (length-set l i v) (omega arith)) (omega arith))
-
 -- ---- levels
 pub level-said : (st : List ℕ) (l : ℕ)
     → record {
