@@ -124,8 +124,14 @@ put-pairs-μ-loop sheet request scope from to left out₀ at p₀ i₀ out p i =
 pub +put-inside+put-list+put-message+put-pair+put-pairs+put-value-spec : {M : Type 1} → statement M
 +put-inside+put-list+put-message+put-pair+put-pairs+put-value-spec = close μ-put-inside μ-put-list μ-put-message
     μ-put-pair μ-put-pairs μ-put-value
-    (λ t. put-inside-lts.spec (shortest-head-reads.Asked, shortest-head-reads.Learnt, put-pairs-below t, put-pairs.Post,
-      enclose-reads.Asked, enclose-reads.Learnt) (put-inside-at t) put-inside.Post
+    (λ t. put-inside-lts.spec (
+      shortest-head-reads.Asked,
+      shortest-head-reads.Learnt,
+      put-pairs-below t,
+      put-pairs.Post,
+      enclose-reads.Asked,
+      enclose-reads.Learnt,
+    ) (put-inside-at t) put-inside.Post
     (λ c κs. search (needs, put-inside-laws))
     (λ c. search (needs, put-inside-laws))
     (λ c κs. search (needs, put-inside-laws))

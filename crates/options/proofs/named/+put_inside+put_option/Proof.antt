@@ -42,8 +42,14 @@ put-option-below t =
 
 pub +put-inside+put-option-spec : {M : Type 1} → statement M
 +put-inside+put-option-spec = close μ-put-inside μ-put-option
-    (λ t. put-inside-lts.spec (shortest-head-reads.Asked, shortest-head-reads.Learnt, put-option-below t,
-      put-option.Post, enclose-reads.Asked, enclose-reads.Learnt) (put-inside-at t) put-inside.Post
+    (λ t. put-inside-lts.spec (
+      shortest-head-reads.Asked,
+      shortest-head-reads.Learnt,
+      put-option-below t,
+      put-option.Post,
+      enclose-reads.Asked,
+      enclose-reads.Learnt,
+    ) (put-inside-at t) put-inside.Post
     (λ c κs. search (needs, put-inside-laws))
     (λ c. search (needs, put-inside-laws))
     (λ c κs. search (needs, put-inside-laws))
