@@ -1,15 +1,14 @@
 -- The stack as words: how its words are laid, a level that was written is read again, and those below it stay.
 -- Assumes nothing.
 use Rattle.basis.specs.Kit.{_≡_, refl, sym, ap, _∙_, Bool, true, false, List, [], _∷_, ℕ}
-use Rattle.basis.specs.Kit.{zero, suc, _+_, _*_, _≤_, _<_, length, getD, eqb, sets}
+use Rattle.basis.specs.Kit.{_+_, _*_, _≤_, _<_, length, getD, eqb, sets}
 use Rattle.basis.proofs.Kit.{arith}
 use mathlib.Core.Bool.{not}
-use native.Mathlib.Nat.{add-zero, add-suc, suc-add}
+use native.Mathlib.Nat.{add-zero}
 use mir.Val.{boolByte}
-use lib.ListN.{set, length-set}
-use lib.Seq.{getD-set-same, getD-set-other}
 use Rattle.basis.specs.First.{onlyIf}
 use Rattle.limits.specs.Figures.{mostLevels}
+use Rattle.octets.proofs.Overlay.{getD-sets-before, getD-sets-at}
 use Rattle.octets.proofs.Halfway.{Laying, laying-start, laying-next, laying-inside, laying-room, laying-length, laying-end}
 use Rattle.field.specs.Leaf.{span}
 use Rattle.levels.specs.declared.Level.{Level}
