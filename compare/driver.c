@@ -28,8 +28,8 @@ enum call { SHEET, REQUEST, RESOLVE, FIND, LIST, QUERY, PAYLOAD, RANGES, FIELDS,
 enum view { OPEN, SEALED, HALF, VIEWS };
 enum place { AT_END, AT_START };
 enum { PAGE = 4096, INPUTS = 4, INPUT_SIZE = 64 * PAGE, OUT_SIZE = 640 * PAGE, REPLIES = 20, TRAPPED = 70 };
-/* Work, as rooms by bytes of input, up to which every room is tried. */
-enum { MOST_WORK = 400000 };
+/* Work, as rooms by bytes of input, up to which every room is tried; valgrind is slower. */
+enum { MOST_WORK = 70000000, MOST_IN_BLOCKS = 70000 };
 
 static const char *const CALL[CALLS] = {"sheet", "request", "resolve", "find", "list", "query", "payload", "ranges", "fields", "clean",
                                         "contained"};
@@ -280,10 +280,10 @@ static void make(struct known *k, int tested, enum view view, enum place place, 
 }
 
 /* ---- rooms */
-static int chosen(size_t room, size_t length, int every)
+static int chosen(size_t room, size_t length)
 {
     const size_t few = blocks ? 4 : 64;
-    if (every || room < few || length - room <= few || (!blocks && (room & (room - 1)) == 0))
+    if (room < few || length - room <= few || (!blocks && (room & (room - 1)) == 0))
         return 1;
     return (uint32_t)room * 2654435761u % (uint32_t)length < 16;
 }
@@ -295,12 +295,13 @@ static void explore(struct known *k, int tested)
     make(k, tested, OPEN, AT_END, enough);
     make(k, tested, OPEN, AT_START, enough);
     const size_t length = k->length, work = length * (asked.bytes[0] + asked.bytes[1] + asked.bytes[2] + asked.bytes[3]);
+    const int every = work <= (blocks ? MOST_IN_BLOCKS : MOST_WORK);
     for (size_t room = 0; room < length; room++)
-        for (int place = AT_END; place <= AT_START && chosen(room, length, work <= MOST_WORK); place++) {
+        for (int place = AT_END; place <= AT_START && (every || chosen(room, length)); place++) {
             make(k, tested, OPEN, place, room);
             make(k, tested, SEALED, place, room);
         }
-    whole[work > MOST_WORK] += length > 0;
+    whole[!every] += length > 0;
     for (int place = AT_END; WIDTH[asked.call] && place <= AT_START; place++) {
         make(k, tested, OPEN, place, length);
         for (size_t more = 1; more <= 64; more *= 64)

@@ -40,6 +40,7 @@ import form
 import library_cases
 import library_tables
 import lowering
+import options_reader
 import resolve
 import search
 import sheets
@@ -109,7 +110,7 @@ class Comparison:
             self.seen[table][key] += 1
         if case.call == "resolve":
             self.seen["resolve"].update(case.run.run.seen)
-        elif case.call in ("list", "query"):
+        elif case.call in ("list", "query") and len(case.inputs[-1]) <= options_reader.MOST_BYTES:
             at_figure = {("figure", case.label, case.run.refused or 0)} if case.label else set()
             self.seen["options"].update((case.call,) + step for step in case.run.seen | at_figure)
 

@@ -97,7 +97,8 @@ def of_requests(what, data, requests):
 def of_resolver():
     what, data, requests = queries.of_plan()
     data, what = damaged(data, what)
-    return of_requests(what, data, requests)
+    swapped = [Case("resolve", requests[0], data, what="swapped")] if rnd.random() < 0.05 else []
+    return of_requests(what, data, requests) + swapped
 
 
 # ---- listing and query
@@ -130,6 +131,24 @@ def of_long(sheet, kind, data, name):
     size = len(data)
     group = [reading("longest", sheet, kind, data, by) for by in (None, name)]
     return group + [Case("payload", data, numbers=numbers, what="longest") for numbers in ((4, size - 4), (0, size), (size, 0), (size, 1))]
+
+
+# ---- the ends of inputs
+NOTHING = {"sheet": (b"",), "request": (b"",), "resolve": (b"", b""), "find": (b"", b"", b""), "list": (b"", b"", b""),
+           "query": (b"", b"", b"", b""), "payload": (b"",), "ranges": (b"",), "fields": (b"",), "clean": (b"",), "contained": (b"", b"")}
+
+
+def extremes():
+    """(call, inputs): no inputs at all; and each in turn far longer than is allowed, past 16 bits too, with others that are fine."""
+    yield from NOTHING.items()
+    sheet = option_bytes.self_sheet()
+    fine = {**NOTHING, "resolve": (sheet, figures.asked(b"", b"")), "find": (sheet, b"", b"x"), "list": (sheet, b"o.F", b""),
+            "query": (sheet, b"o.F", f(0x1A, b"f13"), b""), "contained": (sheet, sheet)}
+    for call, inputs in fine.items():
+        for i in range(len(inputs)):
+            for long in (bytes(70000), b"a" * 70000, b"aaa." * 17500 + b"aaaa", f(0x1A, b"a") * 20000, f(1, f(0x10)) * 12000,
+                         b"\0\0\0\1" * 17500):
+                yield call, inputs[:i] + (long,) + inputs[i + 1 :]
 
 
 # ---- the payload
@@ -222,6 +241,8 @@ def fixed():
         yield functools.partial(of_long, *of)
     for data, request in figures.limits():
         yield functools.partial(of_requests, "limit", data, [request])
+    for call, inputs in extremes():
+        yield lambda call=call, inputs=inputs: [Case(call, *inputs, what="extreme")]
     for of in pairs.fixed():
         yield functools.partial(of_pair, *of)
 

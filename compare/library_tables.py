@@ -74,9 +74,18 @@ def field_steps(case):
         yield "word", "%s after %s" % (word if word < 5 else "more", "nothing" if before is None else before if before < 4 else "another")
 
 
+def long_steps(case):
+    if len(case.inputs[-1]) > 65535:
+        size = len(case.inputs[-1])
+        yield "bytes", "%s: %d" % (size if size < 65538 else "more", case.want[0])
+
+
+# over-long bytes (3) come behind the forms of sheet, type and name, and before the type is looked for (7)
+LISTED = {"bytes": ["65536: %d" % n for n in (0, 1, 2, 7, 18)] + ["65537: %d" % n for n in (1, 2, 3)] + ["more: 3"]}
 FIELDS = {"words": [0, 1, "between", 4095, 4096, 4097, "more"],
           "word": ["%s after %s" % (word, before) for word in (0, 1, 2, 3, 4, "more") for before in ("nothing", 0, 1, 2, 3)]}
-OWN = {"payload": (payload_steps, PAYLOAD), "ranges": (range_steps, RANGES), "fields": (field_steps, FIELDS)}
+OWN = {"list": (long_steps, LISTED), "query": (long_steps, LISTED), "payload": (payload_steps, PAYLOAD), "ranges": (range_steps, RANGES),
+       "fields": (field_steps, FIELDS)}
 
 
 def own_steps(case):
