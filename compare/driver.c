@@ -11,9 +11,12 @@
  * says what was wrong, or is empty. Behind the last answer stand lines with what was counted. Numbers are the machine's own.
  *
  * Memory is seen through views of one file, each between two pages that trap: `open` may be written, `sealed` may not, and of `half` only
- * the first half. A call is made at the end of its views, right before the page that traps, and at their start, right behind one; `out` is
- * filled first, at the two places with bytes that are each other's complement. An access that traps ends the run with status 70 and a line
- * on standard error. With `blocks` all memory comes from malloc, just as long as it has to be, and `out` is left as it came: for valgrind. */
+ * the first half. Inputs lie in sealed ones. A call is made with memory at the end of its views, right before a page that traps, and at
+ * their start, right behind one; `out` is filled first, at the two places with bytes that are each other's complement. Rooms that are too
+ * short, and those of a call that writes nothing, are lent open and sealed; rooms that are longer than the answer in `half`, so that what
+ * is past the answer cannot be written. An access that traps ends the run with status 70 and a line on standard error.
+ *
+ * With `blocks` all memory comes from malloc, as long as it has to be and no longer, and `out` is left as it came: for valgrind. */
 #define _GNU_SOURCE
 #include <opt.h>
 #include <signal.h>
@@ -65,7 +68,7 @@ static struct trial now;
 static size_t cases;
 static int blocks;
 static char wrong[400];
-static unsigned long long replies[CALLS][2][REPLIES], views[VIEWS][2], rooms[4], empty[2], whole[2], twice[2];
+static unsigned long long replies[CALLS][2][REPLIES], views[VIEWS][2], rooms[5], empty[2], whole[2], twice[2];
 
 static _Noreturn void fail(const char *what)
 {
@@ -140,8 +143,8 @@ static void trapped(int number, siginfo_t *info, void *context)
     for (int view = OPEN; view < VIEWS; view++)
         if (inside(at, lent[view], OUT_SIZE))
             snprintf(where, sizeof where, "out, byte %td", at - out);
-    fprintf(stderr, "trapped: case %zu: signal %d, %s, %s: opt_%s%s, room %zu, %s, at the %s\n", cases, number, how, where, CALL[asked.call],
-            form(), now.room, VIEW[now.view], PLACE[now.place]);
+    fprintf(stderr, "trapped: case %zu: signal %d, %s, %s: opt_%s%s, room %zu, %s, at the %s\n", cases, number, how, where,
+            CALL[asked.call], form(), now.room, VIEW[now.view], PLACE[now.place]);
     _exit(TRAPPED);
 }
 
@@ -243,7 +246,7 @@ static void count(struct known *k, struct opt_answer got)
     replies[asked.call][now.tested][got.reply < REPLIES - 1 ? got.reply : REPLIES - 1]++;
     views[now.view][now.place]++;
     if (k->taken && WIDTH[asked.call])
-        rooms[now.room < k->length ? 0 : now.room == k->length ? 1 : now.room == k->length + 1 ? 2 : 3]++;
+        rooms[!k->length ? 4 : now.room < k->length ? 0 : now.room == k->length ? 1 : now.room == k->length + 1 ? 2 : 3]++;
 }
 
 /* Makes a call. The first answer of a form is kept: every other has to be the same, or NoRoom where the room is shorter. */
@@ -368,7 +371,7 @@ static void answer_case(const struct known *k)
 
 static void print_counts(void)
 {
-    static const char *const ROOM[4] = {"short", "exact", "one more", "more"}, *const EMPTY[2] = {"at a page that traps", "NULL"};
+    static const char *const ROOM[5] = {"short", "exact", "one more", "more", "of an answer without elements"};
     for (int call = 0; call < CALLS; call++)
         for (int tested = 0; tested < 2; tested++)
             for (int reply = 0; reply < REPLIES; reply++)
@@ -376,10 +379,10 @@ static void print_counts(void)
     for (int view = OPEN; view < VIEWS; view++)
         for (int place = AT_END; place <= AT_START; place++)
             printf("placed\t%s\t%s\t%llu\n", VIEW[view], PLACE[place], views[view][place]);
-    for (int i = 0; i < 4; i++)
+    for (int i = 0; i < 5; i++)
         printf("rooms\t%s\t\t%llu\n", ROOM[i], rooms[i]);
     for (int i = 0; i < 2; i++) {
-        printf("empty inputs\t%s\t\t%llu\n", EMPTY[i], empty[i]);
+        printf("empty inputs\t%s\t\t%llu\n", i ? "NULL" : "at a page that traps", empty[i]);
         printf("answers\t%s\t\t%llu\n", i ? "in some rooms" : "in every room", whole[i]);
         printf("tested forms\t%s\t\t%llu\n", i ? "of a sheet that is not fine" : "answered alike", twice[i]);
     }

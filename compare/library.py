@@ -127,7 +127,7 @@ class Comparison:
         return None
 
     def report(self, case, wrong):
-        less = smallest(case, self.driver.amiss) if self.driver.amiss(case) else case
+        less = smallest(case, self.driver.amiss, self.driver.tries) if self.driver.amiss(case) else case
         self.differs(less, self.driver.amiss(less) or wrong)
 
     def differs(self, case, wrong):
@@ -203,7 +203,12 @@ def work(driver, args, total, number, queue):
         for batch in library_cases.drawn(total, 500 if args.valgrind else 2000, args.seed, number, WORKERS):
             comparison.batch(batch)
             queue.put((number, sum(comparison.cases.values()), comparison.differ + comparison.original.differ, None))
-    except (Exception, SystemExit):
+    except SystemExit as end:
+        # 1 is the end after so many differences
+        if end.code != 1:
+            print(end, flush=True)
+            comparison.differ += 1
+    except Exception:
         traceback.print_exc(file=sys.stdout)
         comparison.differ += 1
     comparison.differ += comparison.original.differ

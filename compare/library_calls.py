@@ -153,6 +153,7 @@ class Driver:
 
     def __init__(self, program, before=(), fault=0):
         self.command = [*before, program] + (["blocks"] if before else [])
+        self.tries = 20 if before else 400  # how often it may be run to make a case smaller
         self.environment = {**os.environ, "FAULT": str(fault)}
 
     def run(self, cases):
@@ -206,7 +207,7 @@ def ways(case):
             yield Case(case.call, *case.inputs[:i], less, *case.inputs[i + 1 :], numbers=case.numbers, what=case.what)
 
 
-def smallest(case, differs, tries=400):
+def smallest(case, differs, tries):
     going = True
     while going:
         going = False

@@ -9,7 +9,6 @@ import listing
 import tables
 from library_calls import CALLS, unpacked
 
-PLAIN = [0, "absent"]
 # the replies that can be: of one with a second word that as well; NoRoom (17) is counted of calls
 REPLIES = {"sheet": [0, 1, 3], "request": [0, 2, 3], "resolve": [0, "absent", *range(1, 11), "10, 1", *range(11, 16)],
            "find": [0, 1, 2, 3, 4], "list": [0, 1, 2, 3, 7, 8, 18, 19], "query": [0, "absent", *range(1, 10), 18, 19], "payload": [0, 2, 3],
@@ -25,9 +24,20 @@ def reply_of(case):
     return "absent" if absent else "%d, %d" % (reply, second) if second else reply
 
 
-# ---- what a case hits
+# ---- what a case hits, and under it all that there is to hit
 def size_word(many, most):
     return many if abs(many - most) < 2 or many < 2 else "between" if many < most else "more"
+
+
+def long_steps(case):
+    """Of listing and query only the longest bytes."""
+    size = len(case.inputs[-1])
+    if size > 65535:
+        yield "bytes", "%s: %d" % (size if size < 65538 else "more", case.want[0])
+
+
+# over-long bytes (3) come behind the forms of sheet, type and name, and before the type is looked for (7)
+LONG = {"bytes": ["65536: %d" % n for n in (0, 1, 2, 7, 18)] + ["65537: %d" % n for n in (1, 2, 3)] + ["more: 3"]}
 
 
 def payload_steps(case):
@@ -36,55 +46,50 @@ def payload_steps(case):
     yield "bytes", size_word(size, 65536)
     if place > size:
         yield "place", "one past the end" if place == size + 1 else "from 2^63 on" if place >= 2**63 else "further out"
-    elif length > size - place:
+    elif end > size:
         yield "length", "one too many" if end == size + 1 else "from 2^63 on" if length >= 2**63 else "more too many"
     else:
-        yield "inside", "nothing, at the end" if place == size else "nothing" if length == 0 else "to the end" if end == size else "a part"
+        yield "inside", "nothing" + ", at the end" * (place == size) if length == 0 else "to the end" if end == size else "a part"
     for bits in (32, 64):
         if end >= 2**bits and end % 2**bits <= size:
             yield "sum", "inside again, modulo 2^%d" % bits
 
 
-PAYLOAD = {"bytes": [0, 1, "between", 65535, 65536, 65537], "place": ["one past the end", "further out", "from 2^63 on"],
-           "length": ["one too many", "more too many", "from 2^63 on"], "inside": ["nothing", "nothing, at the end", "to the end", "a part"],
+PAYLOAD = {"bytes": [0, 1, "between", 65535, 65536, 65537, "more"], "place": ["one past the end", "further out", "from 2^63 on"],
+           "length": ["one too many", "more too many", "from 2^63 on"],
+           "inside": ["nothing", "nothing, at the end", "to the end", "a part"],
            "sum": ["inside again, modulo 2^32", "inside again, modulo 2^64"]}
+WORDS = [0, 1, "between", 4095, 4096, 4097, "more"]
+ENDS = (-(2**31), 2**31 - 2, 2**31 - 1)
 
 
 def range_steps(case):
     words, kind = unpacked(*case.inputs, "i"), case.numbers[0]
     yield "kind", kind if kind < 4 else "from 2^31 on" if kind >= 2**31 else "more"
     yield "words", size_word(len(words), 4096)
-    if len(words) % 2:
-        yield "count", "odd"
-    for at, which in ((0, "start"), (1, "end")):
-        yield from (("edge", "%s %d, kind %d" % (which, n, kind)) for n in words[at::2] if kind < 3 and n in (-(2**31), 2**31 - 2, 2**31 - 1))
+    yield "count", "odd" if len(words) % 2 else "even"
+    for at, which in enumerate(("start", "end")):
+        yield from (("edge", "%s %d, kind %d" % (which, n, kind)) for n in words[at::2] if kind < 3 and n in ENDS)
     if any(start > end for start, end in zip(words[::2], words[1::2])):
         yield "order", "a start above its end"
 
 
-RANGES = {"kind": [0, 1, 2, 3, "more", "from 2^31 on"], "words": [0, 1, "between", 4095, 4096, 4097, "more"], "count": ["odd"],
-          "edge": ["%s %d, kind %d" % (which, n, kind) for which in ("start", "end") for n in (-(2**31), 2**31 - 2, 2**31 - 1) for kind in range(3)],
+RANGES = {"kind": [0, 1, 2, 3, "more", "from 2^31 on"], "words": WORDS, "count": ["even", "odd"],
+          "edge": ["%s %d, kind %d" % (which, n, kind) for which in ("start", "end") for n in ENDS for kind in range(3)],
           "order": ["a start above its end"]}
 
 
 def field_steps(case):
-    words = unpacked(*case.inputs, "I")
+    words = [word if word < 5 else "more" for word in unpacked(*case.inputs, "I")]
     yield "words", size_word(len(words), 4096)
-    for before, word in zip([None] + words, words):
-        yield "word", "%s after %s" % (word if word < 5 else "more", "nothing" if before is None else before if before < 4 else "another")
+    # one that is none ends the list
+    last = next((i for i, word in enumerate(words) if word not in (0, 1, 2, 3)), len(words))
+    yield from (("word", "%s after %s" % both) for both in zip(words[: last + 1], ["nothing"] + words))
 
 
-def long_steps(case):
-    if len(case.inputs[-1]) > 65535:
-        size = len(case.inputs[-1])
-        yield "bytes", "%s: %d" % (size if size < 65538 else "more", case.want[0])
-
-
-# over-long bytes (3) come behind the forms of sheet, type and name, and before the type is looked for (7)
-LISTED = {"bytes": ["65536: %d" % n for n in (0, 1, 2, 7, 18)] + ["65537: %d" % n for n in (1, 2, 3)] + ["more: 3"]}
-FIELDS = {"words": [0, 1, "between", 4095, 4096, 4097, "more"],
+FIELDS = {"words": WORDS,
           "word": ["%s after %s" % (word, before) for word in (0, 1, 2, 3, 4, "more") for before in ("nothing", 0, 1, 2, 3)]}
-OWN = {"list": (long_steps, LISTED), "query": (long_steps, LISTED), "payload": (payload_steps, PAYLOAD), "ranges": (range_steps, RANGES),
+OWN = {"list": (long_steps, LONG), "query": (long_steps, LONG), "payload": (payload_steps, PAYLOAD), "ranges": (range_steps, RANGES),
        "fields": (field_steps, FIELDS)}
 
 
@@ -98,7 +103,7 @@ def line(title, counts):
     """(what, how many) of each, in lines that are not too long."""
     text = title + ": "
     for what, many in counts:
-        word = "%s %d" % (what, many) if what != "" else "%d" % many
+        word = "%s %d" % (what, many)
         if len(text) + len(word) > 138:
             print(text)
             text = "    "
@@ -126,7 +131,7 @@ def calls_table(cases, counts):
 def memory_table(counts):
     missing = []
     print("\nCalls by room and by where memory lay:")
-    wanted = {"rooms": [(room, "") for room in ("short", "exact", "one more", "more")],
+    wanted = {"rooms": [(room, "") for room in ("short", "exact", "one more", "more", "of an answer without elements")],
               "answers": [("in every room", ""), ("in some rooms", "")],
               "placed": [(view, place) for view in ("open", "sealed", "half") for place in ("end", "start")],
               "empty inputs": [("at a page that traps", ""), ("NULL", "")],
@@ -149,13 +154,14 @@ def sheets_table(drawn):
 
 
 def own_tables(seen):
-    missing = []
+    keys = [(call, what, word) for call, (_, wanted) in OWN.items() for what, words in wanted.items() for word in words]
     for call, (_, wanted) in OWN.items():
         print("\n%s: what was hit, each with the number of cases" % call)
         for what, words in wanted.items():
             line(what, [(word, seen[call, what, word]) for word in words])
-            missing += ["%s, %s: %s" % (call, what, word) for word in words if not seen[call, what, word]]
-    return missing
+    for key in sorted(set(seen) - set(keys), key=str):
+        print("not in a table: %s, %s: %s" % key, seen[key])
+    return ["%s, %s: %s" % key for key in keys if not seen[key]]
 
 
 def steps_tables(seen):
