@@ -44,7 +44,7 @@ import options_reader
 import resolve
 import search
 import sheets
-from library_calls import Driver, Trapped, amiss, smallest, unpacked
+from library_calls import Driver, Ended, amiss, smallest, unpacked
 
 LIBRARY, FLAGS = "target/staticlib", ["-std=c11", "-Wall", "-Wextra", "-Wpedantic", "-Werror", "-O1", "-Iinclude"]
 WORKERS, MOST_DIFFERENCES = 2, 5
@@ -75,18 +75,20 @@ class Comparison:
         self.original = resolve.Comparison(None, oracle)
 
     def told(self, cases):
-        """The cases with what is told of each; one that traps is reported and left out."""
-        while cases:
-            try:
-                told, counts = self.driver.run(cases)
-            except Trapped as trap:
-                yield from self.told(cases[: trap.at])
-                self.report(cases[trap.at], trap.line)
-                cases = cases[trap.at + 1 :]
-            else:
-                self.counts += counts
-                yield from zip(cases, told)
-                return
+        """The cases with what is told of each; one that ends the driver is reported and left out."""
+        if not cases:
+            return
+        try:
+            told, counts = self.driver.run(cases)
+        except Ended as end:
+            at = len(cases) // 2 if end.at is None else end.at
+            yield from self.told(cases[:at])
+            if end.at is not None:
+                self.report(cases[at], end.text)
+            yield from self.told(cases[at + (end.at is not None) :])
+        else:
+            self.counts += counts
+            yield from zip(cases, told)
 
     def batch(self, cases):
         fine = []
@@ -203,11 +205,8 @@ def work(driver, args, total, number, queue):
         for batch in library_cases.drawn(total, 500 if args.valgrind else 2000, args.seed, number, WORKERS):
             comparison.batch(batch)
             queue.put((number, sum(comparison.cases.values()), comparison.differ + comparison.original.differ, None))
-    except SystemExit as end:
-        # 1 is the end after so many differences
-        if end.code != 1:
-            print(end, flush=True)
-            comparison.differ += 1
+    except SystemExit:
+        pass  # after so many differences
     except Exception:
         traceback.print_exc(file=sys.stdout)
         comparison.differ += 1
@@ -242,8 +241,8 @@ def first_report(driver, batches):
     for batch in batches:
         try:
             told, _ = driver.run(batch)
-        except Trapped as trap:
-            return done + trap.at + 1, trap.line
+        except Ended as end:
+            return done + (end.at or 0) + 1, end.text
         for case, of in zip(batch, told):
             done += 1
             if amiss(case, of):

@@ -141,11 +141,11 @@ Told = collections.namedtuple("Told", "answer elements wrong")
 TRAPPED = 70
 
 
-class Trapped(Exception):
-    """`at` is which of the cases it was."""
+class Ended(Exception):
+    """The driver ended before its time; `at` is the case that it was at, None where that is not known."""
 
-    def __init__(self, at, line):
-        self.at, self.line = at, line
+    def __init__(self, at, text):
+        self.at, self.text = at, text
 
 
 class Driver:
@@ -161,10 +161,9 @@ class Driver:
         given = b"".join(case.frame() for case in cases)
         run = subprocess.run(self.command, input=given, stdout=subprocess.PIPE, stderr=subprocess.PIPE, env=self.environment)
         said = run.stderr.decode(errors="replace").strip()
-        if run.returncode == TRAPPED:
-            raise Trapped(int(said.split()[2].rstrip(":")), said)
         if run.returncode:
-            raise SystemExit("%s ended with %d\n%s" % (" ".join(self.command), run.returncode, said))
+            at = int(said.split()[2].rstrip(":")) if run.returncode == TRAPPED else 0 if len(cases) == 1 else None
+            raise Ended(at, "status %d: %s" % (run.returncode, said))
         told, at = [], 0
         for _ in cases:
             *six, many, text = struct.unpack_from("<8I", run.stdout, at)
@@ -178,8 +177,8 @@ class Driver:
         """What is wrong with a case, or None."""
         try:
             return amiss(case, self.run([case])[0][0])
-        except Trapped as trap:
-            return trap.line
+        except Ended as end:
+            return end.text
 
 
 def amiss(case, told):
