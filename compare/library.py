@@ -33,6 +33,7 @@ import sys
 import tempfile
 import time
 import traceback
+from queue import Empty
 
 import descriptor
 import evolve
@@ -44,6 +45,7 @@ import options_reader
 import resolve
 import search
 import sheets
+import tables
 from library_calls import Driver, Ended, amiss, smallest, unpacked
 
 LIBRARY, FLAGS = "target/staticlib", ["-std=c11", "-Wall", "-Wextra", "-Wpedantic", "-Werror", "-O1", "-Iinclude"]
@@ -187,12 +189,12 @@ class Comparison:
         if self.oracle:
             self.with_original()
         calls = sum(many for (table, *_), many in self.counts.items() if table == "calls")
-        print("\n%d cases, %d calls, %d s, %d differ" % (sum(self.cases.values()), calls, seconds, self.differ))
+        print("\n%d cases, %d calls of the library, %d s, %d differ" % (sum(self.cases.values()), calls, seconds, self.differ))
 
     def with_original(self):
         print("\n==== the original")
-        library_tables.tables.original(self.original.rows, self.original.changed, self.original.other, self.original.not_asked)
-        library_tables.tables.places_there(self.original.named, self.original.first)
+        tables.original(self.original.rows, self.original.changed, self.original.other, self.original.not_asked)
+        tables.places_there(self.original.named, self.original.first)
         for call in ("find", "ranges", "fields"):
             library_tables.line(call, [(how, many) for (by, how), many in sorted(self.asked.items()) if by == call])
 
@@ -218,12 +220,18 @@ def work(driver, args, total, number, queue):
 def compare(driver, args, total, start):
     """Runs the workers, prints how far they are, and gives what they found together."""
     queue, whole, left, printed = multiprocessing.Queue(), Comparison(None, args.oracle), WORKERS, start
-    done = [(0, 0)] * WORKERS
+    done, workers = [(0, 0)] * WORKERS, []
     for number in range(WORKERS):
         share = total // WORKERS + (number < total % WORKERS)
-        multiprocessing.Process(target=work, args=(driver, args, share, number, queue)).start()
+        workers.append(multiprocessing.Process(target=work, args=(driver, args, share, number, queue)))
+        workers[-1].start()
     while left:
-        number, *done[number], comparison = queue.get()
+        try:
+            number, *done[number], comparison = queue.get(timeout=60)
+        except Empty:
+            if any(worker.exitcode for worker in workers):
+                sys.exit("a process of the run has ended")
+            continue
         if comparison:
             whole.add(comparison)
             left -= 1
