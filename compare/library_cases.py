@@ -1,7 +1,7 @@
 """The cases of compare/library.py: groups of cases that belong together, drawn with the generators of the other scripts here.
 
-Every sheet is tested and asked whether it is clean; some of those that come of plans are damaged first, and keep their requests,
-names and bytes. What is always the same, the cases at figures and at edges, comes once in a run. Everything else is drawn without end from
+Every sheet is tested and asked whether it is clean; some of those that come of plans are damaged first, and keep their requests, names and
+bytes. What is always the same, the cases at figures and at edges, comes once in a run. Everything else is drawn without end from
 sheets.rnd, form.rnd and random, which the caller seeds.
 """
 import copy
@@ -20,9 +20,7 @@ import resolve
 import search
 import steps
 from library_calls import Case, packed
-from sheets import f, rnd
-
-DAMAGED = 0.15
+from sheets import Plan, f, rnd
 
 
 def whole_sheet(data, what):
@@ -40,7 +38,9 @@ def places(nodes):
 
 def reshaped(data):
     """A sheet with declarations left out, doubled or put elsewhere, and leaves that are others of their kind; its lengths are right."""
-    nodes = resolve.tree(data) or []
+    nodes = resolve.tree(data)
+    if not nodes:
+        return data
     for _ in range(rnd.choice((1, 1, 2, 3))):
         every = list(places(nodes))
         some = [(of, i) for of, i in every if (of[i][0] > 6) == (rnd.random() < 0.4)]
@@ -57,12 +57,14 @@ def reshaped(data):
     return resolve.joined(nodes)
 
 
-def damaged(data, what):
-    """One in so many, by its fields or by its bytes."""
+def changed(data, what):
+    """A sheet as it is, mostly; or damaged by its bytes or by its fields, or with the files of another."""
     how = rnd.random()
-    if how > DAMAGED:
-        return data, what
-    return (reshaped(data), "damaged, by its fields") if how < DAMAGED / 2 else (form.broken(data), "damaged, by its bytes")
+    if how < 0.07:
+        return form.broken(data), "damaged, by its bytes"
+    if how < 0.14:
+        return reshaped(data), "damaged, by its fields"
+    return (data + Plan().data, "of two plans") if how < 0.17 else (data, what)
 
 
 # ---- the form
@@ -94,9 +96,19 @@ def of_requests(what, data, requests):
     return group + [Case("find", data, *name, what=what) for name in names[:2]]
 
 
+def longer(request):
+    """A request with its options several times over."""
+    if not steps.in_form(request):
+        return request
+    scope, kind, *options = [f(*field) for field in steps.fields(request)]
+    return scope + kind + b"".join(options) * rnd.randint(2, 40)
+
+
 def of_resolver():
     what, data, requests = queries.of_plan()
-    data, what = damaged(data, what)
+    data, what = changed(data, what)
+    if rnd.random() < 0.1:
+        requests.append(longer(rnd.choice(requests)))
     swapped = [Case("resolve", requests[0], data, what="swapped")] if rnd.random() < 0.05 else []
     return of_requests(what, data, requests) + swapped
 
@@ -109,8 +121,9 @@ def reading(what, data, kind, payload, name, label=None):
 
 def of_options():
     every = list(option_bytes.of_plan())
-    data, what = damaged(every[0][1].data, every[0][0])
-    return whole_sheet(data, what) + [reading(what, data, *of) for _, _, *of in every]
+    data, what = changed(every[0][1].data, every[0][0])
+    some = [(kind, payload * (rnd.randint(2, 60) if rnd.random() < 0.01 else 1), name) for _, _, kind, payload, name in every]
+    return whole_sheet(data, what) + [reading(what, data, *of) for of in some]
 
 
 def long_bytes():
