@@ -97,11 +97,12 @@ def of_requests(what, data, requests):
 
 
 def longer(request):
-    """A request with its options several times over."""
+    """A request with its options several times over, up to the most bytes or a little past them."""
     if not steps.in_form(request):
         return request
     scope, kind, *options = [f(*field) for field in steps.fields(request)]
-    return scope + kind + b"".join(options) * rnd.randint(2, 40)
+    some = b"".join(options)
+    return scope + kind + some * min(rnd.randint(2, 40), 1 + 8192 // (1 + len(some)))
 
 
 def of_resolver():
