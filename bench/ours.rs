@@ -1,60 +1,52 @@
-// This project's calls, by the functions that libbench.a exports to C. Reads an input of the bench, of any calls, and prints its line
-// (`run` in search.rs): what is measured beside the calls is the same code as in the Rust programs.
-#[allow(dead_code)]
-#[path = "search.rs"]
-mod search;
+// This project's calls, by the functions that liboptc.a exports to C: a program of the bench.
+mod harness;
 
-use search::*;
+use harness::*;
 
-// As crates/bench/src/lib.rt has them: a slice is a pointer and how many elements it has. Nothing holds these lines against it but a run.
+type In = *const u8;
+type Words = *mut u32;
+
+// As include/opt.h declares them: a slice is a pointer and how many elements it has. Nothing holds these lines against it but a run.
 extern "C" {
-    fn bench_resolve(sheet: *const u8, n: usize, request: *const u8, m: usize, out: *mut u8, room: usize) -> u64;
-    fn bench_resolve_tested(sheet: *const u8, n: usize, request: *const u8, m: usize, out: *mut u8, room: usize) -> u64;
-    fn bench_list_tested(
-        sheet: *const u8,
-        n: usize,
-        options_type: *const u8,
-        m: usize,
-        bytes: *const u8,
-        k: usize,
-        words: *mut u32,
-        room: usize,
-    ) -> u64;
-    fn bench_search(sheet: *const u8, n: usize, scope: *const u8, m: usize, path: *const u8, k: usize) -> u32;
+    fn opt_sheet(s: In, n: usize) -> Answer;
+    fn opt_find(s: In, n: usize, scope: In, m: usize, path: In, k: usize, out: Words, room: usize) -> Answer;
+    fn opt_find_tested(s: In, n: usize, scope: In, m: usize, path: In, k: usize, out: Words, room: usize) -> Answer;
+    fn opt_resolve(s: In, n: usize, request: In, m: usize, out: *mut u8, room: usize) -> Answer;
+    fn opt_resolve_tested(s: In, n: usize, request: In, m: usize, out: *mut u8, room: usize) -> Answer;
+    fn opt_list(s: In, n: usize, of: In, m: usize, bytes: In, k: usize, out: Words, room: usize) -> Answer;
+    fn opt_list_tested(s: In, n: usize, of: In, m: usize, bytes: In, k: usize, out: Words, room: usize) -> Answer;
+    fn opt_query(s: In, n: usize, of: In, m: usize, name: In, l: usize, bytes: In, k: usize, out: Words, room: usize) -> Answer;
+    fn opt_query_tested(s: In, n: usize, of: In, m: usize, name: In, l: usize, bytes: In, k: usize, out: Words, room: usize) -> Answer;
+    fn opt_clean(s: In, n: usize) -> Answer;
+    fn opt_contained(older: In, n: usize, newer: In, m: usize) -> Answer;
 }
 
-// The reply's number, its second word, and the length.
-fn parts(answer: u64) -> (u32, u32, u32) {
-    ((answer >> 40) as u32, (answer >> 32) as u32 & 255, answer as u32)
-}
-
-fn resolved(answer: u64) -> Case {
-    let (reply, second, length) = parts(answer);
-    Case { answered: reply == 0, word: reply ^ second, length: length as usize }
-}
-
-// The words are added once, at the end: of an answer only how many there are.
-fn listed(answer: u64) -> Case {
-    let (reply, _, length) = parts(answer);
-    Case { answered: reply == 0, word: reply ^ length, length: 0 }
-}
-
-// Where it finds nothing, the word is that of ExtensionNotFound.
-fn found(number: u32) -> Case {
-    Case { answered: number != 0, word: if number == 0 { 4 } else { number }, length: 0 }
+fn called(call: u8, sheet: &[u8], with: &[&[u8]], room: &mut Room) -> Answer {
+    let (s, n) = (sheet.as_ptr(), sheet.len());
+    let (at, many) = (|i: usize| with[i].as_ptr(), |i: usize| with[i].len());
+    let (bytes, most_bytes) = (room.bytes.as_mut_ptr(), room.bytes.len());
+    let (words, most_words) = (room.words.as_mut_ptr(), room.words.len());
+    // Each slice is lent for the call alone, with its own length.
+    unsafe {
+        match call {
+            CHECK => opt_sheet(s, n),
+            FIND => opt_find(s, n, at(0), many(0), at(1), many(1), words, most_words),
+            FIND_TESTED => opt_find_tested(s, n, at(0), many(0), at(1), many(1), words, most_words),
+            RESOLVE => opt_resolve(s, n, at(0), many(0), bytes, most_bytes),
+            RESOLVE_TESTED => opt_resolve_tested(s, n, at(0), many(0), bytes, most_bytes),
+            LIST => opt_list(s, n, at(0), many(0), at(1), many(1), words, most_words),
+            LIST_TESTED => opt_list_tested(s, n, at(0), many(0), at(1), many(1), words, most_words),
+            QUERY => opt_query(s, n, at(0), many(0), at(1), many(1), at(2), many(2), words, most_words),
+            QUERY_TESTED => opt_query_tested(s, n, at(0), many(0), at(1), many(1), at(2), many(2), words, most_words),
+            CLEAN => opt_clean(s, n),
+            CONTAINED => opt_contained(s, n, at(0), many(0)),
+            _ => panic!("no such call"),
+        }
+    }
 }
 
 fn main() {
-    run(|call, sheet, first, second, out, words| {
-        let (s, n, a, m, b, k) = (sheet.as_ptr(), sheet.len(), first.as_ptr(), first.len(), second.as_ptr(), second.len());
-        // Each slice is lent for the call alone, with its own length.
-        unsafe {
-            match call {
-                SEARCH => found(bench_search(s, n, a, m, b, k)),
-                LIST_TESTED => listed(bench_list_tested(s, n, a, m, b, k, words.as_mut_ptr(), words.len())),
-                RESOLVE_TESTED => resolved(bench_resolve_tested(s, n, a, m, out.as_mut_ptr(), out.len())),
-                _ => resolved(bench_resolve(s, n, a, m, out.as_mut_ptr(), out.len())),
-            }
-        }
-    });
+    let input = input();
+    let job = job(&input);
+    run(job.times, &job.cases, |case, room| called(job.call, job.sheet, case, room));
 }

@@ -1,5 +1,5 @@
-/* Cizasmok's option resolver, for C and C++: link target/staticlib/liboptc.a, which `rt staticlib optc` writes (x86-64 Linux, no other
- * library needed).
+/* Cizasmok's option resolver, for C and C++: link target/staticlib/liboptc.a, which `rt staticlib optc` writes (x86-64 Linux; it
+ * needs nothing but the C library's memset).
  *
  * A slice is a pointer and, right behind it, how many elements it has (not bytes). NULL with a count of 0 is allowed everywhere and means
  * no elements; with any other count the pointer has to lead to that many elements, which `words` want aligned as uint32_t is. Inputs are
@@ -61,7 +61,7 @@ struct opt_answer {
 enum {
     OPT_MOST_OPTION_BYTES = 65536, /* of opt_resolve */
     OPT_FOUND_WORDS = 10,          /* of opt_find */
-    OPT_RECORD_WORDS = 8,          /* of opt_query, and a record of opt_list, which has at most a record for two option bytes */
+    OPT_RECORD_WORDS = 8,          /* of opt_query; so many for each option byte are enough for opt_list */
     OPT_MOST_WORDS = 4096          /* of opt_ranges and opt_fields */
 };
 
@@ -72,23 +72,31 @@ struct opt_answer opt_sheet(const uint8_t *sheet, size_t sheet_count);
 struct opt_answer opt_request(const uint8_t *request, size_t request_count);
 
 /* Writes the bytes of a request's options under a sheet; of a refused option `option` and `part` say where. Absent: it has no options. */
-struct opt_answer opt_resolve(const uint8_t *sheet, size_t sheet_count, const uint8_t *request, size_t request_count, uint8_t *out,
-                              size_t out_count);
+struct opt_answer opt_resolve(const uint8_t *sheet, size_t sheet_count,
+                              const uint8_t *request, size_t request_count,
+                              uint8_t *out, size_t out_count);
 
 /* Writes ten words of the extension that a path, which may lead with a dot, finds in a scope: file index; place and length of its name and
  * of its extendee in the sheet; number, type, label; place and length of its type path. */
-struct opt_answer opt_find(const uint8_t *sheet, size_t sheet_count, const uint8_t *scope, size_t scope_count, const uint8_t *path,
-                           size_t path_count, uint32_t *out, size_t out_count);
+struct opt_answer opt_find(const uint8_t *sheet, size_t sheet_count,
+                           const uint8_t *scope, size_t scope_count,
+                           const uint8_t *path, size_t path_count,
+                           uint32_t *out, size_t out_count);
 
 /* Writes eight words for each record of option bytes under an options type: level, number, type (0 unknown), wire type, place and length of
  * the payload in the bytes, value low, value high. */
-struct opt_answer opt_list(const uint8_t *sheet, size_t sheet_count, const uint8_t *type, size_t type_count, const uint8_t *bytes,
-                           size_t bytes_count, uint32_t *out, size_t out_count);
+struct opt_answer opt_list(const uint8_t *sheet, size_t sheet_count,
+                           const uint8_t *options_type, size_t options_type_count,
+                           const uint8_t *bytes, size_t bytes_count,
+                           uint32_t *out, size_t out_count);
 
 /* Writes the eight words of the record that a name leads to in option bytes. The name is parts as an option has them, 1A a field and 1B an
  * extension: 1B 000B plant.order. Absent: there is no such record. */
-struct opt_answer opt_query(const uint8_t *sheet, size_t sheet_count, const uint8_t *type, size_t type_count, const uint8_t *name,
-                            size_t name_count, const uint8_t *bytes, size_t bytes_count, uint32_t *out, size_t out_count);
+struct opt_answer opt_query(const uint8_t *sheet, size_t sheet_count,
+                            const uint8_t *options_type, size_t options_type_count,
+                            const uint8_t *name, size_t name_count,
+                            const uint8_t *bytes, size_t bytes_count,
+                            uint32_t *out, size_t out_count);
 
 /* Whether a place and a length lie in option bytes: OPT_DONE and the length, OPT_BAD_REQUEST, or OPT_BEYOND_LIMIT for over-long bytes. */
 struct opt_answer opt_payload(const uint8_t *bytes, size_t bytes_count, uint64_t place, uint64_t length);
@@ -101,7 +109,9 @@ static inline const uint8_t *opt_payload_part(const uint8_t *bytes, size_t bytes
 }
 
 /* Lowers ranges, a start and an end in turn, of a kind: 0 extension ranges, 1 a message's reserved ones, 2 an enum's. */
-struct opt_answer opt_ranges(uint32_t kind, const int32_t *words, size_t words_count, int32_t *out, size_t out_count);
+struct opt_answer opt_ranges(uint32_t kind,
+                             const int32_t *words, size_t words_count,
+                             int32_t *out, size_t out_count);
 
 /* Gives fields their oneofs. Words: 0 a plain field, 1 a proto3 optional, 2 a oneof opens, 3 its member; for each 0, 1 and 3 one word
  * comes back, 0 for no oneof, else its index and 1. */
@@ -111,19 +121,28 @@ struct opt_answer opt_fields(const uint32_t *words, size_t words_count, uint32_t
 struct opt_answer opt_clean(const uint8_t *sheet, size_t sheet_count);
 
 /* Whether an older sheet is contained in a newer one: `second` is 1 for yes. Where both are clean besides, what opt_resolve writes under
- * the newer opt_list reads under the older, and misreads nothing. */
-struct opt_answer opt_contained(const uint8_t *older, size_t older_count, const uint8_t *newer, size_t newer_count);
+ * the newer opt_list reads under the older, where that declares the options type, and misreads nothing. */
+struct opt_answer opt_contained(const uint8_t *older, size_t older_count,
+                                const uint8_t *newer, size_t newer_count);
 
 /* The same calls for a sheet that opt_sheet found fine: they leave that test out, which is most of the work of one call, and answer alike.
  * Of any other sheet they answer too, and stay in bounds, but not with that sheet's fault. */
-struct opt_answer opt_resolve_tested(const uint8_t *sheet, size_t sheet_count, const uint8_t *request, size_t request_count, uint8_t *out,
-                                     size_t out_count);
-struct opt_answer opt_find_tested(const uint8_t *sheet, size_t sheet_count, const uint8_t *scope, size_t scope_count, const uint8_t *path,
-                                  size_t path_count, uint32_t *out, size_t out_count);
-struct opt_answer opt_list_tested(const uint8_t *sheet, size_t sheet_count, const uint8_t *type, size_t type_count, const uint8_t *bytes,
-                                  size_t bytes_count, uint32_t *out, size_t out_count);
-struct opt_answer opt_query_tested(const uint8_t *sheet, size_t sheet_count, const uint8_t *type, size_t type_count, const uint8_t *name,
-                                   size_t name_count, const uint8_t *bytes, size_t bytes_count, uint32_t *out, size_t out_count);
+struct opt_answer opt_resolve_tested(const uint8_t *sheet, size_t sheet_count,
+                                     const uint8_t *request, size_t request_count,
+                                     uint8_t *out, size_t out_count);
+struct opt_answer opt_find_tested(const uint8_t *sheet, size_t sheet_count,
+                                  const uint8_t *scope, size_t scope_count,
+                                  const uint8_t *path, size_t path_count,
+                                  uint32_t *out, size_t out_count);
+struct opt_answer opt_list_tested(const uint8_t *sheet, size_t sheet_count,
+                                  const uint8_t *options_type, size_t options_type_count,
+                                  const uint8_t *bytes, size_t bytes_count,
+                                  uint32_t *out, size_t out_count);
+struct opt_answer opt_query_tested(const uint8_t *sheet, size_t sheet_count,
+                                   const uint8_t *options_type, size_t options_type_count,
+                                   const uint8_t *name, size_t name_count,
+                                   const uint8_t *bytes, size_t bytes_count,
+                                   uint32_t *out, size_t out_count);
 
 #ifdef __cplusplus
 }

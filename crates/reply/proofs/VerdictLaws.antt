@@ -7,8 +7,8 @@ use Rattle.reply.specs.declared.Refusal.{Refusal}
 use Rattle.reply.specs.declared.Verdict.{Verdict}
 use Rattle.reply.specs.declared.Verdict.the-variants.{Fine, Refused}
 use Rattle.reply.specs.declared.Answer.{Answer}
-use Rattle.reply.specs.Reply.{nowhere, decided}
-use Rattle.reply.specs.Verdicts.{firstFault, judged, replyOf, secondOf, Says}
+use Rattle.reply.specs.Reply.{nowhere, refusedBy, doneWith, decided}
+use Rattle.reply.specs.Verdicts.{firstFault, judged, replyOf, secondOf, answerFor, Says}
 
 module _ (u v : Verdict) where
   pub first-refused : (w : Refusal) → u ≡ Refused w → Refused w ≡ firstFault u v
@@ -43,6 +43,16 @@ first-fine-rest (Refused w) v p = absurd (refused-fine w p)
 pub judged-fine : (w : Refusal) (b : Bool) → judged w b ≡ Fine → b ≡ true
 judged-fine w true p = refl
 judged-fine w false p = absurd (refused-fine w p)
+
+-- ---- the answer of a call whose inputs are judged
+module _ (n : ℕ) (v : Verdict) (r : Answer) where
+  pub answer-fine : v ≡ Fine → r ≡ doneWith n → r ≡ answerFor n v
+  answer-fine g e = rw g e
+
+  pub answer-refused : (w : Refusal) → v ≡ Refused w → r ≡ refusedBy w → r ≡ answerFor n v
+  answer-refused w g e = rw g e
+
+pub ruleset answer-laws = (answer-fine, answer-refused)
 
 -- ---- decided
 abbrev answer : (word : ℕ) → Answer
