@@ -202,7 +202,7 @@ static struct opt_answer ask(uint8_t *to)
     }
 }
 
-/* The most elements that a call writes, by the header. */
+/* The most elements that a call writes, by the header; a record of a listing has two bytes at least. */
 static size_t most(void)
 {
     const size_t by_call[CALLS] = {[RESOLVE] = OPT_MOST_OPTION_BYTES,
