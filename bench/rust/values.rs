@@ -123,9 +123,26 @@ fn put_tag(out: &mut [u8], at: usize, number: u32, wire: u8) -> usize {
     put_varint(out, at, number as u64 * 8 + wire as u64)
 }
 
-pub fn put_head(out: &mut [u8], at: usize, number: u32, length: usize) -> usize {
+fn put_head(out: &mut [u8], at: usize, number: u32, length: usize) -> usize {
     let p = put_tag(out, at, number, LEN);
     put_varint(out, p, length as u64)
+}
+
+fn varint_len(v: u64) -> usize {
+    (70 - (v | 1).leading_zeros() as usize) / 7
+}
+
+pub fn shortest_head(number: u32) -> usize {
+    varint_len(number as u64 * 8 + LEN as u64) + 1
+}
+
+pub fn enclose(out: &mut [u8], at: usize, number: u32, size: usize) -> usize {
+    let from = at + shortest_head(number);
+    let to = from + varint_len(size as u64) - 1;
+    if from < to && to + size <= out.len() {
+        out.copy_within(from..from + size, to);
+    }
+    put_head(out, at, number, size) + size
 }
 
 pub fn put_record(request: &[u8], shape: Shape, body: Body, out: &mut [u8], at: usize) -> usize {
@@ -155,12 +172,9 @@ fn put_message(of: Inputs, shape: Shape, place: Span, left: usize, out: &mut [u8
         return Err(MessageFieldRequiresMessageConstant);
     }
     let scope = find_message_by_abs_name(of.sheet, shape.path.of(of.sheet))?;
-    let n = put_pairs(of, scope, place, left, &mut [], 0)?;
-    let q = put_head(out, at, shape.number, n);
-    if q < out.len() {
-        return put_pairs(of, scope, place, left, out, q);
-    }
-    Ok(q + n)
+    let start = at + shortest_head(shape.number);
+    let end = put_pairs(of, scope, place, left, out, start)?;
+    Ok(enclose(out, at, shape.number, end - start))
 }
 
 fn put_pairs(of: Inputs, scope: LookupScope, place: Span, left: usize, out: &mut [u8], at: usize) -> Wrote {

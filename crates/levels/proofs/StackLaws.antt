@@ -1,15 +1,14 @@
 -- The stack as words: how its words are laid, a level that was written is read again, and those below it stay.
 -- Assumes nothing.
 use Rattle.basis.specs.Kit.{_≡_, refl, sym, ap, _∙_, Bool, true, false, List, [], _∷_, ℕ}
-use Rattle.basis.specs.Kit.{zero, suc, _+_, _*_, _≤_, _<_, length, getD, eqb, sets}
+use Rattle.basis.specs.Kit.{_+_, _*_, _≤_, _<_, length, getD, eqb, sets}
 use Rattle.basis.proofs.Kit.{arith}
 use mathlib.Core.Bool.{not}
-use native.Mathlib.Nat.{add-zero, add-suc, suc-add}
+use native.Mathlib.Nat.{add-zero}
 use mir.Val.{boolByte}
-use lib.ListN.{set, length-set}
-use lib.Seq.{getD-set-same, getD-set-other}
 use Rattle.basis.specs.First.{onlyIf}
 use Rattle.limits.specs.Figures.{mostLevels}
+use Rattle.octets.proofs.Overlay.{getD-sets-before, getD-sets-at}
 use Rattle.octets.proofs.Halfway.{Laying, laying-start, laying-next, laying-inside, laying-room, laying-length, laying-end}
 use Rattle.field.specs.Leaf.{span}
 use Rattle.levels.specs.declared.Level.{Level}
@@ -24,20 +23,6 @@ pub words-end : (l : List ℕ) (at : ℕ) (ws m : List ℕ) (i : ℕ) → Laying
 words-end l at ws m i k h = laying-end l at ws m (length ws) i k h .left
 
 pub ruleset words-laws = (words-start, words-end, laying-next, laying-inside, laying-room, laying-length)
-
--- ---- an element of a list that others were laid over
-module _ {A : Type 0} (d : A) where
-  getD-sets-before : (vs l : List A) (i j : ℕ) → j < i → getD (sets l i vs) j d ≡ getD l j d
-  getD-sets-before [] l i j h = refl
-  getD-sets-before (v ∷ vs) l i j h =
-      getD-sets-before vs (set l i v) (suc i) j (omega arith) ∙ getD-set-other l i j v d (λ e. omega arith)
-
-  getD-sets-at : (vs l : List A) (i k : ℕ) → i + length vs ≤ length l → k < length vs → getD (sets l i vs) (i + k) d ≡ getD vs k d
-  getD-sets-at [] l i k h g = absurd (omega arith)
-  getD-sets-at (v ∷ vs) l i zero h g =
-      rw (add-zero i) (getD-sets-before vs (set l i v) (suc i) i (omega arith) ∙ getD-set-same l i v d (omega arith))
-  getD-sets-at (v ∷ vs) l i (suc k) h g =
-      rw (add-suc i k, ← (suc-add i k)) (getD-sets-at vs (set l i v) (suc i) k (rw (length-set l i v) (omega arith)) (omega arith))
 
 -- ---- levels
 pub level-said : (st : List ℕ) (l : ℕ)

@@ -14,7 +14,8 @@ use faults::on_last;
 use field::Field;
 use field::field_at;
 use limits::MOST_CONSTANTS;
-use records::put_head;
+use records::enclose;
+use records::shortest_head;
 use scope::lookup::LookupScope;
 use sheet::declaration::Shape;
 use steps::Reach;
@@ -51,7 +52,7 @@ fn put_constant(
     on_last(part, wrote)
 }
 
-// The record of a message that parts go inside: they are measured in no room, and written only where there is some.
+// The record of a message that parts go inside: they are written behind the shortest head, and then enclosed.
 fn put_inside(
     sheet: &[u8],
     request: &[u8],
@@ -71,7 +72,8 @@ fn put_inside(
         (now (scope .entry)) part (messageOf (now (message .entry)) place) from to)) (bytesMost (3 + (to - from)))
         (now (out .entry)) at (now (out .exit)) r ⌝ }
 {
-    let measured = put_option(
+    let start = at + shortest_head(number);
+    let stepped = put_option(
         sheet,
         request,
         scope,
@@ -80,28 +82,13 @@ fn put_inside(
         from,
         to,
         part,
-        &mut out[..0],
-        0,
+        out,
+        start,
     );
-    let Stepped::Next(n) = measured else {
-        return measured;
+    let Stepped::Next(end) = stepped else {
+        return stepped;
     };
-    let q = put_head(out, at, number, n);
-    if q < out.len() {
-        return put_option(
-            sheet,
-            request,
-            scope,
-            message,
-            place,
-            from,
-            to,
-            part,
-            out,
-            q,
-        );
-    }
-    Stepped::Next(q + n)
+    Stepped::Next(enclose(out, at, number, end - start))
 }
 
 // The parts of a name from a place on, the one at `part` first, in the message of that name and place, and the constant behind them.

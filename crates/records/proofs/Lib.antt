@@ -3,6 +3,7 @@ pub mod RecsLaws
 pub mod RecordLaws
 pub mod MadeLaws
 pub mod EmitsLaws
+pub mod EnclosedLaws
 pub mod InsideLaws
 pub mod ReadBack
 pub mod RecordControls

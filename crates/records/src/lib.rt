@@ -1,8 +1,10 @@
 // One record, written: its tag, then a number, bytes, or the length of a message.
-ghost use Rattle.basis.specs.Kit.{_++_, _+_, _^_, _<_, length};
+ghost use Rattle.basis.specs.Kit.{_≡_, _++_, _+_, _^_, _≤_, _<_, length};
 ghost use Rattle.octets.specs.inner.Laid.{Laid};
+ghost use Rattle.octets.specs.inner.Moved.{Moved};
 ghost use Rattle.records.specs.Records.{recordOf, payload, headed, headOf, sized, encode};
 ghost use Rattle.records.specs.inner.Emits.{InBody};
+ghost use Rattle.records.specs.inner.Enclosed.{shortest, Encloses};
 use field::Span;
 use reply::Refusal;
 use sheet::declaration::Shape;
@@ -13,6 +15,7 @@ use types::TYPE_SINT32;
 use types::TYPE_SINT64;
 use types::wire_of;
 use varint::put_varint;
+use varint::varint_len;
 
 // What a record holds that is no message: the 64 bits of a number, or bytes of the request.
 pub enum Body {
@@ -63,6 +66,43 @@ pub fn put_head(out: &mut [u8], at: usize, number: u32, length: usize) -> usize
 {
     let p = put_varint(out, at, wire::tag::tag_of(number, LEN));
     put_varint(out, p, length as u64)
+}
+
+// How many bytes the head of a message has at the least: its tag, and a length of one byte.
+pub fn shortest_head(number: u32) -> usize
+    ensures is { λ r. ⌜ r ≡ shortest number ⌝ }
+    ensures few { λ r. ⌜ r ≤ 11 ⌝ }
+{
+    varint_len(wire::tag::tag_of(number, LEN)) + 1
+}
+
+// How many bytes the head of a message has.
+fn head_len(number: u32, size: usize) -> usize
+    ensures is { λ r. ⌜ r ≡ length (headOf number size) ⌝ }
+    ensures few { λ r. ⌜ r ≤ 20 ⌝ }
+{
+    varint_len(wire::tag::tag_of(number, LEN)) + varint_len(size as u64)
+}
+
+// The inside of a message, which stands behind the shortest head at a place, is moved on behind its own.
+fn make_way(out: &mut [u8], at: usize, number: u32, size: usize)
+    requires { ⌜ at + size < 2 ^ 62 ⌝ }
+    ensures { λ _. ⌜ Moved (now (out .entry)) (at + shortest number) (at + length (headOf number size)) size (now (out .exit)) ⌝ }
+{
+    let from = at + shortest_head(number);
+    let to = at + head_len(number, size);
+    octets::move_on(out, from, to, size);
+}
+
+// The record of a message whose inside, of this size, stands behind the shortest head at a place.
+pub fn enclose(out: &mut [u8], at: usize, number: u32, size: usize) -> usize
+    requires { ⌜ at + size < 2 ^ 62 ⌝ }
+    ensures { λ r. ⌜ Encloses (now (out .entry)) at number size (now (out .exit)) r ⌝ }
+{
+    let next = at + head_len(number, size) + size;
+    make_way(out, at, number, size);
+    put_head(out, at, number, size);
+    next
 }
 
 // The record of bytes.

@@ -15,8 +15,9 @@ use pair::Pair;
 use pair::Paired;
 use pair::pair_at;
 use records::Wrote;
-use records::put_head;
+use records::enclose;
 use records::put_record;
+use records::shortest_head;
 use reply::Refusal;
 use request::constant::Constant;
 use request::constant::Held;
@@ -111,7 +112,7 @@ fn put_message(
     }
 }
 
-// The record of a message: its pairs are measured in no room, and written only where there is some.
+// The record of a message: its pairs are written behind the shortest head, and then enclosed.
 fn put_inside(
     sheet: &[u8],
     request: &[u8],
@@ -130,15 +131,12 @@ fn put_inside(
         (holding number (pairsMade (walking (now (sheet .entry))) (now (sheet .entry)) (now (request .entry)) scope left from to))
         (bytesMost (3 + (to - from))) (now (out .entry)) at (now (out .exit)) r ⌝ }
 {
-    let r = put_pairs(sheet, request, scope, from, to, left, &mut out[..0], 0);
-    let Wrote::Next(n) = r else {
+    let start = at + shortest_head(number);
+    let r = put_pairs(sheet, request, scope, from, to, left, out, start);
+    let Wrote::Next(end) = r else {
         return r;
     };
-    let q = put_head(out, at, number, n);
-    if q < out.len() {
-        return put_pairs(sheet, request, scope, from, to, left, out, q);
-    }
-    Wrote::Next(q + n)
+    Wrote::Next(enclose(out, at, number, end - start))
 }
 
 // The pairs of a message.

@@ -33,7 +33,8 @@ use Rattle.values.proofs.+put_inside+put_list+put_message+put_pair+put_
 use Rattle.field.proofs.field_at.Reads as field-at-reads
 use Rattle.lookups.proofs.message_at.Reads as message-at-reads
 use Rattle.octets.proofs.wide.Reads as wide-reads
-use Rattle.records.proofs.put_head.Reads as put-head-reads
+use Rattle.records.proofs.enclose.Reads as enclose-reads
+use Rattle.records.proofs.shortest_head.Reads as shortest-head-reads
 use Rattle.pair.proofs.pair_at.Reads as pair-at-reads
 use Rattle.values.proofs.held_at.Reads as held-at-reads
 use Rattle.values.proofs.kind_of.Reads as kind-of-reads
@@ -123,22 +124,25 @@ put-pairs-μ-loop sheet request scope from to left out₀ at p₀ i₀ out p i =
 pub +put-inside+put-list+put-message+put-pair+put-pairs+put-value-spec : {M : Type 1} → statement M
 +put-inside+put-list+put-message+put-pair+put-pairs+put-value-spec = close μ-put-inside μ-put-list μ-put-message
     μ-put-pair μ-put-pairs μ-put-value
-    (λ t. put-inside-lts.spec (put-pairs-below t, put-pairs.Post, put-head-reads.Asked, put-head-reads.Learnt)
-    (put-inside-at t) put-inside.Post
-    (λ c. search needs)
-    (λ c. search)
-    (λ c κs. search needs)
-    (λ c. search)
-    (λ c. search)
-    (λ c. search)
-    (λ c. search put-inside-laws)
-    (λ c κs. search needs)
+    (λ t. put-inside-lts.spec (
+      shortest-head-reads.Asked,
+      shortest-head-reads.Learnt,
+      put-pairs-below t,
+      put-pairs.Post,
+      enclose-reads.Asked,
+      enclose-reads.Learnt,
+    ) (put-inside-at t) put-inside.Post
     (λ c κs. search (needs, put-inside-laws))
-    (λ c. search needs)
-    (λ c. search put-inside-laws)
-    (λ c. search put-inside-laws)
-    (λ c. search needs)
-    (λ c. search put-inside-laws))
+    (λ c. search (needs, put-inside-laws))
+    (λ c κs. search (needs, put-inside-laws))
+    (λ c. search (needs, put-inside-laws))
+    (λ c. search (needs, put-inside-laws))
+    (λ c. search (needs, put-inside-laws))
+    (λ c. search (needs, put-inside-laws))
+    (λ c. search (needs, put-inside-laws))
+    (λ c κs. search (needs, put-inside-laws))
+    (λ c. search (needs, put-inside-laws))
+    (λ c. search (needs, put-inside-laws)))
     (λ t. put-list-lts.spec (field-at-reads.Asked, field-at-reads.Learnt, put-value-below t, put-value.Post)
     (put-list-at t) put-list.Post put-list-Inv-loop put-list-μ-loop
     (λ c. search list-laws)

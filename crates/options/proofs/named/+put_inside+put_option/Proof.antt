@@ -13,7 +13,8 @@ use Rattle.options.proofs.named.+put_inside+put_option.Lts-put_inside a
 use Rattle.options.proofs.named.put_option.Reads as put-option
 use Rattle.options.proofs.named.put_option.Kinds as put-option-kinds
 use Rattle.options.proofs.named.+put_inside+put_option.Lts-put_option as put-option-lts
-use Rattle.records.proofs.put_head.Reads as put-head-reads
+use Rattle.records.proofs.enclose.Reads as enclose-reads
+use Rattle.records.proofs.shortest_head.Reads as shortest-head-reads
 use Rattle.options.proofs.named.put_constant.Reads as put-constant-reads
 use Rattle.steps.proofs.reach_of.Reads as reach-of-reads
 
@@ -41,22 +42,25 @@ put-option-below t =
 
 pub +put-inside+put-option-spec : {M : Type 1} → statement M
 +put-inside+put-option-spec = close μ-put-inside μ-put-option
-    (λ t. put-inside-lts.spec (put-option-below t, put-option.Post, put-head-reads.Asked, put-head-reads.Learnt)
-    (put-inside-at t) put-inside.Post
-    (λ c. search needs)
-    (λ c. search)
-    (λ c κs. search put-inside-laws)
-    (λ c. search)
-    (λ c. search)
-    (λ c. search)
-    (λ c. search put-inside-laws)
-    (λ c κs. search needs)
-    (λ c κs. search put-inside-laws)
-    (λ c. search needs)
-    (λ c. search put-inside-laws)
-    (λ c. search put-inside-laws)
-    (λ c. search needs)
-    (λ c. search put-inside-laws))
+    (λ t. put-inside-lts.spec (
+      shortest-head-reads.Asked,
+      shortest-head-reads.Learnt,
+      put-option-below t,
+      put-option.Post,
+      enclose-reads.Asked,
+      enclose-reads.Learnt,
+    ) (put-inside-at t) put-inside.Post
+    (λ c κs. search (needs, put-inside-laws))
+    (λ c. search (needs, put-inside-laws))
+    (λ c κs. search (needs, put-inside-laws))
+    (λ c. search (needs, put-inside-laws))
+    (λ c. search (needs, put-inside-laws))
+    (λ c. search (needs, put-inside-laws))
+    (λ c. search (needs, put-inside-laws))
+    (λ c. search (needs, put-inside-laws))
+    (λ c κs. search (needs, put-inside-laws))
+    (λ c. search (needs, put-inside-laws))
+    (λ c. search (needs, put-inside-laws)))
     λ t. put-option-lts.spec (
       reach-of-reads.Asked,
       reach-of-reads.Learnt,
