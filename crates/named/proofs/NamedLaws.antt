@@ -170,7 +170,7 @@ module _ (good : Declaration → Bool) (k : ℕ) (s n : List ℕ) (t a e : ℕ) 
       p ∙ same-name NoDeclaration tellsDeclared (λ d. d .name) s n a e (declarationAt k s t a e) starts good same l q y z w
       (declares-none (declarationAt k s t a e))
 
-pub ruleset declaration-named-at-laws = (declaration-other-name, declaration-same-name)
+pub ruleset declaration-named-at-laws = (declaration-other-name, declaration-same-name, declaration-at-laws)
 
 -- ---- of the declarations of a scope the first that passes a test, whatever the test
 declarations-none : (k : ℕ) → declarationsOf k items.none ≡ []

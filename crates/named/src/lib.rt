@@ -30,7 +30,8 @@ pub fn declaration_at(s: &[u8], tag: u8, from: usize, to: usize, want: u8) -> De
     Declared::NoDeclaration
 }
 
-// The same, where it is of this name.
+// The same, where it is of this name. The readers are called from here, and not through `declaration_at`: so they are compiled in line in
+// the loop below, and what they read is not copied on its way out.
 fn declaration_named_at(
     s: &[u8],
     tag: u8,
@@ -46,7 +47,16 @@ fn declaration_named_at(
     let Leaf::At { from: _, to: _ } = named_at(s, from, to, name) else {
         return Declared::NoDeclaration;
     };
-    declaration_at(s, tag, from, to, want)
+    if tag != want {
+        return Declared::NoDeclaration;
+    }
+    if want == table::EXTENSION {
+        return sheet::declaration::extension_at(s, from, to);
+    }
+    if want == table::FIELD {
+        return sheet::declaration::message_field_at(s, from, to);
+    }
+    Declared::NoDeclaration
 }
 
 // The first extension of that name that the scope declares, or the first field: the first declaration of the tag `want`.
