@@ -21,6 +21,7 @@ which demand 3 would fail: two sheets that are not contained, two that are not c
 """
 import argparse
 import collections
+import functools
 import os
 import subprocess
 import sys
@@ -78,16 +79,14 @@ class Pair:
 
 
 class Case:
-    """A pair and a request or none. `groups` are the lines to be printed, those of each answer together."""
+    """A pair and a request or none."""
 
     def __init__(self, pair, query):
         self.pair, self.query, self.seen, self.run, self.lists = pair, query, set(), None, []
-        self.groups = [pair.lines()]
         if query is None or pair.refused:
             self.seen.add(("request", "none" if query is None else "not read"))
             return
         self.run = run = evolution.Typed(pair.newer, query)
-        self.groups.append(run.lines())
         answer = run.refused.number if run.refused else "absent" if run.bytes is None else "bytes" if run.bytes else "no bytes"
         self.seen.add(("request", answer))
         if run.refused:
@@ -96,17 +95,24 @@ class Case:
         if run.bytes is not None:
             self.kind = dotted(run.kind)
             self.lists = pair.listings(self.kind, run.bytes)
-            self.people = [[] if self.lists[0].refused else self.for_people(told) for told in self.lists]
-            self.groups.append(self.lists[0].lines() + self.people[0] + self.beside())
             self.note_records()
+
+    @functools.cached_property
+    def groups(self):
+        """The lines to be printed, those of each answer together."""
+        groups = [self.pair.lines()] + ([self.run.lines()] if self.run else [])
+        if self.lists:
+            printed = [[] if self.lists[0].refused else self.for_people(told) for told in self.lists]
+            groups.append(self.lists[0].lines() + printed[0] + self.beside(printed))
+        return groups
 
     def for_people(self, told):
         return people.names(told.sheet.data).lines(self.kind, self.run.bytes, told.rows)
 
-    def beside(self):
+    def beside(self, printed):
         """The newer's records, up to their first fault, each with the older's line for it, and between them those that the older alone
         has: a record is known by the place of its payload, which no two share."""
-        older, newer = ({row[4]: (row[0], line) for row, line in zip(told.rows, lines)} for told, lines in zip(self.lists, self.people))
+        older, newer = ({row[4]: (row[0], line) for row, line in zip(told.rows, lines)} for told, lines in zip(self.lists, printed))
         out = []
         for place in sorted(older.keys() | newer.keys()):
             line = newer[place][1] if place in newer else "  " * (older[place][0] + 1) + "-"
@@ -170,7 +176,10 @@ def holds(case, group):
     """Whether what a program printed of the older's listing is what the request's records make it."""
     if group[:1] != ["answer 0"]:
         return False
-    rows = [tuple(map(int, line.split()[1:])) for line in group if line.startswith("record ")]
+    return as_foretold(case, [tuple(map(int, line.split()[1:])) for line in group if line.startswith("record ")])
+
+
+def as_foretold(case, rows):
     return [(row[0], row[1], row[2], row[6] | row[7] << 32) for row in rows] == list(evolution.listed(case.run.tree, case.pair.known))
 
 

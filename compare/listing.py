@@ -220,8 +220,13 @@ def listing_steps():
     yield "two inputs at fault, the first of which counts", [("order", a, b) for i, a in enumerate(inputs) for b in inputs[i + 1 :]
                                                              if b == "form of the type" or b == "bytes"]
     yield "figures", [("figure", label, n) for label, answers in option_bytes.FIGURES.items() for n in answers]
-    yield from people.steps()
     yield "replies", [("reply", n) for n in (0, 1, 2, 3, 7, 8, 18, 19)]
+
+
+def printed_steps():
+    """Those of optlist, which prints for people too."""
+    yield from listing_steps()
+    yield from people.steps()
 
 
 def query_steps():
@@ -265,9 +270,9 @@ def word(key):
     return " ".join(map(str, rest))
 
 
-def steps_taken(seen):
+def steps_taken(seen, listed=printed_steps):
     missing, known = [], set()
-    for call, all_steps in (("list", listing_steps), ("query", query_steps)):
+    for call, all_steps in (("list", listed), ("query", query_steps)):
         print("\n%s: steps, each with the number of cases that took it" % call)
         for title, keys in all_steps():
             known.update((call,) + key for key in keys)
@@ -280,7 +285,7 @@ def steps_taken(seen):
                 line += text + "; "
             print(line.rstrip("; "))
             missing += ["%s, %s: %s" % (call, title, word(key)) for key in keys if not seen[(call,) + key]]
-    shared = {key[0] for _, keys in listing_steps() for key in keys} - {"reply"}
+    shared = {key[0] for _, keys in listed() for key in keys} - {"reply"}
     for key in sorted(seen, key=str):
         # what a query meets while it lists is counted of the listings
         if key not in known and not (key[0] == "query" and key[1] in shared):

@@ -7,11 +7,13 @@ usage: lowering.py ORACLE [CASES]
 Run it from the root of the repository. ORACLE is a program over protobuf-parse 3.7.2 that reads lines `ranges KIND start end ..` and
 `fields word ..` in its mode `lower` and prints `answer 0 words ..` for each. The two programs are those that `rt check` builds under
 target/bin.
-Words are drawn so that every end has a successor and every 3 follows a 2 or a 3: on those lists both sides answer 0.
+Words are drawn so that every end has a successor and every 3 follows a 2 or a 3: on those lists both sides answer 0. `lowered_ranges` and
+`lowered_fields` are a second implementation, which refuses too, for compare/library.py.
 
 `list` says whether the stored tests of the two programs are the cases below, whose answers are written by hand, or writes them. The first
 of each is laid out to try the reader of digits: blanks, a tab, both line ends and both cases.
 """
+import itertools
 import random
 import struct
 import subprocess
@@ -71,6 +73,34 @@ def ours(program, *fields):
     return run.stdout.decode().replace("\n", " ").strip()
 
 
+# ---- a second implementation
+MOST = 4096
+
+
+def lowered_ranges(kind, words):
+    """The refusal's number, or 0, and the words."""
+    if kind > ENUM_RESERVED:
+        return 2, []
+    if len(words) > MOST:
+        return 3, []
+    if len(words) % 2:
+        return 2, []
+    more = 0 if kind == ENUM_RESERVED else 1
+    if more and 2**31 - 1 in words[1::2]:
+        return 16, []
+    return 0, [n + more * (i % 2) for i, n in enumerate(words)]
+
+
+def lowered_fields(words):
+    """Likewise: a oneof for each 1 and each 2, in order, and for a field the number of its own."""
+    if len(words) > MOST:
+        return 3, []
+    if any(w > 3 or (w == 3 and words[i - 1 : i] not in ([2], [3])) for i, w in enumerate(words)):
+        return 2, []
+    opened = itertools.accumulate(w in (1, 2) for w in words)
+    return 0, [n if w else 0 for w, n in zip(words, opened) if w != 2]
+
+
 def word():
     return random.choice(EDGES) if random.random() < 0.5 else random.randint(-2**31, 2**31 - 2)
 
@@ -82,6 +112,14 @@ def some_fields():
         words.append(w)
         may_join = w >= 2
     return words
+
+
+def original(oracle, lines):
+    """What the original says to each line."""
+    run = subprocess.run([oracle, "lower"], input="\n".join(lines) + "\n", stdout=subprocess.PIPE, encoding="utf-8", check=True)
+    theirs = [line.strip() for line in run.stdout.splitlines()]
+    assert len(theirs) == len(lines), "the original answered %d of %d lines" % (len(theirs), len(lines))
+    return theirs
 
 
 def main():
@@ -99,9 +137,7 @@ def main():
             kind, words = random.randint(0, 2), [word() for _ in range(2 * random.randint(0, 20))]
             lines.append("ranges %d " % kind + " ".join(map(str, words)))
             answers.append(ours("optranges", field(0x47, [kind]), field(0x48, words)))
-    run = subprocess.run([oracle, "lower"], input="\n".join(lines) + "\n", stdout=subprocess.PIPE, encoding="utf-8", check=True)
-    theirs = [line.strip() for line in run.stdout.splitlines()]
-    assert len(theirs) == len(lines), "the original answered %d of %d lines" % (len(theirs), len(lines))
+    theirs = original(oracle, lines)
     differ = [(l, a, b) for l, a, b in zip(lines, answers, theirs) if a != b]
     for line, a, b in differ[:10]:
         print("%s\n  here:     %s\n  original: %s" % (line, a, b))
@@ -109,4 +145,5 @@ def main():
     sys.exit(1 if differ else 0)
 
 
-main()
+if __name__ == "__main__":
+    main()

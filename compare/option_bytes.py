@@ -517,30 +517,40 @@ def edges():
 
 
 # ---- cases
+# what kind of a case it is, a sheet, its options type, option bytes, a name or None for the listing, and of a figure its label
+def fixed():
+    """Those at the figures and at the edges, which are always the same."""
+    for label, data, kind, payload, names in figures():
+        sheet = Sheet(data)
+        yield "figure", sheet, kind, payload, None, label
+        for its, name in names:
+            yield "figure", sheet, kind, payload, name, its
+    for data, kind, payload, names in edges():
+        sheet = Sheet(data)
+        yield "edge", sheet, kind, payload, None
+        for name in names:
+            yield "edge", sheet, kind, payload, name
+
+
+def of_plan():
+    """Those of one sheet, ten listings and eight queries."""
+    what = rnd.choice(WHAT)
+    plan = plan_of(what)
+    data = form.broken(plan.data) if what == "malformed" and rnd.random() < 0.7 else plan.data
+    sheet = Sheet(data)
+    drawer = Drawer(sheet if not sheet.fault else Sheet(plan.data))
+    for _ in range(10):
+        kind = kind_of(plan)
+        yield what, sheet, kind, bytes_of(drawer, kind)[1], None
+    for _ in range(8):
+        kind = kind_of(plan)
+        name, payload = question(drawer, kind)
+        yield what, sheet, kind, payload, name
+
+
 def cases():
-    """Without end: what kind of a case it is, a sheet, its options type, option bytes, a name or None for the listing, and of a figure its
-    label."""
+    """Without end."""
     while True:
-        for label, data, kind, payload, names in figures():
-            sheet = Sheet(data)
-            yield "figure", sheet, kind, payload, None, label
-            for its, name in names:
-                yield "figure", sheet, kind, payload, name, its
-        for data, kind, payload, names in edges():
-            sheet = Sheet(data)
-            yield "edge", sheet, kind, payload, None
-            for name in names:
-                yield "edge", sheet, kind, payload, name
+        yield from fixed()
         for _ in range(2500):
-            what = rnd.choice(WHAT)
-            plan = plan_of(what)
-            data = form.broken(plan.data) if what == "malformed" and rnd.random() < 0.7 else plan.data
-            sheet = Sheet(data)
-            drawer = Drawer(sheet if not sheet.fault else Sheet(plan.data))
-            for _ in range(10):
-                kind = kind_of(plan)
-                yield what, sheet, kind, bytes_of(drawer, kind)[1], None
-            for _ in range(8):
-                kind = kind_of(plan)
-                name, payload = question(drawer, kind)
-                yield what, sheet, kind, payload, name
+            yield from of_plan()

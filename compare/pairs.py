@@ -376,16 +376,25 @@ def limits():
             yield None, steps.Sheet(older), steps.Sheet(newer), [query]
 
 
+# what kind of a pair it is, what was changed, older, newer, requests
+def fixed():
+    """Those at the figures and at the edges, which are always the same."""
+    for case in limits():
+        yield "figure", *case
+    for older, newer, request in edges():
+        yield "edge", None, steps.Sheet(older), steps.Sheet(newer), [request]
+
+
+def some_pair():
+    if rnd.random() < 0.05:
+        return "deep", *deep()
+    what = rnd.choice(WHAT)
+    return what, *drawn(what)
+
+
 def cases():
-    """Without end: what kind of a pair it is, what was changed, older, newer, requests."""
+    """Without end."""
     while True:
-        for case in limits():
-            yield "figure", *case
-        for older, newer, request in edges():
-            yield "edge", None, steps.Sheet(older), steps.Sheet(newer), [request]
+        yield from fixed()
         for _ in range(4000):
-            if rnd.random() < 0.05:
-                yield "deep", *deep()
-            else:
-                what = rnd.choice(WHAT)
-                yield what, *drawn(what)
+            yield some_pair()

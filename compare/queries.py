@@ -358,31 +358,33 @@ def request(plan):
 
 
 # ---- cases
+def of_plan():
+    """What kind of a case it is, a sheet, and its requests."""
+    how = rnd.random()
+    if how < 0.50:
+        plan, what = Plan(), "own options type"
+    elif how < 0.72:
+        plan, what = Plan(google=True), "descriptor.proto's"
+    elif how < 0.84:
+        plan, what = Plan(google=rnd.random() < 0.2, wide=True), "every type"
+    elif how < 0.89:
+        plan, what = crossed(Plan(google=rnd.random() < 0.2)), "names of extensions meet"
+    elif how < 0.94:
+        plan, what = spoiled(Plan(google=rnd.random() < 0.1)), "not clean"
+    else:
+        plan, what = Plan(google=rnd.random() < 0.05), "malformed"
+    queries = [request(plan) for _ in range(8)] + [late_request(plan)]
+    if rnd.random() < 0.06:
+        queries.append(long_request(plan))
+    if what == "malformed" and rnd.random() < 0.3:
+        return what, form.broken(plan.data), queries[:3]
+    return what, plan.data, [form.broken(q) for q in queries] if what == "malformed" else queries
+
+
 def cases():
-    """Without end: what kind of a case it is, a sheet, and its requests."""
+    """Without end, those at the figures among them."""
     while True:
         for sheet, query in figures.limits():
             yield "limit", sheet, [query]
         for _ in range(2500):
-            how = rnd.random()
-            if how < 0.50:
-                plan, what = Plan(), "own options type"
-            elif how < 0.72:
-                plan, what = Plan(google=True), "descriptor.proto's"
-            elif how < 0.84:
-                plan, what = Plan(google=rnd.random() < 0.2, wide=True), "every type"
-            elif how < 0.89:
-                plan, what = crossed(Plan(google=rnd.random() < 0.2)), "names of extensions meet"
-            elif how < 0.94:
-                plan, what = spoiled(Plan(google=rnd.random() < 0.1)), "not clean"
-            else:
-                plan, what = Plan(google=rnd.random() < 0.05), "malformed"
-            queries = [request(plan) for _ in range(8)] + [late_request(plan)]
-            if rnd.random() < 0.06:
-                queries.append(long_request(plan))
-            if what == "malformed" and rnd.random() < 0.3:
-                yield what, form.broken(plan.data), queries[:3]
-            elif what == "malformed":
-                yield what, plan.data, [form.broken(q) for q in queries]
-            else:
-                yield what, plan.data, queries
+            yield of_plan()

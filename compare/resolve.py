@@ -145,7 +145,17 @@ def oracle_answers(oracle, cases, *flags):
 
 
 EIGHT = {descriptor.PACKAGE + (name,) for name in steps.EIGHT}
-GOOGLE = {m.full: sorted((d.name, d.number, d.kind, d.label, d.path or ()) for d in m.fields) for m in sheets.google_messages()}
+
+
+def every_message(messages):
+    for message in messages:
+        yield message
+        yield from every_message(message.messages)
+
+
+# their fields and enums, both in any order
+GOOGLE = {m.full: (sorted((d.name, d.number, d.kind, d.label, d.path or ()) for d in m.fields),
+                   sorted((enum.name, sorted(enum.values)) for enum in m.enums)) for m in every_message(sheets.google_messages())}
 
 
 def judged(sheet):
@@ -153,7 +163,8 @@ def judged(sheet):
     if not hasattr(sheet, "clean_as"):
         sheet.clean_as = None if sheet.fault else "clean" if sheet.clean() else "names meet" if sheet.clean(extensions=False) else None
         sheet.google = sheet.clean_as and all(
-            sorted((d.name, d.number, d.type, d.label, d.path or ()) for d in scope.all_fields) == known
+            (sorted((d.name, d.number, d.type, d.label, d.path or ()) for d in scope.all_fields),
+             sorted((name, sorted(values)) for name, values in scope.all_enums)) == known
             for path, known in GOOGLE.items() for scope in sheet.messages(path)
         )
     return sheet
@@ -200,6 +211,11 @@ def asked(case):
         elif not all(readable(steps.fields(option)) for _, option in list(steps.fields(case.query))[2:]):
             case.why = "type URLs of another form"
     return case.why is None
+
+
+def asked_fixed(case):
+    """Whether one that is asked is asked with `--fixed` too."""
+    return case.run.kind in EIGHT and case.sheet.google and case.sheet.messages(case.run.kind)
 
 
 def ours(case):
@@ -376,8 +392,7 @@ class Comparison:
             if not asked(case):
                 self.not_asked[case.why] += 1
         self.with_mode(plain, [], "")
-        fixed = [c for c in plain if c.run.kind in EIGHT and c.sheet.google and c.sheet.messages(c.run.kind)]
-        self.with_mode(fixed, ["--fixed"], ", --fixed")
+        self.with_mode([case for case in plain if asked_fixed(case)], ["--fixed"], ", --fixed")
         self.with_first([case for case in plain if row(case) == DOMAIN and alone(case)])
 
     def with_first(self, cases):
@@ -405,7 +420,7 @@ class Comparison:
             return run.where and named(lines) not in (None, refused_part(case, run))
 
         def differs(case):
-            if not asked(case) or told(case)[0][:6] not in ("answer", "panic "):
+            if not asked(case) or (flags and not asked_fixed(case)) or told(case)[0][:6] not in ("answer", "panic "):
                 return False
             return agree(case, ours(case), told(case)) is None or misnamed(ours(case), case, told(case))
 

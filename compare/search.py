@@ -12,6 +12,7 @@ ORACLE is a program over protobuf-parse 3.7.2 that reads a line of hexadecimal d
 what the option resolver answers. It is asked for the option `(path) = 7` on each of two messages: what it writes begins with the number of
 the extension that it took. optfind compares no extendee, so where the extendee that it prints is the other message, 5 is expected.
 """
+import functools
 import random
 import struct
 import subprocess
@@ -25,11 +26,12 @@ NAMES = ["a", "b", "c", "M", "x", "y"]
 # ---- the second implementation
 class Ext:
     def __init__(self, data, at, end, file):
-        self.file, self.place = file, None
+        self.file, self.spans = file, {}
         for tag, start, stop in fields(data, at, end):
             value = data[start:stop]
+            self.spans[tag] = start, stop - start
             if tag == 0x11:
-                self.place, self.name = start, value
+                self.name = value
             if tag == 0x12:
                 self.extendee = value
             if tag == 0x13:
@@ -45,8 +47,13 @@ class Ext:
         of = ["of " + self.path.decode()] if hasattr(self, "path") else []
         return (
             ["answer 0", "name " + self.name.decode(), "number %d" % self.number, "extendee " + self.extendee.decode()]
-            + ["type %d" % self.type, "label %d" % self.label] + of + ["file %d" % self.file, "place %d" % self.place]
+            + ["type %d" % self.type, "label %d" % self.label] + of + ["file %d" % self.file, "place %d" % self.spans[0x11][0]]
         )
+
+    def words(self):
+        """The ten words of `find`: a place and a length for each of its name, its extendee and its type path."""
+        name, extendee, path = (self.spans.get(tag, (0, 0)) for tag in (0x11, 0x12, 0x16))
+        return [self.file, *name, *extendee, self.number, self.type, self.label, *path]
 
 
 def fields(data, at, end):
@@ -56,6 +63,7 @@ def fields(data, at, end):
         at += 3 + size
 
 
+@functools.lru_cache(16)
 def scopes(data):
     """All scopes of a fine sheet: (full path, components of the package, file, extensions), of messages of one name only the first."""
     found = []
@@ -112,14 +120,25 @@ NAMED = {
 }
 
 
-def expected(data, scope, path):
-    told = form.expected(data, None)
-    if told[0] != "answer 0":
-        return told
+@functools.lru_cache(16)
+def fault(data):
+    """The number of a sheet's fault, or 0."""
+    return int(form.expected(data, None)[0].split()[1])
+
+
+def searched(data, scope, path):
+    """The refusal's number, or 0, and the extension that is found."""
+    if fault(data):
+        return fault(data), None
     if not path_fits(scope, empty=True) or not path_fits(path, dot=True):
-        return NAMED[2]
+        return 2, None
     found = find(data, scope, path)
-    return found.lines() if found else NAMED[4]
+    return (0, found) if found else (4, None)
+
+
+def expected(data, scope, path):
+    reply, found = searched(data, scope, path)
+    return NAMED[reply] if reply else found.lines()
 
 
 # ---- cases
@@ -180,10 +199,15 @@ def some_names(data):
 
 def some_case():
     data = some_sheet()
-    scope, path = some_names(data) if form.expected(data, None)[0] == "answer 0" else (some_path(0, 4), some_path(1, 3))
+    return data, *asked_of(data)
+
+
+def asked_of(data):
+    """A scope and a path for a sheet, whatever it is; a few are none."""
+    scope, path = some_names(data) if not fault(data) else (some_path(0, 4), some_path(1, 3))
     if random.random() < 0.03:
         path, scope = random.choice([(b"", scope), (b"..x", scope), (b"a.", scope), (path, b".a"), (path, b"a..b")])
-    return data, scope, path
+    return scope, path
 
 
 def answers(cases):
@@ -220,36 +244,40 @@ def original(oracle, cases):
     return run.stdout.splitlines()
 
 
+def plain_case():
+    """A sheet of scalar extensions that is in form, a scope and a path; messages o.F and o.G are declared by a last file."""
+    files = b""
+    for _ in range(random.randint(0, 5)):
+        files += f(1, f(0x10, some_path(0, 3)) + plain_items(3))
+    return files + OPTIONS, *some_names(files + OPTIONS)
+
+
+def both_say(number, extendee, message, line):
+    """What was found here, by its number or None and its extendee, and the original's line, for one message in the same words."""
+    want = line.split()
+    told = "refused 4" if number is None else "found %d" % number if extendee == message else "refused 5"
+    return told, "found %d" % tag_number(want[3]) if want[1] == "0" else "refused " + want[1]
+
+
 def against(oracle, total):
-    """Sheets of scalar extensions that are in form; message o.F and o.G are declared by a last file."""
     done = differ = 0
     seen = {}
     while done < total:
-        batch = []
-        while len(batch) < 300:
-            files = b""
-            for _ in range(random.randint(0, 5)):
-                files += f(1, f(0x10, some_path(0, 3)) + plain_items(3))
-            batch.append((files + OPTIONS, *some_names(files + OPTIONS)))
+        batch = [plain_case() for _ in range(300)]
         ours = answers(batch)
         if len(ours) != len(batch):
             sys.exit("%d answers to %d cases" % (len(ours), len(batch)))
         theirs = {m: original(oracle, [(s, c, p, m) for s, c, p in batch]) for m in (b"o.F", b"o.G")}
         for i, (case, got) in enumerate(zip(batch, ours)):
+            found = (None, None) if got[0] == "answer 4" else (int(got[2].split()[1]), got[3].split()[1].encode())
             for message in (b"o.F", b"o.G"):
-                want = theirs[message][i].split()
-                if got[0] == "answer 4":
-                    told = "refused 4"
-                else:
-                    number, extendee = got[2].split()[1], got[3].split()[1]
-                    told = "found " + number if extendee.encode() == message else "refused 5"
-                said = "found %d" % tag_number(want[3]) if want[1] == "0" else "refused " + want[1]
+                told, said = both_say(*found, message, theirs[message][i])
                 kind = told if told.startswith("refused") else "found"
                 seen[kind] = seen.get(kind, 0) + 1
                 if told != said:
                     differ += 1
                     asked = (case[0].hex(), case[1], case[2], message)
-                    print("sheet %s scope %s path %s message %s\n  here: %s  original: %s" % (*asked, told, want))
+                    print("sheet %s scope %s path %s message %s\n  here: %s  original: %s" % (*asked, told, said))
                     if differ == 5:
                         sys.exit(1)
         done += 2 * len(batch)
