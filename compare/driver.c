@@ -233,7 +233,8 @@ static void read_part(struct known *k, struct opt_answer got)
 {
     const uint8_t *bytes = from(0, now.place);
     const uint8_t *part = opt_payload_part(bytes, asked.bytes[0], asked.number[0], asked.number[1]);
-    if (part != (bytes && got.reply == OPT_DONE ? bytes + asked.number[0] : NULL))
+    const int right = !part ? got.reply != OPT_DONE : got.reply == OPT_DONE && (!bytes || part == bytes + asked.number[0]);
+    if (!right)
         amiss("another part", got);
     else if (part && k->shown == 0)
         memcpy(k->elements, part, k->shown = got.length);

@@ -101,11 +101,13 @@ struct opt_answer opt_query(const uint8_t *sheet, size_t sheet_count,
 /* Whether a place and a length lie in option bytes: OPT_DONE and the length, OPT_BAD_REQUEST, or OPT_BEYOND_LIMIT for over-long bytes. */
 struct opt_answer opt_payload(const uint8_t *bytes, size_t bytes_count, uint64_t place, uint64_t length);
 
-/* The payload itself, no copy: where in `bytes` it stands, or NULL where opt_payload refuses. Of no bytes at NULL it is NULL too, so who
- * takes such bytes asks opt_payload. */
+/* The payload itself, no copy: where in `bytes` it stands; NULL exactly where opt_payload refuses. */
 static inline const uint8_t *opt_payload_part(const uint8_t *bytes, size_t bytes_count, uint64_t place, uint64_t length)
 {
-    return bytes && opt_payload(bytes, bytes_count, place, length).reply == OPT_DONE ? bytes + place : NULL;
+    static const uint8_t none[1] = {0}; /* stands for no bytes at NULL */
+    if (opt_payload(bytes, bytes_count, place, length).reply != OPT_DONE)
+        return NULL;
+    return bytes ? bytes + place : none;
 }
 
 /* Lowers ranges, a start and an end in turn, of a kind: 0 extension ranges, 1 a message's reserved ones, 2 an enum's. */
