@@ -58,8 +58,3 @@ enclosed at n k h m l′ q head l move e = record {
       ∙ headed-laid base l m (headOf n k) bs at (at + shortest n) (at + length (headOf n k)) refl (omega arith)
       (omega (arith, head-longer n k)) laid (rw size move);
 }
-
-pub enclosed-place : (at k : ℕ) → at + k < 2 ^ 62 → at < 2 ^ 62
-enclosed-place at k h = omega (arith, h)
-
-pub ruleset enclosed-laws = (enclosed, enclosed-place)

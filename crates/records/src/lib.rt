@@ -60,7 +60,7 @@ fn put_number(out: &mut [u8], at: usize, number: u32, typ: usize, bits: u64) -> 
 }
 
 // The tag and the length of a length-delimited record.
-pub fn put_head(out: &mut [u8], at: usize, number: u32, length: usize) -> usize
+fn put_head(out: &mut [u8], at: usize, number: u32, length: usize) -> usize
     requires { ⌜ at < 2 ^ 62 ⌝ }
     ensures { λ r. ⌜ Laid (now (out .entry)) at (headOf number length) (now (out .exit)) r ⌝ }
 {

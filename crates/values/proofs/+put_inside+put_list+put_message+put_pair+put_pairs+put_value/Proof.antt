@@ -132,17 +132,17 @@ pub +put-inside+put-list+put-message+put-pair+put-pairs+put-value-spec : {M : Ty
       enclose-reads.Asked,
       enclose-reads.Learnt,
     ) (put-inside-at t) put-inside.Post
-    (λ c κs. search (needs, put-inside-laws))
-    (λ c. search (needs, put-inside-laws))
-    (λ c κs. search (needs, put-inside-laws))
-    (λ c. search (needs, put-inside-laws))
-    (λ c. search (needs, put-inside-laws))
-    (λ c. search (needs, put-inside-laws))
-    (λ c. search (needs, put-inside-laws))
-    (λ c. search (needs, put-inside-laws))
-    (λ c κs. search (needs, put-inside-laws))
-    (λ c. search (needs, put-inside-laws))
-    (λ c. search (needs, put-inside-laws)))
+    (λ c κs. search)
+    (λ c. search needs)
+    (λ c κs. search needs)
+    (λ c. search)
+    (λ c. search)
+    (λ c. search)
+    (λ c. search put-inside-laws)
+    (λ c. search put-inside-laws)
+    (λ c κs. search put-inside-laws)
+    (λ c. search)
+    (λ c. search put-inside-laws))
     (λ t. put-list-lts.spec (field-at-reads.Asked, field-at-reads.Learnt, put-value-below t, put-value.Post)
     (put-list-at t) put-list.Post put-list-Inv-loop put-list-μ-loop
     (λ c. search list-laws)

@@ -50,17 +50,17 @@ pub +put-inside+put-option-spec : {M : Type 1} → statement M
       enclose-reads.Asked,
       enclose-reads.Learnt,
     ) (put-inside-at t) put-inside.Post
-    (λ c κs. search (needs, put-inside-laws))
-    (λ c. search (needs, put-inside-laws))
-    (λ c κs. search (needs, put-inside-laws))
-    (λ c. search (needs, put-inside-laws))
-    (λ c. search (needs, put-inside-laws))
-    (λ c. search (needs, put-inside-laws))
-    (λ c. search (needs, put-inside-laws))
-    (λ c. search (needs, put-inside-laws))
-    (λ c κs. search (needs, put-inside-laws))
-    (λ c. search (needs, put-inside-laws))
-    (λ c. search (needs, put-inside-laws)))
+    (λ c κs. search)
+    (λ c. search needs)
+    (λ c κs. search put-inside-laws)
+    (λ c. search)
+    (λ c. search)
+    (λ c. search)
+    (λ c. search put-inside-laws)
+    (λ c. search put-inside-laws)
+    (λ c κs. search put-inside-laws)
+    (λ c. search)
+    (λ c. search put-inside-laws))
     λ t. put-option-lts.spec (
       reach-of-reads.Asked,
       reach-of-reads.Learnt,
