@@ -127,19 +127,27 @@ struct opt_answer opt_clean(const uint8_t *sheet, size_t sheet_count);
 struct opt_answer opt_contained(const uint8_t *older, size_t older_count,
                                 const uint8_t *newer, size_t newer_count);
 
-/* The same calls for a sheet that opt_sheet found fine: they leave that test out, which is most of the work of one call, and answer alike.
- * Of any other sheet they answer too, and stay in bounds, but not with that sheet's fault. */
+/* ---- the same calls for a sheet that opt_sheet found fine: they leave that test out, which is most of the work of one call, and answer
+ * alike. Of any other sheet they answer too, and stay in bounds, but not with that sheet's fault. */
+
+/* As opt_resolve, of a tested sheet. */
 struct opt_answer opt_resolve_tested(const uint8_t *sheet, size_t sheet_count,
                                      const uint8_t *request, size_t request_count,
                                      uint8_t *out, size_t out_count);
+
+/* As opt_find, of a tested sheet. */
 struct opt_answer opt_find_tested(const uint8_t *sheet, size_t sheet_count,
                                   const uint8_t *scope, size_t scope_count,
                                   const uint8_t *path, size_t path_count,
                                   uint32_t *out, size_t out_count);
+
+/* As opt_list, of a tested sheet. */
 struct opt_answer opt_list_tested(const uint8_t *sheet, size_t sheet_count,
                                   const uint8_t *options_type, size_t options_type_count,
                                   const uint8_t *bytes, size_t bytes_count,
                                   uint32_t *out, size_t out_count);
+
+/* As opt_query, of a tested sheet. */
 struct opt_answer opt_query_tested(const uint8_t *sheet, size_t sheet_count,
                                    const uint8_t *options_type, size_t options_type_count,
                                    const uint8_t *name, size_t name_count,

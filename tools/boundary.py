@@ -7,8 +7,8 @@ Run it from the root of the repository. No proof reaches a declaration in C or R
 have the same slices and numbers, by name, type and order, in crates/optc/src/lib.rt, in the header and in bindings/rust/src/sys.rs, and
 the archive, where `rt staticlib optc` has written it, has to define these functions and no others; the answer's six numbers are those of
 crates/reply. Numbers, second words and names of the replies have to be those of crates/reply in the header, in include/opt_words.h, in
-bindings/rust and in README.md, and the words of the last three the same. Prints what differs, and a line that says what was compared; the
-exit code is 1 where something differs.
+bindings/rust and in README.md, and the words of the last three the same. The headers are compiled as C and as C++, without a warning.
+Prints what differs, and a line that says what was compared; the exit code is 1 where something differs.
 """
 import os
 import re
@@ -109,6 +109,14 @@ def replies(differ):
     return "%d replies with their words" % len(ours)
 
 
+def headers(differ):
+    strict = ["-Wall", "-Wextra", "-Wpedantic", "-Werror", "-fsyntax-only"]
+    for compiler in (["cc", "-std=c99", "-xc"], ["c++", "-std=c++11", "-xc++"]):
+        run = subprocess.run([*compiler, *strict, "include/opt_words.h"], stderr=subprocess.PIPE, encoding="utf-8")
+        differ("the headers by %s" % compiler[1][5:], run.stderr, "")
+    return "headers as C99 and C++11"
+
+
 def rows(pattern, path, places):
     """Rows of a table: name, number, second word, words. A literal may go on in the next line."""
     found = re.finditer(pattern, text(path), re.S if "\n" not in pattern and "^" not in pattern else re.M)
@@ -127,7 +135,7 @@ def main():
             different.append(what)
             print("DIFFERS: %s\n  there:  %s\n  wanted: %s" % (what, found, wanted))
 
-    told = [functions(differ), answer(differ), replies(differ)]
+    told = [functions(differ), answer(differ), replies(differ), headers(differ)]
     print("%s: %d differ" % (", ".join(told), len(different)))
     sys.exit(1 if different else 0)
 
