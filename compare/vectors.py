@@ -11,7 +11,7 @@ optranges' and optoneofs' (lowering.py).
 """
 import struct
 
-KINDS = {"VARINT": 1, "ZIGZAG": 2, "CANDIDATE": 6, "CANDIDATES": 7, "REFUSAL": 8, "PRINTED": 9}
+KINDS = {"VARINT": 1, "ZIGZAG": 2, "LIMIT": 3, "CANDIDATE": 6, "CANDIDATES": 7, "REFUSAL": 8, "PRINTED": 9}
 WIDTH = 120
 
 
@@ -37,6 +37,11 @@ def case(kind, label, *given, want=None):
 # A number: written as a varint it is these bytes, of that length, and read from them it comes back.
 def varint(label, n, want):
     return case("VARINT", label, u64(n), want=bytes.fromhex(want))
+
+
+# The first number of n + 1 bytes: the one before it is written in n, the one after it in n + 1.
+def limit(label, first, n):
+    return case("LIMIT", label, u64(first - 1), u64(first), u64(first + 1), want=words(n))
 
 
 # A signed number as 64 bits, and its zigzag form, both ways.
@@ -74,6 +79,17 @@ CASES = [
     varint("varint 86942 is 9E A7 05", 86942, "9ea705"),
     # Encoding, "Signed Integers": -2 takes ten bytes
     varint("varint -2 is FE and eight FF and 01", -2, "feffffffffffffffff01"),
+    # Encoding, "Base 128 Varints": seven bits a byte, so that 128^n is the first number of n + 1 bytes; 64 bits take ten
+    limit("from 128 on 2 bytes", 128, 1),
+    limit("from 16384 on 3 bytes", 16_384, 2),
+    limit("from 2097152 on 4 bytes", 2_097_152, 3),
+    limit("from 268435456 on 5 bytes", 268_435_456, 4),
+    limit("from 34359738368 on 6 bytes", 34_359_738_368, 5),
+    limit("from 4398046511104 on 7 bytes", 4_398_046_511_104, 6),
+    limit("from 562949953421312 on 8 bytes", 562_949_953_421_312, 7),
+    limit("from 72057594037927936 on 9 bytes", 72_057_594_037_927_936, 8),
+    limit("from 9223372036854775808 on 10 bytes", 9_223_372_036_854_775_808, 9),
+    varint("varint 2^64 - 1 is nine FF and 01", 2**64 - 1, "ffffffffffffffffff01"),
     # Encoding, "Signed Integers": the table of ZigZag encoding
     zigzag("zigzag 0 is 0", 0, 0),
     zigzag("zigzag -1 is 1", -1, 1),

@@ -1,6 +1,6 @@
 -- Closed cases of specs/: of each rule one that holds, one at the limit and one refused just past it.
 -- Assumes nothing.
-use Rattle.basis.specs.Kit.{_≡_, refl, List, [], _∷_, ℕ, _-_, _^_}
+use Rattle.basis.specs.Kit.{_≡_, refl, List, [], _∷_, ℕ, _-_, _^_, length}
 use Rattle.varint.specs.declared.Read.the-variants.{Varint, Bad}
 use Rattle.varint.specs.Varint.{varintWithin, varint, readWithin, readVarint, atPlace, varintAt}
 
@@ -20,6 +20,15 @@ varint-one-byte = (refl, refl, refl)
 varint-most : varint (2 ^ 64 - 1) ≡ nine 0xff (0x01 ∷ [])
 unfolding varint varintWithin
 varint-most = refl
+
+-- 128^n is the first number of n + 1 bytes, and 64 bits take ten
+varint-lengths-low : (length (varint 127) ≡ 1) × (length (varint 128) ≡ 2) × (length (varint 16_383) ≡ 2) × (length (varint 16_384) ≡ 3)
+unfolding varint varintWithin
+varint-lengths-low = (refl, refl, refl, refl)
+
+varint-lengths-high : (length (varint (2 ^ 63 - 1)) ≡ 9) × (length (varint (2 ^ 63)) ≡ 10) × (length (varint (2 ^ 64 - 1)) ≡ 10)
+unfolding varint varintWithin
+varint-lengths-high = (refl, refl, refl)
 
 read-front : readVarint (0x96 ∷ 0x01 ∷ 0xff ∷ []) ≡ Varint 150 2
 unfolding readVarint readWithin

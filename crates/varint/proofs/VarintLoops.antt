@@ -1,6 +1,6 @@
--- The loops of `varint_len` and `put_varint`: what is known at the head of each, and its laws.
+-- The loop of `put_varint`: what is known at its head, and its laws.
 -- Assumes nothing.
-use Rattle.basis.specs.Kit.{_≡_, ap, _∙_, List, [], _∷_, ℕ, suc, _+_, _-_, _/_, _%_, _^_, _≤_, _<_, length, sets}
+use Rattle.basis.specs.Kit.{_≡_, ap, _∙_, List, [], _∷_, ℕ, _+_, _-_, _/_, _%_, _^_, _≤_, _<_, length, sets}
 use Rattle.basis.proofs.Kit.{arith, w64, Fits}
 use lib.Seq.{length-sets}
 use Rattle.limits.specs.Figures.{mostVarint}
@@ -9,34 +9,7 @@ use Rattle.varint.specs.Varint.{varint}
 use Rattle.octets.proofs.Halfway.{Halfway, halfway-start, halfway-next, halfway-end, halfway-place, halfway-length}
 use Rattle.varint.proofs.VarintLaws.{Shortest, shortest-end, shortest-more, varint-shortened, varint-few}
 
--- ---- `varint_len`: n counts the bytes before x and the last one
-pub record Counting (v x n : ℕ) : Type 0 where
-  pub room : ℕ
-  pub rest : List ℕ
-  pub left : Shortest room x rest
-  pub sum : n + length rest ≡ suc (length (varint v))
-
-pub counting-start : (v : ℕ) → v < 2 ^ 64 → Counting v v 1
-counting-start v h = record { room = mostVarint - 1; rest = varint v; left = varint-shortened v h; sum = omega arith }
-
-module _ (v x n : ℕ) (c : Counting v x n) where
-  pub counting-fits : Fits w64 (n + 1)
-  counting-fits = record { fits = omega (arith, c .sum, varint-few v) }
-
-  pub counting-next : 128 ≤ x → Counting v (x / 128) (n + 1)
-  counting-next h =
-      let t = shortest-more (c .left) h in
-      record { room = t .room; rest = t .rest; left = t .left; sum = omega (arith, ap length (t .first), c .sum) }
-
-  pub counting-end : x < 128 → n ≡ length (varint v)
-  counting-end h = omega (arith, ap length (shortest-end (c .left) h), c .sum)
-
-  pub counting-few : x < 128 → n ≤ mostVarint
-  counting-few h = omega (arith, counting-end h, varint-few v)
-
-pub ruleset counting-laws = (counting-start, counting-fits, counting-next, counting-end, counting-few)
-
--- ---- `put_varint`: the bytes before x are laid
+-- the bytes before x are laid
 pub record Writing (l : List ℕ) (at v : ℕ) (l′ : List ℕ) (x i : ℕ) : Type 0 where
   pub room : ℕ
   pub rest : List ℕ

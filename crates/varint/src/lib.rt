@@ -13,17 +13,39 @@ pub enum Read {
     Bad,
 }
 
-// How many bytes the shortest varint of v has.
+// How many bytes the shortest varint of v has. A byte holds seven bits, so that below 128^n a varint has at most n bytes: the limits are the
+// powers 1 to 9 of 128.
 pub fn varint_len(v: u64) -> usize
     ensures { λ r. ⌜ (r ≡ length (varintOf v)) × (r ≤ mostVarint) ⌝ }
 {
-    let mut x = v;
-    let mut n: usize = 1;
-    while 128 <= x {
-        x /= 128;
-        n += 1;
+    if v < 128 {
+        return 1;
     }
-    n
+    if v < 16_384 {
+        return 2;
+    }
+    if v < 2_097_152 {
+        return 3;
+    }
+    if v < 268_435_456 {
+        return 4;
+    }
+    if v < 34_359_738_368 {
+        return 5;
+    }
+    if v < 4_398_046_511_104 {
+        return 6;
+    }
+    if v < 562_949_953_421_312 {
+        return 7;
+    }
+    if v < 72_057_594_037_927_936 {
+        return 8;
+    }
+    if v < 9_223_372_036_854_775_808 {
+        return 9;
+    }
+    10
 }
 
 // The shortest varint of v from a place on, as far as there is room, and the place after it.

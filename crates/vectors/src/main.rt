@@ -43,6 +43,7 @@ fn holds(kind: u32, label: &[u8], c: &[u8]) -> bool {
     match kind {
         1 => encoding::is_varint(first, want),
         2 => encoding::is_zigzag(first, want),
+        3 => encoding::is_limit(first, second, part(c, THIRD), want),
         6 => names::is_candidate(first, second, part(c, THIRD), want),
         7 => candidates(second, first) == word_of(want) as usize,
         8 => replies::is_row(first, want, label),
