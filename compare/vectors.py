@@ -39,9 +39,14 @@ def varint(label, n, want):
     return case("VARINT", label, u64(n), want=bytes.fromhex(want))
 
 
-# The first number of n + 1 bytes: the one before it is written in n, the one after it in n + 1.
+# Three numbers, of which the first is written in n bytes and the others in n + 1.
+def lengths(label, before, first, after, n):
+    return case("LIMIT", label, u64(before), u64(first), u64(after), want=words(n))
+
+
+# The first number of n + 1 bytes, with the one before it and the one after it.
 def limit(label, first, n):
-    return case("LIMIT", label, u64(first - 1), u64(first), u64(first + 1), want=words(n))
+    return lengths(label, first - 1, first, first + 1, n)
 
 
 # A signed number as 64 bits, and its zigzag form, both ways.
@@ -90,6 +95,10 @@ CASES = [
     limit("from 72057594037927936 on 9 bytes", 72_057_594_037_927_936, 8),
     limit("from 9223372036854775808 on 10 bytes", 9_223_372_036_854_775_808, 9),
     varint("varint 2^64 - 1 is nine FF and 01", 2**64 - 1, "ffffffffffffffffff01"),
+    # and these must be WRONG, by one number each: so a test that always holds is seen
+    lengths("128 in 1 byte", 128, 128, 129, 1),
+    lengths("127 in 2 bytes", 127, 127, 129, 1),
+    lengths("127 in 2 bytes, as the last", 127, 128, 127, 1),
     # Encoding, "Signed Integers": the table of ZigZag encoding
     zigzag("zigzag 0 is 0", 0, 0),
     zigzag("zigzag -1 is 1", -1, 1),
