@@ -1,2 +1,11 @@
+pub mod IndexLaws
+pub mod CountingLaws
+pub mod GroupLaws
+pub mod WritingLaws
 pub mod FieldLaws
+pub mod DeclaredLaws
+pub mod OpenedLaws
+pub mod OrderLaws
+pub mod WordLaws
+pub mod Theorems
 pub mod Controls
