@@ -96,7 +96,12 @@ at-most-by : lowerFieldsBy syntheticLast (replicate 4096 0) ≡ give (replicate 
 unfolding lowerFieldsBy groupsAfter indexOf
 at-most-by = refl
 
-too-many-by : map (λ numbering. lowerFieldsBy numbering (replicate 4097 7)) (0 ∷ 1 ∷ 2 ∷ []) ≡ refuse BeyondLimit ∷ refuse BeyondLimit ∷ refuse BadRequest ∷ []
+too-many-by :
+    map (λ numbering. lowerFieldsBy numbering (replicate 4097 7)) (0 ∷ 1 ∷ 2 ∷ [])
+    ≡ refuse BeyondLimit
+    ∷ refuse BeyondLimit
+    ∷ refuse BadRequest
+    ∷ []
 unfolding lowerFieldsBy
 too-many-by = refl
 

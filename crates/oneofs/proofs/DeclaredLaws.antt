@@ -6,8 +6,8 @@ use Rattle.limits.specs.Figures.{mostWords}
 use Rattle.reply.specs.declared.Refusal.the-variants.{BadRequest, BeyondLimit}
 use Rattle.reply.specs.declared.Answer.{Answer}
 use Rattle.reply.specs.Outcome.{Outcome, refuse, push, Answered}
-use Rattle.oneofs.specs.Fields.{oneofs, lowerFields, Kind, real, synthetic, oneof, Group, joining, groupsAfter, groups, realCount}
-use Rattle.oneofs.specs.Fields.{declared, indexOf, wordOf, numbered, lowerFieldsBy}
+use Rattle.oneofs.specs.Fields.{oneofs, lowerFields, Kind, real, synthetic, oneof, Group, joining, groupsAfter, realCount}
+use Rattle.oneofs.specs.Fields.{declared, wordOf, numbered, lowerFieldsBy}
 use Rattle.oneofs.proofs.IndexLaws.{index-declared}
 use Rattle.oneofs.proofs.GroupLaws.{numbered-push}
 
@@ -41,7 +41,8 @@ module _ (reals : ℕ) where
       let word : (k : Kind) → wordOf declared reals (some (oneof k r s)) ≡ suc count = λ k. word-declared k r s ∙ ap suc c in
       same-if (eqb w 0) (same-push 0 _ _ (groups-same r s count none 0 ws c refl) none refl)
       (same-if (eqb w 1)
-      (same-push (suc count) _ _ (groups-same r (suc s) (suc count) none 0 ws (omega arith) refl) (some (oneof synthetic r s)) (word synthetic))
+      (same-push (suc count) _ _ (groups-same r (suc s) (suc count) none 0 ws (omega arith) refl) (some (oneof synthetic r s))
+      (word synthetic))
       (same-if (eqb w 2) (groups-same (suc r) s (suc count) (some (oneof real r s)) (suc count) ws (omega arith) (word real))
       (same-if (eqb w 3) (same-joining x _ _ (groups-same r s count member x ws c e) member e) (record { words = refl }))))
 

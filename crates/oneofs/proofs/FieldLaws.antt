@@ -81,7 +81,8 @@ module _ (numbering : ℕ) (ws : List ℕ) where
     unfolding lowerFieldsBy
     fields-unnumbered h a = rw a (answered-refused _ l (bare BadRequest) (simp (lowerFieldsBy, lt-ltb _ _ h)))
 
-    pub fields-long : numbering ≤ syntheticLast → mostWords < length ws → r ≡ refusedBy BeyondLimit → Answered (lowerFieldsBy numbering ws) l l r
+    pub fields-long : numbering ≤ syntheticLast → mostWords < length ws → r ≡ refusedBy BeyondLimit
+        → Answered (lowerFieldsBy numbering ws) l l r
     unfolding lowerFieldsBy
     fields-long g h a = rw a (answered-refused _ l (bare BeyondLimit) (simp (lowerFieldsBy, le-ltb _ _ g, lt-ltb _ _ h)))
 

@@ -1,11 +1,11 @@
 -- The oneofs of a list of fields: where they lie among the counts, in what order, how many there are, and that every group is one of them.
 --
---                   Opening w <-> whether a word opens a oneof, and of which kind
--- realsWith x, syntheticsWith x == how many of each kind are opened with x
---                Lies r s R S x <-> the counts before x are r and s or more, and with it R and S or fewer
---                 Earlier x y <-> the counts before y are those with x, or more
---             Opens r s ws xs <-> what is so of the oneofs xs that ws opens after r real and s synthetic ones
---                   AllOf P o <-> P holds of each oneof that a field of the outcome o belongs to
+--                       Opening w <-> which kind of oneof a word opens, if any
+--   realsWith x, syntheticsWith x ==  how many of each kind are opened with x
+--     Lies r s reals synthetics x <-> the counts before x are r and s or more, and with it reals and synthetics or fewer
+--                     Earlier x y <-> the counts before y are those with x, or more
+--                 Opens r s ws xs <-> xs are as many as ws opens after r real and s synthetic oneofs, in order, and each in its place
+--                       AllOf P o <-> P holds of each oneof that a field of the outcome o belongs to
 --
 -- Assumes nothing.
 use Rattle.basis.specs.Kit.{_≡_, refl, Bool, true, false, List, [], _∷_, none, some, ℕ, zero, suc, _+_, _≤_, eqb, length}
@@ -18,7 +18,7 @@ use native.Mathlib.Nat.{zero-add}
 use Rattle.reply.specs.declared.Cause.{Cause}
 use Rattle.reply.specs.declared.Refusal.the-variants.{BadRequest}
 use Rattle.reply.specs.Reply.{bare}
-use Rattle.reply.specs.Outcome.{Outcome, refused, refuse, nothing, give, push}
+use Rattle.reply.specs.Outcome.{Outcome, refused, nothing, give, push}
 use Rattle.emit.proofs.WriteLaws.{give-inv}
 use Rattle.oneofs.specs.Fields.{real, synthetic, Oneof, oneof, Group, joining, groupsAfter, groups, openedAfter, opened, realCount}
 use Rattle.oneofs.proofs.IndexLaws.{realsBefore, syntheticsBefore}
@@ -88,14 +88,17 @@ module _
     many = e;
   }
 
-opens-word : (r s w : ℕ) (ws : List ℕ) → Opening w → ((r s : ℕ) → Opens r s ws (openedAfter r s ws)) → Opens r s (w ∷ ws) (openedAfter r s (w ∷ ws))
+opens-word : (r s w : ℕ) (ws : List ℕ) → Opening w → ((r s : ℕ) → Opens r s ws (openedAfter r s ws))
+    → Opens r s (w ∷ ws) (openedAfter r s (w ∷ ws))
 unfolding openedAfter
 opens-word r s w ws made ih =
     let o = ih r (suc s) in
-    opens-first r s 1 ws (oneof synthetic r s) _ o (omega arith) (omega arith) refl refl (omega arith) (omega arith) (omega (arith, o .many))
+    opens-first r s 1 ws (oneof synthetic r s) _ o (omega arith) (omega arith) refl refl (omega arith) (omega arith)
+    (omega (arith, o .many))
 opens-word r s w ws declares ih =
     let o = ih (suc r) s in
-    opens-first r s 2 ws (oneof real r s) _ o (omega arith) (omega arith) refl refl (omega arith) (omega arith) (omega (arith, o .many))
+    opens-first r s 2 ws (oneof real r s) _ o (omega arith) (omega arith) refl refl (omega arith) (omega arith)
+    (omega (arith, o .many))
 opens-word r s w ws (neither q t) ih =
     let o = ih r s in
     let none-real = zero-add (realCount ws) in

@@ -43,7 +43,8 @@ module _ (numbering reals synthetics : ℕ) where
 
 -- ---- of one list
 module _ (numbering : ℕ) (ws : List ℕ) where
-  pub index-rises : Ordered (λ x y. kindOf x ≡ kindOf y → indexOf numbering (realCount ws) x < indexOf numbering (realCount ws) y) (opened ws)
+  pub index-rises :
+      Ordered (λ x y. kindOf x ≡ kindOf y → indexOf numbering (realCount ws) x < indexOf numbering (realCount ws) y) (opened ws)
   index-rises = ordered-mono (λ x y m m′. rises numbering (realCount ws) 0 x y (numbers numbering)) (opened-ordered ws)
 
   pub index-below : (x : Oneof) → Among x (opened ws) → indexOf numbering (realCount ws) x < length (opened ws)
@@ -64,7 +65,8 @@ module _ (ws : List ℕ) (x : Oneof) (m : Among x (opened ws)) where
   unfolding indexOf
   real-low = go x (opened-lies ws x m)
     where
-      go : (x : Oneof) → Lies 0 0 (realCount ws) (syntheticCount ws) x → kindOf x ≡ real → indexOf syntheticLast (realCount ws) x < realCount ws
+      go : (x : Oneof) → Lies 0 0 (realCount ws) (syntheticCount ws) x → kindOf x ≡ real
+          → indexOf syntheticLast (realCount ws) x < realCount ws
       go (oneof real r s) l k = l .reals-to
       go (oneof synthetic r s) l k = never cc
 

@@ -35,9 +35,10 @@ index-unique = order.index-unique
 pub group-opened : (ws : List ℕ) (gs : List Group) → groups ws ≡ give gs → (x : Oneof) → Among (some x) gs → Among x (opened ws)
 group-opened = opens.group-opened
 
--- So a field's word is 0 exactly when its group is none. `gs` are the groups of the fields and `xs` their words; behind the last field there
--- is no group, and the word is read as 0.
-module _ (numbering : ℕ) (ws : List ℕ) (gs : List Group) (e : groups ws ≡ give gs) (xs : List ℕ) (f : lowerFieldsBy numbering ws ≡ give xs) where
+-- So a field's word is 0 exactly when its group is none. `gs` are the groups of the fields and `xs` their words; behind the last field
+-- there is no group, and the word is read as 0.
+module _
+    (numbering : ℕ) (ws : List ℕ) (gs : List Group) (e : groups ws ≡ give gs) (xs : List ℕ) (f : lowerFieldsBy numbering ws ≡ give xs) where
   pub word-none : (i : ℕ) → getD xs i 0 ≡ 0 → getD gs i none ≡ none
   word-none = fields.word-none numbering ws gs e xs f
 
@@ -63,8 +64,8 @@ module _ (a b : ℕ) (ws xs ys : List ℕ) (f : lowerFieldsBy a ws ≡ give xs) 
       let m = fields.words-made a ws xs f in
       none-word b ws (m .0) (m .1) ys f′ i (word-none a ws (m .0) (m .1) xs f i q)
 
--- ---- 4. With the synthetic ones last, every real oneof has an index below the number of real ones, empty ones counted, and every synthetic
--- one has that index or a higher one,
+-- ---- 4. With the synthetic ones last, every real oneof has an index below the number of real ones, empty ones counted, and every
+-- synthetic one has that index or a higher one,
 pub real-low : (ws : List ℕ) (x : Oneof) → Among x (opened ws) → kindOf x ≡ real → indexOf syntheticLast (realCount ws) x < realCount ws
 real-low = order.real-low
 

@@ -1,6 +1,7 @@
 -- The words of one list of fields in either numbering: what they are made of, and that they are refused alike.
 -- Assumes nothing.
-use Rattle.basis.specs.Kit.{_≡_, refl, sym, ap, _∙_, Bool, true, false, List, [], _∷_, map, none, some, ℕ, zero, suc, _≤_, ltb, length, getD}
+use Rattle.basis.specs.Kit.{_≡_, refl, sym, ap, _∙_, Bool, true, false, List, [], _∷_, map, none, some, ℕ, zero, suc, _≤_}
+use Rattle.basis.specs.Kit.{ltb, length, getD}
 use Rattle.basis.specs.Among.{Among, here, there}
 use Rattle.basis.proofs.Kit.{arith, le-ltb}
 use Rattle.basis.proofs.Never.{never}
@@ -10,7 +11,7 @@ use Rattle.reply.specs.declared.Refusal.the-variants.{BadRequest, BeyondLimit, 
 use Rattle.reply.specs.Reply.{doneWith}
 use Rattle.reply.specs.Outcome.{Outcome, refused, refuse, nothing, give, within, answerOf}
 use Rattle.emit.proofs.WriteLaws.{give-inv}
-use Rattle.oneofs.specs.Fields.{Oneof, Group, groups, realCount, syntheticLast, indexOf, wordOf, numbered, lowerFieldsBy}
+use Rattle.oneofs.specs.Fields.{Oneof, Group, groups, realCount, syntheticLast, wordOf, numbered, lowerFieldsBy}
 use Rattle.oneofs.specs.Fields.{Alike, both-refused, both-absent, as-many}
 use Rattle.oneofs.proofs.OpenedLaws.{group-opened}
 use Rattle.oneofs.proofs.OrderLaws.{index-unique}
@@ -28,7 +29,8 @@ module _ (a b : ℕ) where
   numbered-alike reals nothing = both-absent
   numbered-alike reals (give gs) = as-many (length-map gs (wordOf a reals) ∙ sym (length-map gs (wordOf b reals)))
 
-  alike-if : (t : Bool) {o p q : Outcome ℕ} → Alike o o → Alike p q → Alike (elim t [ true ↦ o | false ↦ p ]) (elim t [ true ↦ o | false ↦ q ])
+  alike-if : (t : Bool) {o p q : Outcome ℕ} → Alike o o → Alike p q
+      → Alike (elim t [ true ↦ o | false ↦ p ]) (elim t [ true ↦ o | false ↦ q ])
   alike-if true h k = h
   alike-if false h k = k
 
@@ -38,7 +40,8 @@ module _ (a b : ℕ) where
       (alike-if (ltb mostWords (length ws)) both-refused (numbered-alike (realCount ws) (groups ws)))
 
 given-alike : (t : Bool) (xs ys : List ℕ) → length xs ≡ length ys
-    → answerOf {A = ℕ} (elim t [ true ↦ refuse NoRoom | false ↦ give xs ]) ≡ answerOf {A = ℕ} (elim t [ true ↦ refuse NoRoom | false ↦ give ys ])
+    → answerOf {A = ℕ} (elim t [ true ↦ refuse NoRoom | false ↦ give xs ])
+    ≡ answerOf {A = ℕ} (elim t [ true ↦ refuse NoRoom | false ↦ give ys ])
 given-alike true xs ys e = refl
 given-alike false xs ys e = ap doneWith e
 

@@ -17,7 +17,7 @@ use Rattle.emit.specs.declared.Put.the-variants.{Wrote, Refused}
 use Rattle.emit.specs.inner.Puts.{Puts}
 use Rattle.emit.proofs.WriteLaws.{Front, front-start, front-put, front-pass, front-length, front-refused, front-done}
 use Rattle.oneofs.specs.Fields.{real, synthetic, oneof, Group, groupsAfter, groups, indexOf, wordOf, numbered}
-use Rattle.oneofs.proofs.IndexLaws.{Grows, grows}
+use Rattle.oneofs.proofs.IndexLaws.{grows}
 use Rattle.oneofs.proofs.CountingLaws.{word-here}
 use Rattle.oneofs.proofs.GroupLaws.{words, words-plain, words-optional, words-opens, words-other, words-stray, words-member}
 
@@ -172,8 +172,8 @@ module _
   numbering-optional b =
       let k = held-optional numbering reals (u .r) (u .s) _ _ _ _ (u .held) step t in
       let e = words-optional numbering reals (u .r) (u .s) (u .group) (getD ws i 0) (drop (i + 1) ws) a b in
-      wrote numbering reals ws l m next-real next-synthetic member n i u h (u .r) (suc (u .s)) none (next-real + step) (next-synthetic + 1) 0
-      k (omega arith) (next-synthetic + 1) (rw (u .held .synthetic-is) e)
+      wrote numbering reals ws l m next-real next-synthetic member n i u h (u .r) (suc (u .s)) none
+      (next-real + step) (next-synthetic + 1) 0 k (omega arith) (next-synthetic + 1) (rw (u .held .synthetic-is) e)
 
   pub numbering-opens : (getD ws i 0 ≡ 1 → ⊥) → getD ws i 0 ≡ 2 → (member′ : ℕ) → member′ ≡ next-real + 1
       → Numbering numbering reals ws l m (next-real + 1) (next-synthetic + step) member′ n (i + 1)

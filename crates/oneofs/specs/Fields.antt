@@ -1,22 +1,25 @@
 -- Oneof indices of a message's fields, from 01's "Listing and lowering": "u32 words, 0 plain, 1 proto3 optional, 2 a oneof opens, 3 its
--- member". The caller may choose between two numberings of the oneofs: 01's, and one that has those of optional fields last.
+-- member". Which oneof a field belongs to comes first, then the index of each oneof: in order of declaration, as 01 has it, or with the
+-- oneofs that are made for optional fields after all others, as the caller chooses.
 --
---          oneofs count member ws == the words of the fields ws, or a refusal, after `count` oneofs; `member` is what a member gives, 0
---                                    where no oneof is open
---                  lowerFields ws == what lowering fields comes to
+--       oneofs count member ws ==  the words of the fields ws, or a refusal, after `count` oneofs; `member` is what a member
+--                                  gives, 0 where no oneof is open
+--               lowerFields ws ==  what lowering fields comes to
 --
---              Kind, Oneof, Group == of a oneof the kind, and how many of each kind are opened before it; a field's own oneof, or none
---               joining member rest == a member's group in front of the rest, where a oneof is open
---           groupsAfter r s member ws == the groups of the fields ws, or a refusal, after r real and s synthetic oneofs
---                       groups ws == the groups of the fields ws, or a refusal
---                       opened ws == all oneofs, in order of declaration
---                    realCount ws == how many of them are real
+--                        Oneof ==  a oneof, known by its kind and by how many of each kind are opened before it
+--                        Group ==  what a field belongs to: a oneof, or none
+--          joining member rest ==  a member's group in front of the rest, or a refusal where no oneof is open
+--    groupsAfter r s member ws ==  the groups of the fields ws, or a refusal, after r real and s synthetic oneofs
+--                    groups ws ==  the groups of the fields ws, or a refusal
+--                    opened ws ==  all oneofs of ws in order of declaration, those without a member too
+--                 realCount ws ==  how many of them are real
 --
---   declared, syntheticLast == the two numberings
---       indexOf numbering reals x == the index of the oneof x, where so many are real in all
---        wordOf numbering reals g == the word of a field of the group g
---      numbered numbering reals o == the words of groups
---      lowerFieldsBy numbering ws == what lowering fields comes to in a numbering
+--      declared, syntheticLast ==  the two numberings
+--    indexOf numbering reals x ==  the index of the oneof x where there are so many real ones
+--     wordOf numbering reals g ==  the word of a field of the group g
+--   numbered numbering reals o ==  the words of the groups o, or their refusal
+--   lowerFieldsBy numbering ws ==  what lowering fields comes to in a numbering
+--                    Alike o q <-> o and q are one refusal, or give as many words
 --
 -- Assumes nothing.
 use Rattle.basis.specs.Kit.{_≡_, true, false, List, [], _∷_, map, Option, none, some, ℕ, suc, _+_, eqb, ltb, length}

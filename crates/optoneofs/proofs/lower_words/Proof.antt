@@ -1,12 +1,12 @@
--- `optoneofs::lower_case` meets its contract.
+-- `optoneofs::lower_words` meets its contract.
 -- Assumes nothing.
 use Rattle.basis.proofs.Kit.{needs}
 use Rattle.console.proofs.InputLaws.{input-laws}
-use Rattle.optoneofs.proofs.lower_case.Statement.{statement}
-use Rattle.optoneofs.proofs.lower_case.Tie as tie
+use Rattle.optoneofs.proofs.lower_words.Statement.{statement}
+use Rattle.optoneofs.proofs.lower_words.Tie as tie
 
-pub lower-case-spec : {M : Type 1} → statement M
-lower-case-spec = tie.close (tie.spec
+pub lower-words-spec : {M : Type 1} → statement M
+lower-words-spec = tie.close (tie.spec
     (λ c κs. search)
     (λ c. search)
     (λ c. search)
