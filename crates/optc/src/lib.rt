@@ -12,7 +12,7 @@ ghost use Rattle.listing.specs.Listing.{listing, listingTested};
 ghost use Rattle.query.specs.Query.{query, queryTested};
 ghost use Rattle.payload.specs.Payload.{payloadAnswer};
 ghost use Rattle.ranges.specs.Ranges.{lowerRanges};
-ghost use Rattle.oneofs.specs.Fields.{lowerFields};
+ghost use Rattle.oneofs.specs.Fields.{lowerFields, lowerFieldsBy};
 ghost use Rattle.evolution.specs.Calls.{cleanAnswer, containedAnswer};
 use reply::Answer;
 
@@ -139,6 +139,13 @@ pub extern "C" fn opt_fields(words: &[u32], out: &mut [u32]) -> Answer
     ensures { λ r. ⌜ Answered (lowerFields (now (words .entry))) (now (out .entry)) (now (out .exit)) r ⌝ }
 {
     oneofs::lower_fields(words, out)
+}
+
+#[no_mangle]
+pub extern "C" fn opt_fields_by(numbering: u32, words: &[u32], out: &mut [u32]) -> Answer
+    ensures { λ r. ⌜ Answered (lowerFieldsBy numbering (now (words .entry))) (now (out .entry)) (now (out .exit)) r ⌝ }
+{
+    oneofs::lower_fields_by(numbering, words, out)
 }
 
 #[no_mangle]

@@ -1,13 +1,13 @@
 -- Every other call is refused nowhere, if it is.
 -- Assumes nothing.
-use Rattle.basis.specs.Kit.{refl, Bool, List, [], _∷_, ℕ, suc, _%_, eqb, ltb, length}
+use Rattle.basis.specs.Kit.{_≡_, refl, Bool, List, [], _∷_, map, none, some, ℕ, suc, _%_, eqb, ltb, length}
 use lib.IntN.{ℤ}
 use Rattle.limits.specs.Figures.{mostWords}
 use Rattle.reply.specs.declared.Refusal.the-variants.{BadRequest, BeyondLimit, RangeEnd}
 use Rattle.reply.specs.declared.Verdict.{Verdict}
 use Rattle.reply.specs.declared.Verdict.the-variants.{Fine, Refused}
 use Rattle.reply.specs.Verdicts.{firstFault, asked, answerFor}
-use Rattle.reply.specs.Outcome.{Outcome}
+use Rattle.reply.specs.Outcome.{Outcome, refused, nothing, give}
 use Rattle.sheetform.specs.Form.{judgeSheet}
 use Rattle.lookups.specs.Lookups.{walking}
 use Rattle.entries.specs.Tree.{rows, wordsOf as rowWords}
@@ -20,10 +20,12 @@ use Rattle.payload.specs.Payload.{judgePayload, payloadAnswer}
 use Rattle.ranges.specs.declared.End.{End}
 use Rattle.ranges.specs.declared.End.the-variants.{At, NoNext}
 use Rattle.ranges.specs.Ranges.{enumReserved, endOf, withEnd, pairs, lowerRanges}
-use Rattle.oneofs.specs.Fields.{oneofs, lowerFields}
+use Rattle.oneofs.specs.Fields.{lowerFields, real, synthetic, oneof, Group, joining, groupsAfter, groups, realCount}
+use Rattle.oneofs.specs.Fields.{declared, syntheticLast, wordOf, numbered, lowerFieldsBy}
+use Rattle.oneofs.proofs.Theorems.{declared-same}
 use Rattle.evolution.specs.Calls.{cleanAnswer, containedAnswer}
 use Rattle.places.specs.Places.{Bare, Neither}
-use Rattle.places.proofs.BareLaws.{bare-refuse, bare-give, bare-push, bare-unless, bare-either}
+use Rattle.places.proofs.BareLaws.{bare-refuse, bare-nothing, bare-give, bare-push, bare-unless, bare-either}
 
 -- ---- find
 worded-bare : (x : Resolved) → Bare (worded x)
@@ -61,20 +63,35 @@ ranges-bare k ws =
     (bare-either (ltb mostWords (length ws)) (bare-refuse BeyondLimit)
     (bare-either (eqb (length ws % 2) 1) (bare-refuse BadRequest) (pairs-bare k ws)))
 
-oneofs-bare : (count member : ℕ) (ws : List ℕ) → Bare (oneofs count member ws)
-unfolding oneofs
-oneofs-bare count member [] = bare-give []
-oneofs-bare count member (w ∷ ws) =
-    bare-either (eqb w 0) (bare-push (0 ∷ []) (oneofs count 0 ws) (oneofs-bare count 0 ws))
-    (bare-either (eqb w 1) (bare-push (suc count ∷ []) (oneofs (suc count) 0 ws) (oneofs-bare (suc count) 0 ws))
-    (bare-either (eqb w 2) (oneofs-bare (suc count) (suc count) ws)
-    (bare-either (eqb w 3)
-    (bare-either (eqb member 0) (bare-refuse BadRequest) (bare-push (member ∷ []) (oneofs count member ws) (oneofs-bare count member ws)))
-    (bare-refuse BadRequest))))
+joining-bare : (member : Group) (o : Outcome Group) → Bare o → Bare (joining member o)
+joining-bare none o h = bare-refuse BadRequest
+joining-bare (some x) o h = bare-push (some x ∷ []) o h
+
+groups-bare : (r s : ℕ) (member : Group) (ws : List ℕ) → Bare (groupsAfter r s member ws)
+unfolding groupsAfter
+groups-bare r s member [] = bare-give []
+groups-bare r s member (w ∷ ws) =
+    let x = some (oneof synthetic r s) in
+    let y = some (oneof real r s) in
+    bare-either (eqb w 0) (bare-push (none ∷ []) (groupsAfter r s none ws) (groups-bare r s none ws))
+    (bare-either (eqb w 1) (bare-push (x ∷ []) (groupsAfter r (suc s) none ws) (groups-bare r (suc s) none ws))
+    (bare-either (eqb w 2) (groups-bare (suc r) s y ws)
+    (bare-either (eqb w 3) (joining-bare member (groupsAfter r s member ws) (groups-bare r s member ws)) (bare-refuse BadRequest))))
+
+numbered-bare : (numbering reals : ℕ) (o : Outcome Group) → Bare o → Bare (numbered numbering reals o)
+numbered-bare numbering reals (refused w) h c e = let y : w ≡ c = cc in rw (← y) (h w refl)
+numbered-bare numbering reals nothing h c e = bare-nothing c e
+numbered-bare numbering reals (give gs) h c e = bare-give (map (wordOf numbering reals) gs) c e
+
+pub fields-by-bare : (numbering : ℕ) (ws : List ℕ) → Bare (lowerFieldsBy numbering ws)
+unfolding lowerFieldsBy
+fields-by-bare numbering ws =
+    bare-either (ltb syntheticLast numbering) (bare-refuse BadRequest)
+    (bare-either (ltb mostWords (length ws)) (bare-refuse BeyondLimit)
+    (numbered-bare numbering (realCount ws) (groups ws) (groups-bare 0 0 none ws)))
 
 pub fields-bare : (ws : List ℕ) → Bare (lowerFields ws)
-unfolding lowerFields
-fields-bare ws = bare-either (ltb mostWords (length ws)) (bare-refuse BeyondLimit) (oneofs-bare 0 0 ws)
+fields-bare ws = rw (← (declared-same ws)) (fields-by-bare declared ws)
 
 -- ---- the calls that lend no memory
 asked-neither : (v : Verdict) (b : Bool) → Neither (asked v b)

@@ -62,7 +62,7 @@ use Rattle.alone.specs.Alone.{Own}
 use Rattle.alone.proofs.Own as apart
 use Rattle.find.specs.Find.{findWords}
 use Rattle.ranges.specs.Ranges.{lowerRanges}
-use Rattle.oneofs.specs.Fields.{lowerFields}
+use Rattle.oneofs.specs.Fields.{lowerFields, lowerFieldsBy}
 use Rattle.entries.specs.declared.Row.{Row}
 use Rattle.entries.specs.Tree.{Tree, rows, words, wordsOf}
 use Rattle.entries.specs.Item.{declared}
@@ -272,6 +272,9 @@ ranges-nowhere = elsewhere.ranges-bare
 
 pub fields-nowhere : (ws : List ℕ) → Bare (lowerFields ws)
 fields-nowhere = elsewhere.fields-bare
+
+pub fields-by-nowhere : (numbering : ℕ) (ws : List ℕ) → Bare (lowerFieldsBy numbering ws)
+fields-by-nowhere = elsewhere.fields-by-bare
 
 pub bare-neither : {A : Type 0} {o : Outcome A} {before after : List A} {a : Answer} → Answered o before after a → Bare o → Neither a
 bare-neither = nowhere.bare-nowhere
