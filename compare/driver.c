@@ -27,18 +27,18 @@
 #include <ucontext.h>
 #include <unistd.h>
 
-enum call { SHEET, REQUEST, RESOLVE, FIND, LIST, QUERY, PAYLOAD, RANGES, FIELDS, CLEAN, CONTAINED, CALLS };
+enum call { SHEET, REQUEST, RESOLVE, FIND, LIST, QUERY, PAYLOAD, RANGES, FIELDS, FIELDS_BY, CLEAN, CONTAINED, CALLS };
 enum view { OPEN, SEALED, HALF, VIEWS };
 enum place { AT_END, AT_START };
 enum { PAGE = 4096, INPUTS = 4, INPUT_SIZE = 64 * PAGE, OUT_SIZE = 640 * PAGE, REPLIES = 20, TRAPPED = 70 };
 /* Work, as rooms by bytes of input, up to which every room is tried; valgrind is slower. */
 enum { MOST_WORK = 70000000, MOST_IN_BLOCKS = 70000 };
 
-static const char *const CALL[CALLS] = {"sheet", "request", "resolve", "find", "list", "query", "payload", "ranges", "fields", "clean",
-                                        "contained"};
+static const char *const CALL[CALLS] = {"sheet", "request", "resolve", "find", "list", "query", "payload", "ranges", "fields", "fields_by",
+                                        "clean", "contained"};
 static const char *const VIEW[VIEWS] = {"open", "sealed", "half"}, *const PLACE[2] = {"end", "start"};
 /* Bytes of an element of `out`; none where nothing is lent. */
-static const size_t WIDTH[CALLS] = {[RESOLVE] = 1, [FIND] = 4, [LIST] = 4, [QUERY] = 4, [RANGES] = 4, [FIELDS] = 4};
+static const size_t WIDTH[CALLS] = {[RESOLVE] = 1, [FIND] = 4, [LIST] = 4, [QUERY] = 4, [RANGES] = 4, [FIELDS] = 4, [FIELDS_BY] = 4};
 static const struct opt_answer NO_ROOM = {OPT_NO_ROOM, 0, 0, 0, OPT_NOWHERE, OPT_NOWHERE};
 static const uint8_t FILL[2] = {0xA5, 0x5A};
 
@@ -193,6 +193,8 @@ static struct opt_answer ask(uint8_t *to)
         return opt_ranges((uint32_t)asked.number[0], at[0], asked.bytes[0] / 4, words, now.room);
     case FIELDS:
         return opt_fields(at[0], asked.bytes[0] / 4, words, now.room);
+    case FIELDS_BY:
+        return opt_fields_by((uint32_t)asked.number[0], at[0], asked.bytes[0] / 4, words, now.room);
     case CLEAN:
         return opt_clean(at[0], asked.bytes[0]);
     case CONTAINED:
@@ -210,9 +212,11 @@ static size_t most(void)
                                    [LIST] = asked.bytes[2] / 2 * OPT_RECORD_WORDS,
                                    [QUERY] = OPT_RECORD_WORDS,
                                    [RANGES] = OPT_MOST_WORDS,
-                                   [FIELDS] = OPT_MOST_WORDS};
+                                   [FIELDS] = OPT_MOST_WORDS,
+                                   [FIELDS_BY] = OPT_MOST_WORDS};
     const size_t many = by_call[asked.call], words = asked.bytes[0] / 4;
-    return (asked.call == RANGES || asked.call == FIELDS) && words < many ? words : many;
+    const int lowers = asked.call == RANGES || asked.call == FIELDS || asked.call == FIELDS_BY;
+    return lowers && words < many ? words : many;
 }
 
 static void take(struct known *k, struct opt_answer got, const uint8_t *own)

@@ -33,6 +33,8 @@ enum fault {
     SUM_WRAPS,       /* payload adds place and length in 64 bits */
     END_KEPT,        /* ranges keeps the end of an extension range */
     ONEOF_SHARED,    /* fields gives the last oneof the number before it */
+    NUMBERING_OTHER, /* fields_by takes the one numbering for the other */
+    EMPTY_LOST,      /* fields_by leaves a oneof without members out of the count that the synthetic ones start at */
     ALWAYS_CLEAN,    /* clean answers yes to every sheet that is fine */
     SWAPPED          /* contained takes the older for the newer */
 };
@@ -224,6 +226,23 @@ WRAPPED(fields, SLICE(const uint32_t, words), SLICE(uint32_t, out))
         out[answer.length - 1]--;
     if (bent(PAST_ROOM) && wrote(answer))
         out[out_count] = 0;
+    return answer;
+}
+
+static int has_empty(const uint32_t *words, size_t count)
+{
+    for (size_t i = 0; i + 1 < count; i++)
+        if (words[i] == 2 && words[i + 1] != 3)
+            return 1;
+    return 0;
+}
+
+WRAPPED(fields_by, uint32_t numbering, SLICE(const uint32_t, words), SLICE(uint32_t, out))
+{
+    const uint32_t other = bent(NUMBERING_OTHER) && numbering < 2 ? 1 - numbering : numbering;
+    struct opt_answer answer = __real_opt_fields_by(other, words, words_count, out, out_count);
+    if (bent(EMPTY_LOST) && wrote(answer) && numbering == 1 && words[words_count - 1] == 1 && has_empty(words, words_count))
+        out[answer.length - 1]--;
     return answer;
 }
 

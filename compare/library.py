@@ -144,7 +144,7 @@ class Comparison:
     def ask(self, fine):
         self.original.with_oracle([case.run for case, _ in fine if case.call == "resolve"])
         self.ask_search([(case, told) for case, told in fine if case.call == "find"])
-        self.ask_lowering([(case, told) for case, told in fine if case.call in ("ranges", "fields")])
+        self.ask_lowering([(case, told) for case, told in fine if case.call in ("ranges", "fields", "fields_by")])
 
     def ask_search(self, fine):
         for message in (b"o.F", b"o.G") if fine else ():
@@ -195,7 +195,7 @@ class Comparison:
         print("\n==== the original")
         tables.original(self.original.rows, self.original.changed, self.original.other, self.original.not_asked)
         tables.places_there(self.original.named, self.original.first)
-        for call in ("find", "ranges", "fields"):
+        for call in ("find", "ranges", "fields", "fields_by"):
             library_tables.line(call, [(how, many) for (by, how), many in sorted(self.asked.items()) if by == call])
 
 

@@ -18,11 +18,11 @@ import search
 import steps
 from listing import fewer
 
-CALLS = ("sheet", "request", "resolve", "find", "list", "query", "payload", "ranges", "fields", "clean", "contained")
+CALLS = ("sheet", "request", "resolve", "find", "list", "query", "payload", "ranges", "fields", "fields_by", "clean", "contained")
 NOWHERE = 65535
 # what the inputs of a call are: fields, other bytes, or words
 INPUTS = {"sheet": "f", "request": "f", "resolve": "ff", "find": "fbb", "list": "fbb", "query": "fbfb", "payload": "b", "ranges": "w",
-          "fields": "w", "clean": "f", "contained": "ff"}
+          "fields": "w", "fields_by": "w", "clean": "f", "contained": "ff"}
 
 
 # ---- what is wanted: (six numbers, elements, the run of the second implementation or None)
@@ -112,6 +112,7 @@ WANTED = {
     "payload": lambda inputs, numbers: payload(*inputs, *numbers),
     "ranges": lambda inputs, numbers: lowered(lowering.lowered_ranges(numbers[0], unpacked(*inputs, "i"))),
     "fields": lambda inputs, _: lowered(lowering.lowered_fields(unpacked(*inputs, "I"))),
+    "fields_by": lambda inputs, numbers: lowered(lowering.lowered_fields_by(numbers[0], unpacked(*inputs, "I"))),
     "clean": lambda inputs, _: decided(inputs, evolution.clean),
     "contained": lambda inputs, _: decided(inputs, evolution.contained),
 }
@@ -132,7 +133,7 @@ class Case:
         return head + b"".join(struct.pack("<I", len(data)) + data for data in self.inputs)
 
     def text(self):
-        numbers = " ".join(map(str, self.numbers)) if self.call in ("payload", "ranges") else ""
+        numbers = " ".join(map(str, self.numbers)) if self.call in ("payload", "ranges", "fields_by") else ""
         return "opt_%s %s" % (self.call, " ".join([data.hex().upper() or "-" for data in self.inputs] + [numbers]))
 
 

@@ -149,7 +149,8 @@ def of_long(sheet, kind, data, name):
 
 # ---- the ends of inputs
 NOTHING = {"sheet": (b"",), "request": (b"",), "resolve": (b"", b""), "find": (b"", b"", b""), "list": (b"", b"", b""),
-           "query": (b"", b"", b"", b""), "payload": (b"",), "ranges": (b"",), "fields": (b"",), "clean": (b"",), "contained": (b"", b"")}
+           "query": (b"", b"", b"", b""), "payload": (b"",), "ranges": (b"",), "fields": (b"",), "fields_by": (b"",), "clean": (b"",),
+           "contained": (b"", b"")}
 
 
 def extremes():
@@ -202,22 +203,28 @@ def some_ranges():
     return Case("ranges", packed(words), numbers=(kind, 0))
 
 
-def some_fields():
+def some_words():
+    """Fields, and sometimes many, or with a word among them that is none there."""
     words = lowering.some_fields()
     if random.random() < 0.004:
         words = list(itertools.islice(itertools.cycle(words or [1, 2, 3]), random.choice(LONG)))
     if random.random() < 0.25:
         words.insert(random.randint(0, len(words)), random.choice((3, 3, 4, 4, 5, 2**31, 2**32 - 1, 2**32 - 3)))
-    return Case("fields", packed(words))
+    return packed(words)
+
+
+def some_numbering():
+    return random.choice((0, 1)) if random.random() < 0.9 else random.choice((2, 3, 4, 2**31, 2**32 - 2, 2**32 - 1))
 
 
 def of_lowering():
     """Of each two, the second such that the original can be asked."""
     kind, words = random.randint(0, 2), [lowering.word() for _ in range(2 * random.randint(0, 20))]
-    asked = [Case("ranges", packed(words), numbers=(kind, 0)), Case("fields", packed(lowering.some_fields()))]
+    asked = [Case("ranges", packed(words), numbers=(kind, 0)), Case("fields", packed(lowering.some_fields())),
+             Case("fields_by", packed(lowering.some_fields()), numbers=(lowering.DECLARED, 0))]
     for case in asked:
         case.plain = True
-    return [some_ranges(), some_fields()] + asked
+    return [some_ranges(), Case("fields", some_words()), Case("fields_by", some_words(), numbers=(some_numbering(), 0))] + asked
 
 
 # ---- pairs of sheets

@@ -12,8 +12,9 @@ from library_calls import CALLS, unpacked
 # the replies that can be: of one with a second word that as well; NoRoom (17) is counted of calls
 REPLIES = {"sheet": [0, 1, 3], "request": [0, 2, 3], "resolve": [0, "absent", *range(1, 11), "10, 1", *range(11, 16)],
            "find": [0, 1, 2, 3, 4], "list": [0, 1, 2, 3, 7, 8, 18, 19], "query": [0, "absent", *range(1, 10), 18, 19], "payload": [0, 2, 3],
-           "ranges": [0, 2, 3, 16], "fields": [0, 2, 3], "clean": ["yes", "no", 1, 3], "contained": ["yes", "no", 1, 3]}
-LENDS = ("resolve", "find", "list", "query", "ranges", "fields")
+           "ranges": [0, 2, 3, 16], "fields": [0, 2, 3], "fields_by": [0, 2, 3], "clean": ["yes", "no", 1, 3],
+           "contained": ["yes", "no", 1, 3]}
+LENDS = ("resolve", "find", "list", "query", "ranges", "fields", "fields_by")
 TESTED = ("resolve", "find", "list", "query")
 
 
@@ -87,10 +88,25 @@ def field_steps(case):
     yield from (("word", "%s after %s" % both) for both in zip(words[: last + 1], ["nothing"] + words))
 
 
+def numbered_steps(case):
+    words, numbering = unpacked(*case.inputs, "I"), case.numbers[0]
+    yield "numbering", numbering if numbering < 3 else "from 2^31 on" if numbering >= 2**31 else "more"
+    yield from field_steps(case)
+    if case.want[0] == 0:
+        kinds = [word for word in words if word in (1, 2)]
+        yield "oneofs", "none" if not kinds else "of one kind" if len(set(kinds)) == 1 else (
+            "a synthetic one before a real one" if kinds != sorted(kinds, reverse=True) else "all real ones first")
+        if any(word == 2 and after != 3 for word, after in zip(words, words[1:] + [0])):
+            yield "members", "a oneof without, in numbering %d" % numbering
+
+
 FIELDS = {"words": WORDS,
           "word": ["%s after %s" % (word, before) for word in (0, 1, 2, 3, 4, "more") for before in ("nothing", 0, 1, 2, 3)]}
+NUMBERED = {"numbering": [0, 1, 2, "more", "from 2^31 on"], **FIELDS,
+            "oneofs": ["none", "of one kind", "a synthetic one before a real one", "all real ones first"],
+            "members": ["a oneof without, in numbering %d" % n for n in (0, 1)]}
 OWN = {"list": (long_steps, LONG), "query": (long_steps, LONG), "payload": (payload_steps, PAYLOAD), "ranges": (range_steps, RANGES),
-       "fields": (field_steps, FIELDS)}
+       "fields": (field_steps, FIELDS), "fields_by": (numbered_steps, NUMBERED)}
 
 
 def own_steps(case):
@@ -123,7 +139,7 @@ def calls_table(cases, counts):
     made = {(name, int(reply)): many for (table, name, reply), many in counts.items() if table == "calls"}
     for name in [*CALLS, *(call + "_tested" for call in TESTED)]:
         line(name, [(reply, made[name, reply]) for reply in range(20) if (name, reply) in made])
-        if name.split("_")[0] in LENDS and (name, 17) not in made:
+        if name.removesuffix("_tested") in LENDS and (name, 17) not in made:
             missing.append("%s answered 17" % name)
     return missing
 

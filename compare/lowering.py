@@ -3,6 +3,7 @@
 
 usage: lowering.py ORACLE [CASES]
        lowering.py protoc [MESSAGES]
+       lowering.py inputs
        lowering.py list [write]
 
 Run it from the root of the repository. ORACLE is a program over protobuf-parse 3.7.2 that reads lines `ranges KIND start end ..` and
@@ -15,6 +16,9 @@ implementation, which refuses too, for compare/library.py.
 `protoc` compares the other numbering, synthetic oneofs last, with the descriptors that protoc makes of random proto3 messages, 10,000 if
 no number is given; it needs protoc and Python's protobuf. protoc takes no oneof without a field: such lists are left out here. It says
 what the messages hit, and of how many the numbering in order of declaration would have differed.
+
+`inputs` gives optoneofs inputs that are none, a numbering of another size or in another place among them, and compares the lines that it
+prints with those below, which are written by hand.
 
 `list` says whether the stored tests of the two programs are the cases below, whose answers are written by hand, or writes them. The first
 of each is laid out to try the reader of digits: blanks, a tab, both line ends and both cases. The last of optoneofs' is no such input.
@@ -64,7 +68,7 @@ STORED = {
         # 01, "Listing and lowering": a field, an optional one, a oneof of two members, an optional one; a 3 that follows no 2 or 3
         (fields(0, 1, 2, 3, 3, 1), "answer 0\nwords 0 1 2 2 3\n"),
         (fields(3), "answer 2\nBadRequest\n"),
-        # the same fields in both numberings; a oneof without a field counts in both; one that comes before the optional field keeps its index
+        # the same fields in both numberings; a oneof without a field counts in both; one before the optional field keeps its index
         (fields_by(DECLARED, 0, 1, 2, 3, 3, 1), "answer 0\nwords 0 1 2 2 3\n"),
         (fields_by(SYNTHETIC_LAST, 0, 1, 2, 3, 3, 1), "answer 0\nwords 0 2 1 1 3\n"),
         (fields_by(DECLARED, 1, 2, 2, 3), "answer 0\nwords 1 3\n"),
@@ -77,8 +81,42 @@ STORED = {
     ],
 }
 # a numbering behind the words belongs to the next case, which is missing
-STORED["optoneofs"].append((field(0x47, [SYNTHETIC_LAST]).hex() + "\n", "input: byte %d: the input ends, where a field of tag 49 is due\n" % (
-    sum(len(bytes.fromhex(text)) for text, _ in STORED["optoneofs"]) + 7)))
+BEHIND = field(0x47, [SYNTHETIC_LAST]).hex() + "\n"
+ENDS_AT = sum(len(bytes.fromhex(text)) for text in [BEHIND] + [text for text, _ in STORED["optoneofs"]])
+STORED["optoneofs"].append((BEHIND, "input: byte %d: the input ends, where a field of tag 49 is due\n" % ENDS_AT))
+
+
+DUE = "a field of tag 49 is due"
+NO_INPUTS = [
+    ("", "input: byte 0: the input ends, where %s" % DUE),
+    ("48 0000", "input: byte 0: a field of tag 48, where tag 49 is due"),
+    ("49 0003 000000", "input: byte 3: the payload of tag 49 has length 3, no multiple of 4"),
+    # of another size
+    ("47 0000 49 0000", "input: byte 3: the payload of tag 47 has length 0, where 4 is due"),
+    ("47 0003 000001 49 0000", "input: byte 3: the payload of tag 47 has length 3, where 4 is due"),
+    ("47 0008 0000000100000001 49 0000", "input: byte 3: the payload of tag 47 has length 8, where 4 is due"),
+    ("47 0004 0000", "input: byte 0: the field that starts here is cut"),
+    ("47", "input: byte 0: the field that starts here is cut"),
+    # in another place
+    ("47 0004 00000001", "input: byte 7: the input ends, where %s" % DUE),
+    ("47 0004 00000001 48 0000", "input: byte 7: a field of tag 48, where tag 49 is due"),
+    ("47 0004 00000001 47 0004 00000001 49 0000", "input: byte 7: a field of tag 47, where tag 49 is due"),
+    ("49 0000 47 0004 00000001", "answer 0 words input: byte 10: the input ends, where %s" % DUE),
+    # a case behind one that has a numbering has none by that
+    ("47 0004 00000001 49 000C 00000001 00000002 00000003 49 000C 00000001 00000002 00000003", "answer 0 words 2 1 answer 0 words 1 2"),
+]
+
+
+def no_inputs():
+    """How many of these get another line."""
+    other = 0
+    for text, line in NO_INPUTS:
+        said = ours("optoneofs", bytes.fromhex(text))
+        if said != line:
+            other += 1
+            print("%s\n  printed: %s\n  due:     %s" % (text, said, line))
+    print("%d inputs tried, %d with another line" % (len(NO_INPUTS), other))
+    return other
 
 
 def stored(write):
@@ -232,6 +270,8 @@ def with_protoc(messages):
 def main():
     if sys.argv[1] == "list":
         sys.exit(1 if stored(sys.argv[2:] == ["write"]) else 0)
+    if sys.argv[1] == "inputs":
+        sys.exit(1 if no_inputs() else 0)
     if sys.argv[1] == "protoc":
         sys.exit(with_protoc(int(sys.argv[2]) if len(sys.argv) > 2 else 10000))
     oracle, cases = sys.argv[1], int(sys.argv[2]) if len(sys.argv) > 2 else 2000

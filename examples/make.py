@@ -107,7 +107,8 @@ FILES = {
     # reserved 100 to 199, 300, 1000 to max; of a message
     "ranges.hex": lines(f(0x47, words(1)), f(0x48, words(100, 199, 300, 300, 1000, 536870911))),
     # setpoint, optional ramp, oneof source { packet, queue }, backup
-    "oneofs.hex": lines(f(0x49, words(0, 1, 2, 3, 3, 0))),
+    # in order of declaration, and with the oneof of the optional field last
+    "oneofs.hex": lines(f(0x49, words(0, 1, 2, 3, 3, 0)), f(0x47, words(1)), f(0x49, words(0, 1, 2, 3, 3, 0))),
 }
 
 for name, text in FILES.items():

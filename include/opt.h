@@ -62,7 +62,7 @@ enum {
     OPT_MOST_OPTION_BYTES = 65536, /* of opt_resolve */
     OPT_FOUND_WORDS = 10,          /* of opt_find */
     OPT_RECORD_WORDS = 8,          /* of opt_query; so many for each option byte are enough for opt_list */
-    OPT_MOST_WORDS = 4096          /* of opt_ranges and opt_fields */
+    OPT_MOST_WORDS = 4096          /* of opt_ranges, opt_fields, opt_fields_by */
 };
 
 /* Tests the form of a sheet: OPT_DONE, or its first fault from the front (OPT_BAD_SHEET, OPT_BEYOND_LIMIT). */
@@ -118,6 +118,12 @@ struct opt_answer opt_ranges(uint32_t kind,
 /* Gives fields their oneofs. Words: 0 a plain field, 1 a proto3 optional, 2 a oneof opens, 3 its member; for each 0, 1 and 3 one word
  * comes back, 0 for no oneof, else its index and 1. */
 struct opt_answer opt_fields(const uint32_t *words, size_t words_count, uint32_t *out, size_t out_count);
+
+/* The same in a numbering of the oneofs: 0 in order of declaration, as opt_fields has it, 1 those of proto3 optional fields after all
+ * others, as the notes on proto3 presence ask. Another is OPT_BAD_REQUEST. A field has the same oneof in both, with another index. */
+struct opt_answer opt_fields_by(uint32_t numbering,
+                                const uint32_t *words, size_t words_count,
+                                uint32_t *out, size_t out_count);
 
 /* Whether a sheet is clean (no name and no number declared twice, every path names one thing): `second` is 1 for yes. */
 struct opt_answer opt_clean(const uint8_t *sheet, size_t sheet_count);

@@ -82,7 +82,7 @@ pub mod sys;
 mod words;
 
 pub use calls::{check_request, check_sheet, clean, contained, find, list, payload, query, resolve, MOST_OPTION_BYTES};
-pub use lowering::{lower_fields, lower_ranges, RangeKind, MOST_WORDS};
+pub use lowering::{lower_fields, lower_fields_by, lower_ranges, Numbering, RangeKind, MOST_WORDS};
 pub use refusal::{Refusal, Refused};
 pub use sheet::Sheet;
 pub use words::{records, Found, Record, Span, FOUND_WORDS, RECORD_WORDS};

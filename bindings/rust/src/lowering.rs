@@ -45,3 +45,28 @@ pub fn lower_ranges<'o>(kind: RangeKind, words: &[i32], out: &'o mut [i32]) -> R
 pub fn lower_fields<'o>(words: &[u32], out: &'o mut [u32]) -> Result<&'o [u32], Refused> {
     lent::opt_fields(words, out).written(out)
 }
+
+/// In which order oneofs are numbered.
+#[derive(Clone, Copy, Debug, PartialEq, Eq, Hash)]
+pub enum Numbering {
+    /// As they are declared; [`lower_fields`] has this one.
+    Declared = 0,
+    /// Those of proto3 optional fields after all others, as the notes on proto3 presence ask.
+    SyntheticLast = 1,
+}
+
+/// Gives fields their oneofs in a numbering. A field has the same oneof in both, with another index.
+///
+/// The fields that [`lower_fields`] shows, with the oneof of the optional field last:
+///
+/// ```
+/// use cizasmok::{lower_fields_by, Numbering};
+///
+/// let mut out = [0; 6];
+/// let words = lower_fields_by(Numbering::SyntheticLast, &[0, 1, 2, 3, 3], &mut out)?;
+/// assert_eq!(words, [0, 2, 1, 1]);
+/// # Ok::<(), cizasmok::Refused>(())
+/// ```
+pub fn lower_fields_by<'o>(numbering: Numbering, words: &[u32], out: &'o mut [u32]) -> Result<&'o [u32], Refused> {
+    lent::opt_fields_by(numbering as u32, words, out).written(out)
+}

@@ -94,6 +94,8 @@ functions! {
     fn opt_ranges(kind: u32, [words: i32]; out: i32);
     /// Gives fields their oneofs.
     fn opt_fields([words: u32]; out: u32);
+    /// Gives fields their oneofs in a numbering.
+    fn opt_fields_by(numbering: u32, [words: u32]; out: u32);
     /// Whether a sheet is clean.
     fn opt_clean([sheet: u8]);
     /// Whether an older sheet is contained in a newer one.

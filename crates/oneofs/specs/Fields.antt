@@ -110,14 +110,16 @@ realCount ws = count (λ w. eqb w 2) ws
 
 -- ---- indices
 
--- [LOWER-10] in order of declaration, or the oneofs of optional fields after all others
+-- the caller's choice [LOWER-10]
 abbrev pub declared : ℕ
 declared = 0
 
 abbrev pub syntheticLast : ℕ
 syntheticLast = 1
 
--- within its kind a oneof keeps its place in either [LOWER-11]
+-- "A 1 opens a oneof at the count so far; a 2 .. counts"; or, as descriptor.proto says of proto3_optional, "Synthetic oneofs must be ordered
+-- after all "real" oneofs": of a real one the real ones before it, of a synthetic one all real ones and the synthetic ones before it
+-- [LOWER-7, LOWER-10]
 unfoldable pub indexOf : (numbering reals : ℕ) → Oneof → ℕ
 indexOf numbering reals (oneof kind r s) =
     elim (eqb numbering declared) [ true ↦ r + s | false ↦ elim kind [ real ↦ r | synthetic ↦ reals + s ] ]
@@ -132,7 +134,7 @@ numbered numbering reals (refused c) = refused c
 numbered numbering reals nothing = nothing
 numbered numbering reals (give gs) = give (map (wordOf numbering reals) gs)
 
--- another numbering is 2, as a range's kind is, before any 3 [LOWER-10]
+-- another numbering is 2 before any 3, as another kind of ranges is [LOWER-9, LOWER-10]
 unfoldable pub lowerFieldsBy : (numbering : ℕ) (ws : List ℕ) → Outcome ℕ
 lowerFieldsBy numbering ws =
     elim (ltb syntheticLast numbering) [
@@ -140,7 +142,7 @@ lowerFieldsBy numbering ws =
       | false ↦ elim (ltb mostWords (length ws)) [ true ↦ refuse BeyondLimit | false ↦ numbered numbering (realCount ws) (groups ws) ]
     ]
 
--- ---- two numberings beside each other
+-- ---- two numberings beside each other [LOWER-11]
 pub data Alike : Outcome ℕ → Outcome ℕ → Type 0 where
   both-refused : {c : Cause} → Alike (refused c) (refused c)
   both-absent : Alike nothing nothing

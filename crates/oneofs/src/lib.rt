@@ -1,5 +1,5 @@
-// 01's lowering of fields: the oneof that each belongs to. The words are written once over nothing, which finds a wrong word and the
-// length, and then over the lent memory, so that a refusal writes nothing and NoRoom comes last.
+// 01's lowering of fields: the oneof that each belongs to, in one of two numberings of the oneofs. The words are written once over nothing,
+// which finds a wrong word and the length, and then over the lent memory, so that a refusal writes nothing and NoRoom comes last.
 ghost use Rattle.basis.specs.Kit.{_≡_, _≤_, length};
 ghost use Rattle.limits.specs.Figures.{mostWords};
 ghost use Rattle.reply.specs.Outcome.{Answered};
@@ -12,7 +12,7 @@ use limits::MOST_WORDS;
 use reply::Answer;
 use reply::Refusal;
 
-// What a field is.
+// The words of fields.
 const PLAIN: u32 = 0;
 
 const OPTIONAL: u32 = 1;

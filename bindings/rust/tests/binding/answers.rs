@@ -156,6 +156,15 @@ fn fields() {
     assert_eq!(lower_fields(&[2, 0, 1, 2, 3, 3], &mut [0; 8]), Ok(&[0, 2, 3, 3][..]));
 }
 
+/// [LOWER-10] and [LOWER-11] of docs/RULES.md: the fields of the test above have a oneof without members.
+#[test]
+fn fields_by_a_numbering() {
+    let lowered = |numbering, words: &[u32]| lower_fields_by(numbering, words, &mut [0; 8]).map(<[u32]>::to_vec);
+    assert_eq!(lowered(Numbering::Declared, &[2, 0, 1, 2, 3, 3]), Ok(vec![0, 2, 3, 3]));
+    assert_eq!(lowered(Numbering::SyntheticLast, &[2, 0, 1, 2, 3, 3]), Ok(vec![0, 3, 2, 2]));
+    assert_eq!(lowered(Numbering::SyntheticLast, &[1, 2, 3]), Ok(vec![2, 1]));
+}
+
 /// compare/evolve_cases.py: a message and an enum of one name; a message with two fields of one name.
 #[test]
 fn clean_and_contained_say_no() {

@@ -11,6 +11,17 @@ fn another_kind_of_ranges() {
     assert_eq!((answer.reply, answer.length, out), (2, 0, [7, 7]));
 }
 
+/// [LOWER-10]: the numberings are 0 and 1, and another comes before too many words.
+#[test]
+fn another_numbering() {
+    let (words, mut out) = ([7; 4_097], [7, 7]);
+    for (numbering, reply) in [(0, 3), (1, 3), (2, 2), (u32::MAX, 2)] {
+        // SAFETY: both slices are lent for the call, each with its own count.
+        let answer = unsafe { opt_fields_by(numbering, words.as_ptr(), words.len(), out.as_mut_ptr(), out.len()) };
+        assert_eq!((answer.reply, answer.length, out), (reply, 0, [7, 7]));
+    }
+}
+
 /// [RESOLVE-4]: of a malformed sheet the tested form answers by what the bytes say, here that there are no files. With
 /// no options that is Absent, and else there is no options type.
 #[test]

@@ -25,6 +25,7 @@ fn of_rust() {
     assert_eq!(payload(NONE, 0, 1), Err(bad));
     assert_eq!(lower_ranges(RangeKind::Extension, &[], &mut []), Ok(&[][..]));
     assert_eq!(lower_fields(&[], &mut []), Ok(&[][..]));
+    assert_eq!(lower_fields_by(Numbering::SyntheticLast, &[], &mut []), Ok(&[][..]));
     assert_eq!([clean(NONE), contained(NONE, NONE)], [Ok(true); 2]);
     assert_eq!(records(&[]).count(), 0);
 }
@@ -50,6 +51,7 @@ fn of_c() {
         assert_eq!(opt_payload(bytes, 0, 1, 0), bad);
         assert_eq!(opt_ranges(0, null(), 0, null_mut(), 0), done);
         assert_eq!(opt_fields(null(), 0, words, 0), done);
+        assert_eq!(opt_fields_by(1, null(), 0, words, 0), done);
         assert_eq!(opt_clean(bytes, 0), yes);
         assert_eq!(opt_contained(bytes, 0, bytes, 0), yes);
     }

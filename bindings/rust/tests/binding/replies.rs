@@ -225,10 +225,13 @@ fn of_listings_and_finds() -> Vec<Case> {
     ]
 }
 
-/// [PAYLOAD-2], [LOWER-1], [LOWER-4] to [LOWER-6] and [REPLY-6] of docs/RULES.md; 01's example 10.
+/// [PAYLOAD-2], [LOWER-1], [LOWER-4] to [LOWER-6], [LOWER-10] and [REPLY-6] of docs/RULES.md; 01's example 10.
 fn of_other_calls() -> Vec<Case> {
     let lowering = |words: &[i32]| kept(7, |out| lower_ranges(RangeKind::Extension, words, out).map(drop));
-    let oneofs = |words: &[u32]| kept(7, |out| lower_fields(words, out).map(drop));
+    let oneofs = |words: &[u32]| {
+        let refused = kept(7, |out| lower_fields(words, out).map(drop));
+        alike(refused, kept(7, |out| lower_fields_by(Numbering::SyntheticLast, words, out).map(drop)))
+    };
     let part_of = |bytes: &[u8], place, length| payload(bytes, place, length).expect_err("a refusal");
     let room = resolve(&schema(), &seven("(order)"), &mut [0; 3]).expect_err("a refusal");
     vec![

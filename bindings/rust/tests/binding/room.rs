@@ -75,7 +75,9 @@ fn of_the_lowerings() {
     in_every_room(-9, &[100, 200, 300, 301, 1000, 536870912], |out| {
         lower_ranges(RangeKind::MessageReserved, &ranges, out)
     });
-    in_every_room(9, &[0, 1, 2, 2, 0], |out| lower_fields(&[0, 1, 2, 3, 3, 0], out));
+    let fields = [0, 1, 2, 3, 3, 0];
+    in_every_room(9, &[0, 1, 2, 2, 0], |out| lower_fields(&fields, out));
+    in_every_room(9, &[0, 2, 1, 1, 0], |out| lower_fields_by(Numbering::SyntheticLast, &fields, out));
 }
 
 /// [REPLY-6] and [REPLY-8], with 01's P8: none for Absent, and an answer with no bytes is no Absent.

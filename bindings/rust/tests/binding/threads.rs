@@ -21,6 +21,7 @@ fn answers(bytes: &[u8]) -> Vec<String> {
         format!("{:?}", sheet.query(on, &name("none"), &SET, &mut words)),
         format!("{:?}", payload(&SET, 4, 4)),
         format!("{:?}", lower_fields(&[0, 1, 2, 3, 3, 0], &mut words)),
+        format!("{:?}", lower_fields_by(Numbering::SyntheticLast, &[0, 1, 2, 3, 3, 0], &mut words)),
         format!("{:?}", lower_ranges(RangeKind::Extension, &[100, 199], &mut [0; 2])),
         format!("{:?}", (clean(bytes), contained(bytes, bytes), check_sheet(bytes), check_request(bytes))),
     ]
