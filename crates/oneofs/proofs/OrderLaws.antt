@@ -51,13 +51,16 @@ module _ (numbering : ℕ) (ws : List ℕ) where
   index-below x m =
       omega (arith, opened-many ws, below numbering (realCount ws) (syntheticCount ws) x (numbers numbering) (opened-lies ws x m))
 
+  pub index-apart : Ordered (λ x y. indexOf numbering (realCount ws) x ≡ indexOf numbering (realCount ws) y → ⊥) (opened ws)
+  index-apart =
+      let lies = opened-lies ws in
+      ordered-mono
+      (λ x y m m′ e. differs numbering (realCount ws) (syntheticCount ws) x y (numbers numbering) e (lies x m) (lies y m′))
+      (opened-ordered ws)
+
   pub index-unique : (x y : Oneof) → Among x (opened ws) → Among y (opened ws)
       → indexOf numbering (realCount ws) x ≡ indexOf numbering (realCount ws) y → x ≡ y
-  index-unique x y m m′ q =
-      let apart-at = differs numbering (realCount ws) (syntheticCount ws) in
-      either-earlier (opened-ordered ws) m m′ (λ e. e)
-      (λ e. absurd (apart-at x y (numbers numbering) e (opened-lies ws x m) (opened-lies ws y m′) q))
-      (λ e. absurd (apart-at y x (numbers numbering) e (opened-lies ws y m′) (opened-lies ws x m) (sym q)))
+  index-unique x y m m′ q = either-earlier index-apart m m′ (λ e. e) (λ d. absurd (d q)) (λ d. absurd (d (sym q)))
 
 -- ---- synthetic ones last
 module _ (ws : List ℕ) (x : Oneof) (m : Among x (opened ws)) where

@@ -26,7 +26,12 @@ module _ (a b : ℕ) (ws : List ℕ) (h : a ≤ syntheticLast) (h′ : b ≤ syn
   pub same-answer : (room : ℕ) → answerOf (within room (lowerFieldsBy a ws)) ≡ answerOf (within room (lowerFieldsBy b ws))
   same-answer room = fields.answers-alike (lowerFieldsBy a ws) (lowerFieldsBy b ws) room refused-alike
 
--- ---- 3. In any numbering, different oneofs of one list have different indices, those that no field shows too.
+-- ---- 3. In any numbering, any two oneofs of one list have different indices, those that no field shows too,
+pub index-apart : (numbering : ℕ) (ws : List ℕ)
+    → Ordered (λ x y. indexOf numbering (realCount ws) x ≡ indexOf numbering (realCount ws) y → ⊥) (opened ws)
+index-apart = order.index-apart
+
+-- so that an index tells which oneof it is of.
 pub index-unique : (numbering : ℕ) (ws : List ℕ) (x y : Oneof) → Among x (opened ws) → Among y (opened ws)
     → indexOf numbering (realCount ws) x ≡ indexOf numbering (realCount ws) y → x ≡ y
 index-unique = order.index-unique

@@ -117,9 +117,9 @@ declared = 0
 abbrev pub syntheticLast : ℕ
 syntheticLast = 1
 
--- "A 1 opens a oneof at the count so far; a 2 .. counts"; or, as descriptor.proto says of proto3_optional, "Synthetic oneofs must be ordered
--- after all "real" oneofs": of a real one the real ones before it, of a synthetic one all real ones and the synthetic ones before it
--- [LOWER-7, LOWER-10]
+-- "A 1 opens a oneof at the count so far; a 2 .. counts"; or, as descriptor.proto says of proto3_optional, "Synthetic oneofs must be
+-- ordered after all "real" oneofs": of a real one the real ones before it, of a synthetic one all real ones and the synthetic ones
+-- before it [LOWER-7, LOWER-10]
 unfoldable pub indexOf : (numbering reals : ℕ) → Oneof → ℕ
 indexOf numbering reals (oneof kind r s) =
     elim (eqb numbering declared) [ true ↦ r + s | false ↦ elim kind [ real ↦ r | synthetic ↦ reals + s ] ]
