@@ -1,9 +1,9 @@
 -- The ways through `lower_fields_by`.
 --
---   Short o n <-> the outcome o gives n elements or fewer
+--   Short o n <-> the outcome o is a refusal, or gives n elements or fewer
 --
 -- Assumes nothing.
-use Rattle.basis.specs.Kit.{_≡_, refl, ap, Bool, true, false, List, [], _∷_, none, some, ℕ, suc, _≤_, _<_, eqb, length}
+use Rattle.basis.specs.Kit.{_≡_, refl, ap, _∙_, Bool, true, false, List, [], _∷_, none, some, ℕ, suc, _≤_, _<_, eqb, length}
 use Rattle.basis.proofs.Kit.{arith, lt-ltb, le-ltb, Fits}
 use Rattle.basis.proofs.CountLaws.{count-few}
 use Rattle.basis.proofs.Never.{never}
@@ -22,58 +22,58 @@ use Rattle.emit.specs.inner.Puts.{Puts}
 use Rattle.emit.proofs.WriteLaws.{give-inv, put-wrote, call-laws}
 use Rattle.oneofs.specs.Fields.{real, synthetic, oneof, Group, joining, groupsAfter, groups, realCount}
 use Rattle.oneofs.specs.Fields.{syntheticLast, wordOf, numbered, lowerFieldsBy}
+use Rattle.oneofs.proofs.GroupLaws.{numbered-given}
 
 -- no more words are given than read
-record Short {A : Type 0} (o : Outcome A) (n : ℕ) : Type 0 where
-  most : (given : List A) → o ≡ give given → length given ≤ n
+record Short (o : Outcome Group) (n : ℕ) : Type 0 where
+  present : o ≡ nothing → ⊥
+  most : (gs : List Group) → o ≡ give gs → length gs ≤ n
 
-module _ {A : Type 0} where
-  short-nil : (n : ℕ) → Short {A = A} (give []) n
-  short-nil n = record { most = λ given q. omega (arith, ap length (give-inv q)) }
+short-nil : (n : ℕ) → Short (give []) n
+short-nil n = record { present = λ q. never cc; most = λ gs q. omega (arith, ap length (give-inv q)) }
 
-  short-refused : (c : Cause) (n : ℕ) → Short {A = A} (refused c) n
-  short-refused c n = record { most = λ given q. never cc }
+short-refused : (c : Cause) (n : ℕ) → Short (refused c) n
+short-refused c n = record { present = λ q. never cc; most = λ gs q. never cc }
 
-  short-push : (x : A) (n : ℕ) (o : Outcome A) → Short o n → Short (push (x ∷ []) o) (suc n)
-  short-push x n (refused c) s = short-refused c (suc n)
-  short-push x n nothing s = record { most = λ given q. never cc }
-  short-push x n (give l) s = record { most = λ given q. omega (arith, ap length (give-inv q), s .most l refl) }
+short-push : (g : Group) (n : ℕ) (o : Outcome Group) → Short o n → Short (push (g ∷ []) o) (suc n)
+short-push g n (refused c) s = short-refused c (suc n)
+short-push g n nothing s = absurd (s .present refl)
+short-push g n (give l) s = record {
+  present = λ q. never cc;
+  most = λ gs q. omega (arith, ap length (give-inv q), s .most l refl);
+}
 
-  short-more : (n : ℕ) (o : Outcome A) → Short o n → Short o (suc n)
-  short-more n o s = record { most = λ given q. omega (arith, s .most given q) }
+short-more : (n : ℕ) (o : Outcome Group) → Short o n → Short o (suc n)
+short-more n o s = record { present = s .present; most = λ gs q. omega (arith, s .most gs q) }
 
-  short-if : (t : Bool) {n : ℕ} {o o′ : Outcome A} → Short o n → Short o′ n → Short {A = A} (elim t [ true ↦ o | false ↦ o′ ]) n
-  short-if true s s′ = s
-  short-if false s s′ = s′
+short-if : (t : Bool) {n : ℕ} {o o′ : Outcome Group} → Short o n → Short o′ n → Short (elim t [ true ↦ o | false ↦ o′ ]) n
+short-if true s s′ = s
+short-if false s s′ = s′
 
-short-joining : (group : Group) (n : ℕ) (o : Outcome Group) → Short o n → Short (joining group o) (suc n)
+short-joining : (member : Group) (n : ℕ) (o : Outcome Group) → Short o n → Short (joining member o) (suc n)
 short-joining none n o s = short-refused (bare BadRequest) (suc n)
 short-joining (some x) n o s = short-push (some x) n o s
 
-groups-short : (r s : ℕ) (group : Group) (ws : List ℕ) → Short (groupsAfter r s group ws) (length ws)
+groups-short : (r s : ℕ) (member : Group) (ws : List ℕ) → Short (groupsAfter r s member ws) (length ws)
 unfolding groupsAfter
-groups-short r s group [] = short-nil 0
-groups-short r s group (w ∷ ws) =
+groups-short r s member [] = short-nil 0
+groups-short r s member (w ∷ ws) =
     let n = length ws in
     short-if (eqb w 0) (short-push none n _ (groups-short r s none ws))
     (short-if (eqb w 1) (short-push (some (oneof synthetic r s)) n _ (groups-short r (suc s) none ws))
     (short-if (eqb w 2) (short-more n _ (groups-short (suc r) s (some (oneof real r s)) ws))
-    (short-if (eqb w 3) (short-joining group n _ (groups-short r s group ws)) (short-refused (bare BadRequest) (suc n)))))
+    (short-if (eqb w 3) (short-joining member n _ (groups-short r s member ws)) (short-refused (bare BadRequest) (suc n)))))
 
-module _ (numbering reals : ℕ) where
-  short-numbered : (n : ℕ) (o : Outcome Group) → Short o n → Short (numbered numbering reals o) n
-  short-numbered n (refused c) s = short-refused c n
-  short-numbered n nothing s = record { most = λ given q. never cc }
-  short-numbered n (give gs) s = record {
-    most = λ given q. omega (arith, ap length (give-inv q), length-map gs (wordOf numbering reals), s .most gs refl);
-  }
+pub groups-present : (ws : List ℕ) → groups ws ≡ nothing → ⊥
+groups-present ws = groups-short 0 0 none ws .present
 
-  pub fields-fit : (ws z z′ : List ℕ) (p : Put) (n : ℕ) → Puts (numbered numbering reals (groups ws)) 0 z z′ p → p ≡ Wrote n
-      → length ws ≤ mostWords → Fits w32 n
-  fields-fit ws z z′ p n u e h =
-      let g = put-wrote n u e in
-      let short = short-numbered (length ws) (groups ws) (groups-short 0 0 none ws) in
-      record { fits = omega (arith, short .most (g .elements) (g .is), g .laid .next) }
+pub fields-fit : (numbering reals : ℕ) (ws z z′ : List ℕ) (p : Put) (n : ℕ) → Puts (numbered numbering reals (groups ws)) 0 z z′ p
+    → p ≡ Wrote n → length ws ≤ mostWords → Fits w32 n
+fields-fit numbering reals ws z z′ p n u e h =
+    let g = put-wrote n u e in
+    let made = numbered-given numbering reals (g .elements) (groups ws) (g .is) in
+    let size = ap length (made .2) ∙ length-map (made .0) (wordOf numbering reals) in
+    record { fits = omega (arith, size, groups-short 0 0 none ws .most (made .0) (made .1), g .laid .next) }
 
 module _ (numbering : ℕ) (ws : List ℕ) where
   module _ (l : List ℕ) (r : Answer) where

@@ -3,15 +3,24 @@
 --   words numbering reals r s member ws == the words of the fields ws after r real and s synthetic oneofs
 --
 -- Assumes nothing.
-use Rattle.basis.specs.Kit.{_≡_, refl, List, [], _∷_, none, some, ℕ, suc, _+_}
+use Rattle.basis.specs.Kit.{_≡_, refl, sym, List, [], _∷_, map, none, some, ℕ, suc, _+_}
 use Rattle.basis.proofs.Kit.{arith, add-one, eq-eqb, ne-eqb}
+use Rattle.basis.proofs.Never.{never}
 use Rattle.reply.specs.declared.Refusal.the-variants.{BadRequest}
 use Rattle.reply.specs.Outcome.{Outcome, refused, refuse, nothing, give, push}
+use Rattle.emit.proofs.WriteLaws.{give-inv}
 use Rattle.oneofs.specs.Fields.{real, synthetic, oneof, Group, joining, groupsAfter, indexOf, wordOf, numbered}
 
 -- the words of fields, after r real and s synthetic oneofs
 abbrev pub words : (numbering reals r s : ℕ) (group : Group) (ws : List ℕ) → Outcome ℕ
 words numbering reals r s group ws = numbered numbering reals (groupsAfter r s group ws)
+
+-- what the words are made of
+pub numbered-given : (numbering reals : ℕ) (xs : List ℕ) (o : Outcome Group) → numbered numbering reals o ≡ give xs
+    → (gs : List Group) × (o ≡ give gs) × (xs ≡ map (wordOf numbering reals) gs)
+numbered-given numbering reals xs (refused c) e = never cc
+numbered-given numbering reals xs nothing e = never cc
+numbered-given numbering reals xs (give gs) e = (gs, refl, sym (give-inv e))
 
 module _ (numbering reals : ℕ) where
   pub numbered-push : (g : Group) (o : Outcome Group)

@@ -79,7 +79,6 @@ pub record Grows (numbering reals r s : ℕ) : Type 0 where
       ≡ indexOf numbering reals (oneof synthetic (suc r) s)
   pub real-few : indexOf numbering reals (oneof real r s) ≤ r + s
   pub synthetic-few : indexOf numbering reals (oneof synthetic r s) ≤ reals + (r + s)
-  pub step-few : indexOf numbering 0 (oneof real 0 1) ≤ 1
 
 pub grows : (numbering reals r s : ℕ) → Grows numbering reals r s
 grows numbering reals r s = go (numbers numbering)
@@ -92,7 +91,6 @@ grows numbering reals r s = go (numbers numbering)
       synthetic-real = omega (arith, is reals (oneof synthetic r s), is 0 (oneof real 0 1), is reals (oneof synthetic (suc r) s));
       real-few = omega (arith, is reals (oneof real r s));
       synthetic-few = omega (arith, is reals (oneof synthetic r s));
-      step-few = omega (arith, is 0 (oneof real 0 1));
     }
     go (apart ofReal ofSynthetic) = record {
       real-real = omega (arith, ofReal reals r s, ofReal reals (suc r) s);
@@ -101,5 +99,4 @@ grows numbering reals r s = go (numbers numbering)
       synthetic-real = omega (arith, ofSynthetic reals r s, ofReal 0 0 1, ofSynthetic reals (suc r) s);
       real-few = omega (arith, ofReal reals r s);
       synthetic-few = omega (arith, ofSynthetic reals r s);
-      step-few = omega (arith, ofReal 0 0 1);
     }

@@ -20,7 +20,8 @@ use Rattle.reply.specs.declared.Refusal.the-variants.{BadRequest}
 use Rattle.reply.specs.Reply.{bare}
 use Rattle.reply.specs.Outcome.{Outcome, refused, nothing, give, push}
 use Rattle.emit.proofs.WriteLaws.{give-inv}
-use Rattle.oneofs.specs.Fields.{real, synthetic, Oneof, oneof, Group, joining, groupsAfter, groups, openedAfter, opened, realCount}
+use Rattle.oneofs.specs.Fields.{real, synthetic, Oneof, oneof, isReal, Group, joining, groupsAfter, groups, openedAfter, opened}
+use Rattle.oneofs.specs.Fields.{realCount}
 use Rattle.oneofs.proofs.IndexLaws.{realsBefore, syntheticsBefore}
 
 -- ---- what a word opens
@@ -63,6 +64,7 @@ pub record Opens (r s : ℕ) (ws : List ℕ) (xs : List Oneof) : Type 0 where
   pub lie : (x : Oneof) → Among x xs → Lies r s (r + realCount ws) (s + syntheticCount ws) x
   pub ordered : Ordered Earlier xs
   pub many : length xs ≡ realCount ws + syntheticCount ws
+  pub reals : count isReal xs ≡ realCount ws
 
 -- x is opened first, and xs after it
 module _
@@ -81,11 +83,13 @@ module _
         synthetics-to = omega (arith, b, l .synthetics-to);
       }
 
-  opens-first : length (x ∷ xs) ≡ realCount (w ∷ ws) + syntheticCount (w ∷ ws) → Opens r s (w ∷ ws) (x ∷ xs)
-  opens-first e = record {
+  opens-first : length (x ∷ xs) ≡ realCount (w ∷ ws) + syntheticCount (w ∷ ws) → count isReal (x ∷ xs) ≡ realCount (w ∷ ws)
+      → Opens r s (w ∷ ws) (x ∷ xs)
+  opens-first e f = record {
     lie = first-lies;
     ordered = next (λ y m. record { reals = o .lie y m .reals-from; synthetics = o .lie y m .synthetics-from }) (o .ordered);
     many = e;
+    reals = f;
   }
 
 opens-word : (r s w : ℕ) (ws : List ℕ) → Opening w → ((r s : ℕ) → Opens r s ws (openedAfter r s ws))
@@ -94,21 +98,26 @@ unfolding openedAfter
 opens-word r s w ws made ih =
     let o = ih r (suc s) in
     opens-first r s 1 ws (oneof synthetic r s) _ o (omega arith) (omega arith) refl refl (omega arith) (omega arith)
-    (omega (arith, o .many))
+    (omega (arith, o .many)) (omega (arith, o .reals))
 opens-word r s w ws declares ih =
     let o = ih (suc r) s in
     opens-first r s 2 ws (oneof real r s) _ o (omega arith) (omega arith) refl refl (omega arith) (omega arith)
-    (omega (arith, o .many))
+    (omega (arith, o .many)) (omega (arith, o .reals))
 opens-word r s w ws (neither q t) ih =
     let o = ih r s in
     let none-real = zero-add (realCount ws) in
     let none-made = zero-add (syntheticCount ws) in
     rw (opened-neither r s w ws q t)
-    (record { lie = rw (q, t, none-real, none-made) (o .lie); ordered = o .ordered; many = rw (q, t, none-real, none-made) (o .many) })
+    (record {
+      lie = rw (q, t, none-real, none-made) (o .lie);
+      ordered = o .ordered;
+      many = rw (q, t, none-real, none-made) (o .many);
+      reals = rw (t, none-real) (o .reals);
+    })
 
 opens-after : (r s : ℕ) (ws : List ℕ) → Opens r s ws (openedAfter r s ws)
 unfolding openedAfter
-opens-after r s [] = record { lie = λ x m. among-nil m; ordered = Ordered.none; many = refl }
+opens-after r s [] = record { lie = λ x m. among-nil m; ordered = Ordered.none; many = refl; reals = refl }
 opens-after r s (w ∷ ws) = opens-word r s w ws (opening w) λ r′ s′. opens-after r′ s′ ws
 
 module _ (ws : List ℕ) where
@@ -120,6 +129,9 @@ module _ (ws : List ℕ) where
 
   pub opened-many : length (opened ws) ≡ realCount ws + syntheticCount ws
   opened-many = opens-after 0 0 ws .many
+
+  pub opened-reals : count isReal (opened ws) ≡ realCount ws
+  opened-reals = opens-after 0 0 ws .reals
 
 -- of any two one is earlier, or they are one
 pub either-earlier : {C A : Type 0} {R : A → A → Type 0} {xs : List A} {x y : A} → Ordered R xs → Among x xs → Among y xs

@@ -4,9 +4,10 @@
 -- Assumes nothing.
 use Rattle.basis.specs.Kit.{_≡_, List, none, some, ℕ, _≤_, _<_, length, getD}
 use Rattle.basis.specs.Among.{Among, Ordered}
+use Rattle.basis.specs.Count.{count}
 use Rattle.basis.proofs.Kit.{arith}
 use Rattle.reply.specs.Outcome.{give, within, answerOf}
-use Rattle.oneofs.specs.Fields.{lowerFields, real, synthetic, Oneof, kindOf, Group, groups, opened, realCount}
+use Rattle.oneofs.specs.Fields.{lowerFields, real, synthetic, Oneof, kindOf, isReal, Group, groups, opened, realCount}
 use Rattle.oneofs.specs.Fields.{declared, syntheticLast, indexOf, lowerFieldsBy, Alike}
 use Rattle.oneofs.proofs.DeclaredLaws as declares
 use Rattle.oneofs.proofs.OpenedLaws as opens
@@ -69,7 +70,11 @@ module _ (a b : ℕ) (ws xs ys : List ℕ) (f : lowerFieldsBy a ws ≡ give xs) 
       let m = fields.words-made a ws xs f in
       none-word b ws (m .0) (m .1) ys f′ i (word-none a ws (m .0) (m .1) xs f i q)
 
--- ---- 4. With the synthetic ones last, every real oneof has an index below the number of real ones, empty ones counted, and every
+-- ---- 4. As many of the oneofs are real as the list has 2s.
+pub opened-reals : (ws : List ℕ) → count isReal (opened ws) ≡ realCount ws
+opened-reals = opens.opened-reals
+
+-- With the synthetic ones last, every real oneof has an index below the number of real ones, empty ones counted, and every
 -- synthetic one has that index or a higher one,
 pub real-low : (ws : List ℕ) (x : Oneof) → Among x (opened ws) → kindOf x ≡ real → indexOf syntheticLast (realCount ws) x < realCount ws
 real-low = order.real-low

@@ -12,7 +12,9 @@ use Rattle.reply.specs.Reply.{doneWith}
 use Rattle.reply.specs.Outcome.{Outcome, refused, refuse, nothing, give, within, answerOf}
 use Rattle.emit.proofs.WriteLaws.{give-inv}
 use Rattle.oneofs.specs.Fields.{Oneof, Group, groups, realCount, syntheticLast, wordOf, numbered, lowerFieldsBy}
-use Rattle.oneofs.specs.Fields.{Alike, both-refused, both-absent, as-many}
+use Rattle.oneofs.specs.Fields.{Alike, both-refused, as-many}
+use Rattle.oneofs.proofs.GroupLaws.{numbered-given}
+use Rattle.oneofs.proofs.FieldLaws.{groups-present}
 use Rattle.oneofs.proofs.OpenedLaws.{group-opened}
 use Rattle.oneofs.proofs.OrderLaws.{index-unique}
 
@@ -24,10 +26,10 @@ unfolding lowerFieldsBy
 fields-known numbering ws h = simp (lowerFieldsBy, le-ltb syntheticLast numbering h)
 
 module _ (a b : ℕ) where
-  numbered-alike : (reals : ℕ) (o : Outcome Group) → Alike (numbered a reals o) (numbered b reals o)
-  numbered-alike reals (refused c) = both-refused
-  numbered-alike reals nothing = both-absent
-  numbered-alike reals (give gs) = as-many (length-map gs (wordOf a reals) ∙ sym (length-map gs (wordOf b reals)))
+  numbered-alike : (reals : ℕ) (o : Outcome Group) → (o ≡ nothing → ⊥) → Alike (numbered a reals o) (numbered b reals o)
+  numbered-alike reals (refused c) h = both-refused
+  numbered-alike reals nothing h = absurd (h refl)
+  numbered-alike reals (give gs) h = as-many (length-map gs (wordOf a reals) ∙ sym (length-map gs (wordOf b reals)))
 
   alike-if : (t : Bool) {o p q : Outcome ℕ} → Alike o o → Alike p q
       → Alike (elim t [ true ↦ o | false ↦ p ]) (elim t [ true ↦ o | false ↦ q ])
@@ -37,7 +39,7 @@ module _ (a b : ℕ) where
   pub fields-alike : (ws : List ℕ) → a ≤ syntheticLast → b ≤ syntheticLast → Alike (lowerFieldsBy a ws) (lowerFieldsBy b ws)
   fields-alike ws h h′ =
       rw (fields-known a ws h, fields-known b ws h′)
-      (alike-if (ltb mostWords (length ws)) both-refused (numbered-alike (realCount ws) (groups ws)))
+      (alike-if (ltb mostWords (length ws)) both-refused (numbered-alike (realCount ws) (groups ws) (groups-present ws)))
 
 given-alike : (t : Bool) (xs ys : List ℕ) → length xs ≡ length ys
     → answerOf {A = ℕ} (elim t [ true ↦ refuse NoRoom | false ↦ give xs ])
@@ -47,18 +49,11 @@ given-alike false xs ys e = ap doneWith e
 
 pub answers-alike : (o q : Outcome ℕ) (room : ℕ) → Alike o q → answerOf (within room o) ≡ answerOf (within room q)
 answers-alike o q room both-refused = refl
-answers-alike o q room both-absent = refl
 answers-alike o q room (as-many {xs} {ys} e) =
     given-alike (ltb room (length xs)) xs ys e
     ∙ ap (λ n. answerOf {A = ℕ} (elim (ltb room n) [ true ↦ refuse NoRoom | false ↦ give ys ])) e
 
 -- ---- what the words are made of
-numbered-given : (numbering reals : ℕ) (xs : List ℕ) (o : Outcome Group) → numbered numbering reals o ≡ give xs
-    → (gs : List Group) × (o ≡ give gs) × (xs ≡ map (wordOf numbering reals) gs)
-numbered-given numbering reals xs (refused c) e = never cc
-numbered-given numbering reals xs nothing e = never cc
-numbered-given numbering reals xs (give gs) e = (gs, refl, sym (give-inv e))
-
 module _ (numbering : ℕ) (ws xs : List ℕ) (e : lowerFieldsBy numbering ws ≡ give xs) where
   taken : numbered numbering (realCount ws) (groups ws) ≡ give xs
   unfolding lowerFieldsBy

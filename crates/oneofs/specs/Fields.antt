@@ -6,13 +6,14 @@
 --                                  gives, 0 where no oneof is open
 --               lowerFields ws ==  what lowering fields comes to
 --
---                        Oneof ==  a oneof, known by its kind and by how many of each kind are opened before it
+--                  Kind, Oneof ==  a oneof, known by its kind and by how many of each kind are opened before it
+--           kindOf x, isReal x ==  its kind, and whether that is real
 --                        Group ==  what a field belongs to: a oneof, or none
 --          joining member rest ==  a member's group in front of the rest, or a refusal where no oneof is open
 --    groupsAfter r s member ws ==  the groups of the fields ws, or a refusal, after r real and s synthetic oneofs
 --                    groups ws ==  the groups of the fields ws, or a refusal
 --                    opened ws ==  all oneofs of ws in order of declaration, those without a member too
---                 realCount ws ==  how many of them are real
+--                 realCount ws ==  how many 2s ws has
 --
 --      declared, syntheticLast ==  the two numberings
 --    indexOf numbering reals x ==  the index of the oneof x where there are so many real ones
@@ -22,7 +23,7 @@
 --                    Alike o q <-> o and q are one refusal, or give as many words
 --
 -- Assumes nothing.
-use Rattle.basis.specs.Kit.{_≡_, true, false, List, [], _∷_, map, Option, none, some, ℕ, suc, _+_, eqb, ltb, length}
+use Rattle.basis.specs.Kit.{_≡_, Bool, true, false, List, [], _∷_, map, Option, none, some, ℕ, suc, _+_, eqb, ltb, length}
 use Rattle.basis.specs.Count.{count}
 use Rattle.limits.specs.Figures.{mostWords}
 use Rattle.reply.specs.declared.Cause.{Cause}
@@ -65,6 +66,9 @@ pub data Oneof : Type 0 where
 
 abbrev pub kindOf : Oneof → Kind
 kindOf (oneof kind reals synthetics) = kind
+
+abbrev pub isReal : Oneof → Bool
+isReal x = elim (kindOf x) [ real ↦ true | synthetic ↦ false ]
 
 abbrev pub Group : Type 0
 Group = Option Oneof
@@ -145,5 +149,4 @@ lowerFieldsBy numbering ws =
 -- ---- two numberings beside each other [LOWER-11]
 pub data Alike : Outcome ℕ → Outcome ℕ → Type 0 where
   both-refused : {c : Cause} → Alike (refused c) (refused c)
-  both-absent : Alike nothing nothing
   as-many : {xs ys : List ℕ} → length xs ≡ length ys → Alike (give xs) (give ys)
