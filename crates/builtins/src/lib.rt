@@ -1,4 +1,6 @@
 // Builtins: a single direct part, on a field of the options message.
+#![tactic(auto)]
+
 ghost use Rattle.basis.specs.Kit.{◌≡◌, [], ◌∷◌, some, ◌+◌, ◌^◌, ◌≤◌, ◌<◌, length};
 ghost use Rattle.octets.specs.inner.Laid.{Laid};
 ghost use Rattle.limits.specs.Figures.{most_constants};

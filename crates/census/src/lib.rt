@@ -1,5 +1,7 @@
 // How many declarations of a sheet bear a full name, all or those of one kind, and how many numbers that it declares for the message of a
 // full name, by fields and by extensions of it, are like one. One way goes through the sheet for both; siblings are a loop.
+#![tactic(auto)]
+
 ghost use Rattle.basis.specs.Kit.{◌≡◌, ◌+◌, ◌-◌, ◌≤◌};
 ghost use Rattle.field.specs.Leaf.{Lies, on_leaf, span, text as text_of};
 ghost use Rattle.field.specs.Walk.{walk};

@@ -6,7 +6,7 @@ ghost use Rattle.console.specs.Input.{Fills};
 
 use crate::output::{hex_byte, number, text};
 use field::Leaf;
-use hex::digits::{Decoded, decode};
+use hexadecimal::digits::{Decoded, decode};
 use inputs::due::{Due, due_at, due_leaf};
 
 // A program's input has at most so many bytes: a sheet and a request, each a field of 65,535 bytes with its header of 3.

@@ -4,7 +4,7 @@ ghost use Rattle.std.specs.Prelude.{nat_abs};
 
 use field::part::span_in;
 use field::{Leaf, Span};
-use hex::digits::glyph;
+use hexadecimal::digits::glyph;
 use inputs::words::least;
 use reply::{Answer, NOWHERE};
 

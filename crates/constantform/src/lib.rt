@@ -1,4 +1,6 @@
 // Constants. Only nested constants recurse: the elements of a list and the pairs of a message are loops.
+#![tactic(auto)]
+
 pub mod leaves;
 
 ghost use Rattle.basis.specs.Kit.{◌≡◌, ◌≤◌, length};

@@ -1,5 +1,7 @@
 // The scopes at a path, one after the other: fewest package components first, then file order. A path is the text of its names, and
 // a place in it where a name starts; past the end there are no names left.
+#![tactic(auto)]
+
 ghost use Rattle.basis.specs.Kit.{◌≡◌, suc, ◌≤◌, length};
 ghost use Rattle.field.specs.Leaf.{on_leaf};
 ghost use Rattle.path.specs.inner.Places.{names_from};

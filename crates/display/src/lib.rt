@@ -1,6 +1,8 @@
 // Records of option bytes as lines: the words of each; and, for people, the name, number and type that the sheet declares each by, with its
 // value. What is printed is tested, not proved: contracts say what a function needs to be safe and to end. The form of the sheet was tested
 // before.
+#![tactic(auto)]
+
 mod enums;
 mod first;
 mod name;

@@ -1,5 +1,7 @@
 // One record of option bytes, read under a message of the sheet: what declares its number, its payload and its value; a known message's own
 // place in the sheet.
+#![tactic(auto)]
+
 ghost use Rattle.basis.specs.Kit.{◌≡◌, true, ◌≤◌, length};
 ghost use Rattle.limits.specs.Figures.{most_option_bytes};
 ghost use Rattle.octets.specs.Octets.{part};

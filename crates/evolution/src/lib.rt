@@ -1,4 +1,6 @@
 // Whether a sheet is clean, and whether one is contained in another: yes or no, and the first reason why not.
+#![tactic(auto)]
+
 mod first;
 mod flaws;
 mod losses;

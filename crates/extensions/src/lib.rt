@@ -1,5 +1,7 @@
 // The search of 01 in code, as protobuf-parse's option_resolver has it: the first candidate, the first scope, the first of that name; only then
 // is its extendee compared. Everything is a walk over the lent sheet, and code equals definition on every sheet, well-formed or not.
+#![tactic(auto)]
+
 ghost use Rattle.basis.specs.Kit.{◌≡◌, true, ◌≤◌, length};
 ghost use Rattle.limits.specs.Figures.{most_candidate};
 ghost use Rattle.path.specs.Path.{components, is_rel_or_empty, is_path};

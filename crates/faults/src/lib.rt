@@ -1,5 +1,7 @@
 // The fault of an option: the position of a part of its name, and why. What the writer of a constant answers becomes the answer of the step on
 // the last part, and the fault of an option the cause of the request's refusal.
+#![tactic(auto)]
+
 ghost use Rattle.basis.specs.Kit.{◌≡◌, ◌≤◌};
 ghost use Rattle.limits.specs.Figures.{most_options};
 ghost use Rattle.faults.specs.Faults.{cause_at};

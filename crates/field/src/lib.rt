@@ -1,4 +1,6 @@
 // The fields of a sheet or a request: a tag (1 byte), a length (2 bytes, the higher first), a payload.
+#![tactic(auto)]
+
 pub mod part;
 
 ghost use Rattle.basis.specs.Kit.{◌≡◌, ◌≤◌, length};

@@ -1,4 +1,6 @@
 // The public search: of a sheet, a scope and a path, the extension that the path finds there.
+#![tactic(auto)]
+
 ghost use Rattle.basis.specs.Kit.{◌≡◌, ◌-◌};
 ghost use Rattle.reply.specs.Outcome.{Answered, give};
 ghost use Rattle.field.specs.Part.{PartOf};

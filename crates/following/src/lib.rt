@@ -1,4 +1,6 @@
 // Rows followed by the parts of a name: what a row does to the row that was found last.
+#![tactic(auto)]
+
 ghost use Rattle.basis.specs.Kit.{◌≡◌, ◌*◌, ◌≤◌, length};
 ghost use Rattle.following.specs.inner.Keys.{key_words};
 ghost use Rattle.following.specs.inner.Following.{is_at, step_of};

@@ -1,5 +1,7 @@
 // Messages and enums by full name: there has to be exactly one; and the first value of a name in an enum, where names are compared before
 // the rest is read. Everything is a walk over the lent sheet, and code equals definition on every sheet, well-formed or not.
+#![tactic(auto)]
+
 ghost use Rattle.basis.specs.Kit.{◌≡◌, [], ◌∷◌, ◌≤◌, length};
 ghost use Rattle.basis.specs.First.{collect};
 ghost use Rattle.field.specs.Leaf.{Lies};

@@ -1,5 +1,7 @@
 // The verdict on a request, before there is any room: how many bytes it comes to, Absent, or why it is refused and where. And what is answered
 // of a verdict in a room, so that NoRoom comes only when all else has passed.
+#![tactic(auto)]
+
 ghost use Rattle.basis.specs.Kit.{◌≡◌};
 ghost use Rattle.judged.specs.inner.Answering.{answer_in};
 

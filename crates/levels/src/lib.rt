@@ -1,5 +1,7 @@
 // The levels of option bytes that are open, as a stack in lent memory, and the one function that moves it: it reads the record at a place
 // and answers it as a row, with where to go on. Whoever reads option bytes goes through it; nothing recurses over bytes.
+#![tactic(auto)]
+
 ghost use Rattle.basis.specs.Kit.{◌≡◌, suc, ◌+◌, ◌*◌, ◌≤◌, ◌<◌, length, sets};
 ghost use Rattle.limits.specs.Figures.{most_option_bytes, most_levels};
 ghost use Rattle.field.specs.Leaf.{Lies};

@@ -1,4 +1,6 @@
 // Whether a declaration of a sheet is like another one, and for the message asked for.
+#![tactic(auto)]
+
 ghost use Rattle.basis.specs.Kit.{◌≡◌, ◌&&◌, ◌≤◌, eqb};
 ghost use Rattle.octets.specs.Octets.{same_bytes};
 ghost use Rattle.field.specs.Leaf.{Lies, text};

@@ -1,5 +1,7 @@
 // The call `list`: the records of option bytes under a sheet, eight words a record. They are counted first, which finds the first fault,
 // and then written over the lent memory, so that a refusal writes nothing and NoRoom comes last.
+#![tactic(auto)]
+
 ghost use Rattle.basis.specs.Kit.{◌≡◌, ◌*◌, ◌≤◌, length};
 ghost use Rattle.limits.specs.Figures.{most_option_bytes, most_levels};
 ghost use Rattle.reply.specs.Outcome.{Answered};

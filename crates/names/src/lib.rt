@@ -1,5 +1,7 @@
 // Every message, enum and extension of a sheet with its full name, and what makes a sheet clean and contained, as definitions; and whether
 // a full name leads another one.
+#![tactic(auto)]
+
 ghost use Rattle.basis.specs.Kit.{◌≡◌, ◌≤◌, length};
 ghost use Rattle.names.specs.inner.Leads.{leads_at};
 

@@ -1,4 +1,6 @@
 // The parts of a name as declarations, no option byte being read: of each its place in the sheet, and whether its records are joined.
+#![tactic(auto)]
+
 ghost use Rattle.basis.specs.Kit.{◌≡◌, ◌+◌, ◌*◌, ◌≤◌, [], ◌∷◌, length, sets};
 ghost use Rattle.basis.specs.First.{only_if};
 ghost use Rattle.field.specs.Leaf.{Lies};

@@ -1,4 +1,6 @@
 // The declaration of a number at a message: the message's fields first, then the sheet's extensions of it in the order of the bytes.
+#![tactic(auto)]
+
 ghost use Rattle.basis.specs.Kit.{◌≡◌, ◌≤◌, length};
 ghost use Rattle.field.specs.Leaf.{Lies};
 ghost use Rattle.field.specs.Walk.{walk};

@@ -1,5 +1,7 @@
 // 01's lowering of fields: the oneof that each belongs to, in one of two numberings of the oneofs. The words are written once over nothing,
 // which finds a wrong word and the length, and then over the lent memory, so that a refusal writes nothing and NoRoom comes last.
+#![tactic(auto)]
+
 ghost use Rattle.basis.specs.Kit.{◌≡◌, ◌≤◌, length};
 ghost use Rattle.limits.specs.Figures.{most_words};
 ghost use Rattle.reply.specs.Outcome.{Answered};

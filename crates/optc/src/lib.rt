@@ -1,6 +1,8 @@
 // The C boundary: each public call under the name `opt_` and its own, for C, which passes a slice as a pointer and how many elements there
 // are. include/opt.h declares these functions a second time, by hand. Each has the contract of the call that it hands on, word for word, and
 // asks nothing: NULL with a count of 0 is a slice of none.
+#![tactic(auto)]
+
 ghost use Rattle.basis.specs.Kit.{◌≡◌};
 ghost use Rattle.reply.specs.Outcome.{Answered};
 ghost use Rattle.reply.specs.Verdicts.{answer_for};

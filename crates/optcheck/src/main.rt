@@ -1,5 +1,7 @@
 // Checks the form of sheets and requests. Input: 40 a sheet, or 40 a sheet and 41 a request; several of these one after the other are
 // several cases, each answered in its turn. On 0 it says what it read.
+#![tactic(auto)]
+
 ghost use Rattle.basis.specs.Kit.{◌≤◌, length};
 
 use console::input::{Input, MOST_BYTES};

@@ -3,6 +3,8 @@
 // answered in its turn. On 0 it prints whether each sheet is clean and whether the older is contained in the newer, with the first reason
 // against it; then, of a request, what `optlower` prints, what `optlist` prints of these bytes under the older sheet, and the records of
 // both sheets side by side.
+#![tactic(auto)]
+
 mod compared;
 mod lowered;
 

@@ -1,5 +1,7 @@
 // Finds extensions. Input: 40 a sheet, 42 a scope, 43 a path; several of these one after the other are several cases, each answered in its
 // turn. On 0 it says which extension the path finds.
+#![tactic(auto)]
+
 ghost use Rattle.basis.specs.Kit.{◌≤◌, length};
 
 use console::input::{Input, MOST_BYTES, field_of};

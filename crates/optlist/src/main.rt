@@ -1,5 +1,7 @@
 // Lists option bytes. Input: 40 a sheet, 44 an options type, 45 option bytes; several of these one after the other are several cases, each
 // answered in its turn. On 0 it prints the eight words of each record, and then each record once more for people.
+#![tactic(auto)]
+
 ghost use Rattle.basis.specs.Kit.{◌≤◌, length};
 
 use console::input::{Input, MOST_BYTES, field_of};

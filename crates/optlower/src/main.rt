@@ -1,5 +1,7 @@
 // Resolves options. Input: 40 a sheet, 41 a request; several of these one after the other are several cases, each answered in its turn.
 // On 0 it prints the option bytes, or `absent`.
+#![tactic(auto)]
+
 ghost use Rattle.basis.specs.Kit.{◌≤◌, length};
 
 use console::input::{Input, MOST_BYTES, field_of};

@@ -1,5 +1,7 @@
 // Gives each field of a message the oneof it belongs to. Input: 47 the numbering (4 bytes), which may be left out and is then that in order
 // of declaration, 49 the words (4 bytes each); several of these one after the other are several cases, each answered in its turn.
+#![tactic(auto)]
+
 ghost use Rattle.basis.specs.Kit.{◌≤◌, length};
 
 use console::input::{Input, MOST_BYTES, field_of};

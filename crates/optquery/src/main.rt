@@ -1,5 +1,7 @@
 // Asks option bytes for the value of a name. Input: 40 a sheet, 44 an options type, 46 a name (fields 1A and 1B), 45 option bytes; several
 // of these one after the other are several cases, each answered in its turn. On 0 it prints the eight words of the record, or `absent`.
+#![tactic(auto)]
+
 ghost use Rattle.basis.specs.Kit.{◌≤◌, length};
 
 use console::input::{Input, MOST_BYTES, field_of};

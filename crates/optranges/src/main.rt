@@ -1,5 +1,7 @@
 // Lowers ranges. Input: 47 the kind (4 bytes), 48 the words, starts and ends in turn (4 bytes each); several of these one after the other
 // are several cases, each answered in its turn.
+#![tactic(auto)]
+
 ghost use Rattle.basis.specs.Kit.{◌≤◌, length};
 
 use console::input::{Input, MOST_BYTES, field_of};

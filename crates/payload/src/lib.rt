@@ -1,6 +1,8 @@
 // Option bytes as an input: whether they are too long, and the call `payload`, a part of them by its place and length with the answer
 // beside it. The two stand in a struct that holds a reference, so whoever keeps one is proved by hand; `payload_part` and `payload_answer`
 // say the same and ask for no such proof.
+#![tactic(auto)]
+
 ghost use Rattle.basis.specs.Kit.{◌≡◌};
 ghost use Rattle.field.specs.Part.{PartOf};
 ghost use Rattle.reply.specs.Verdicts.{Says};

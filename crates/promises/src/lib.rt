@@ -1,1 +1,2 @@
 // The promises of the resolver, as statements: proofs alone.
+#![tactic(auto)]

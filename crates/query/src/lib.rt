@@ -1,5 +1,7 @@
 // The value query: of a sheet, an options type, a name and option bytes, the record that the name leads to. The name becomes a list of
 // declarations first, no option byte being read; then the rows are followed by them in one pass.
+#![tactic(auto)]
+
 ghost use Rattle.basis.specs.Kit.{◌≡◌, ◌*◌, ◌≤◌, length};
 ghost use Rattle.limits.specs.Figures.{most_option_bytes, most_levels, most_parts};
 ghost use Rattle.reply.specs.Outcome.{Answered, give};

@@ -1,6 +1,8 @@
 // 01's lowering of ranges: of extensions, of reserved numbers of a message, of reserved numbers of an enum. The ranges are written once
 // over nothing, which finds an end without a successor and the length, and then over the lent memory, so that a refusal writes nothing and
 // NoRoom comes last.
+#![tactic(auto)]
+
 ghost use Rattle.basis.specs.Kit.{◌≡◌, [], ◌∷◌, ◌%◌, ◌^◌, ◌<◌, length, sets};
 ghost use Rattle.reply.specs.Outcome.{Answered};
 ghost use Rattle.ranges.specs.Ranges.{end_of, pairs, lower_ranges};

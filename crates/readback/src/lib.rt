@@ -1,1 +1,2 @@
 // What the reading of option bytes promises, as statements: proofs alone.
+#![tactic(auto)]

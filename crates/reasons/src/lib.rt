@@ -1,4 +1,6 @@
 // Why a sheet is not clean, or not contained in another: the first reason, as a value; and the tests that look at one message or enum alone.
+#![tactic(auto)]
+
 pub mod members;
 
 ghost use Rattle.basis.specs.Kit.{◌≡◌};

@@ -1,4 +1,6 @@
 // One record, written: its tag, then a number, bytes, or the length of a message.
+#![tactic(auto)]
+
 ghost use Rattle.basis.specs.Kit.{◌≡◌, ◌++◌, ◌+◌, ◌^◌, ◌≤◌, ◌<◌, length};
 ghost use Rattle.octets.specs.inner.Laid.{Laid};
 ghost use Rattle.octets.specs.inner.Moved.{Moved};

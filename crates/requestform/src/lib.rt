@@ -1,5 +1,7 @@
 // The form of a request, and of a path or a name that a call is given alone: every byte string is fine, or has a first fault from the
 // front.
+#![tactic(auto)]
+
 ghost use Rattle.basis.specs.Kit.{◌≡◌, ◌≤◌, length};
 ghost use Rattle.reply.specs.Verdicts.{Says};
 ghost use Rattle.requestform.specs.Form.{judge_options, judge_request, judge_scope, judge_options_type, judge_path, judge_name};

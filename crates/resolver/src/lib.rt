@@ -1,6 +1,8 @@
 // The calls of the resolver: `resolve`, the bytes of the options of a request under a sheet, and `verdict`, what `resolve` would answer with
 // room enough. What there is to write is measured first, which finds every refusal and the length; the lent memory is not lent to that. So a
 // refusal writes nothing, and NoRoom comes last.
+#![tactic(auto)]
+
 ghost use Rattle.basis.specs.Kit.{◌≡◌, ◌≤◌, length};
 ghost use Rattle.limits.specs.Figures.{most_options};
 ghost use Rattle.reply.specs.Outcome.{Answered};

@@ -1,5 +1,7 @@
 // The i-th of all messages, enums and extensions of a sheet, and its full name in lent room. Only nested messages recurse: siblings are a
 // loop.
+#![tactic(auto)]
+
 ghost use Rattle.basis.specs.Kit.{◌≤◌, ◌<◌, length, take};
 ghost use Rattle.field.specs.Leaf.{Lies, text};
 ghost use Rattle.field.specs.Walk.{walk};

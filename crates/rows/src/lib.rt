@@ -1,4 +1,6 @@
 // A row as words of lent memory.
+#![tactic(auto)]
+
 ghost use Rattle.basis.specs.Kit.{◌≡◌, ◌+◌, ◌^◌, ◌<◌, sets};
 ghost use Rattle.entries.specs.Tree.{words};
 

@@ -1,4 +1,6 @@
 // A scalar constant on a field: the bits or the bytes of one record, or why it doesn't fit.
+#![tactic(auto)]
+
 ghost use Rattle.basis.specs.Kit.{◌≡◌};
 ghost use Rattle.field.specs.Leaf.{Lies};
 ghost use Rattle.lookups.specs.Lookups.{walking};

@@ -1,5 +1,7 @@
 // What a part of an option's name comes to in the message reached, and what it leads to: the constant behind it, or more parts inside a
 // message. Innermost path first, found first and tested second; nobody above makes a refusal of a "none".
+#![tactic(auto)]
+
 ghost use Rattle.basis.specs.Kit.{◌≡◌, true, ◌≤◌, length};
 ghost use Rattle.path.specs.Path.{is_rel_or_empty};
 ghost use Rattle.field.specs.Leaf.{text, Lies};

@@ -1,4 +1,6 @@
 // The types of descriptor.proto and their wire types.
+#![tactic(auto)]
+
 ghost use Rattle.basis.specs.Kit.{◌≡◌};
 ghost use Rattle.types.specs.Types.{wire_of};
 

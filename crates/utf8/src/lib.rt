@@ -1,4 +1,6 @@
 // The strict test for UTF-8.
+#![tactic(auto)]
+
 ghost use Rattle.basis.specs.Kit.{◌≡◌, ◌≤◌, ◌<◌, length, get_or, drop};
 ghost use Rattle.utf8.specs.Utf8.{is_utf8, lead_of};
 

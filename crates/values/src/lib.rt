@@ -1,4 +1,6 @@
 // Constants on fields, written: value, list and message writers call each other, the bytes of constant left falling at each call.
+#![tactic(auto)]
+
 ghost use Rattle.basis.specs.Kit.{◌≡◌, ◌+◌, ◌-◌, ◌^◌, ◌≤◌, ◌<◌, length};
 ghost use Rattle.field.specs.Leaf.{Lies};
 ghost use Rattle.scope.specs.inner.Answers.{InSheet};

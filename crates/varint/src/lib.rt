@@ -1,4 +1,6 @@
 // Varints: their length, writing and reading.
+#![tactic(auto)]
+
 ghost use Rattle.basis.specs.Kit.{◌≡◌, ◌^◌, ◌≤◌, ◌<◌, length};
 ghost use Rattle.limits.specs.Figures.{most_varint};
 ghost use Rattle.octets.specs.inner.Laid.{Laid};

@@ -1,6 +1,8 @@
 // Runs worked examples of outside documents through the library and compares: a line for each, then how many held.
 // Input: a field 60 for each example, in which 61 is what is run (4 bytes), 62 its label, 63 to 65 what is given and 66 what is wanted.
 // compare/vectors.py writes it and has each example with its source.
+#![tactic(auto)]
+
 mod case;
 mod encoding;
 mod names;

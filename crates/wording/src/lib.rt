@@ -1,4 +1,6 @@
 // Whether a sheet is clean, or contained in another, as a line, with the first reason against it in words.
+#![tactic(auto)]
+
 pub mod words;
 
 ghost use Rattle.basis.specs.Kit.{◌≤◌, length};

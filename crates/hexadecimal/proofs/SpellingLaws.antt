@@ -9,8 +9,8 @@ use lib.ListN.{drop_of_length-le}
 use lib.Seq.{drop-cons}
 use Rattle.octets.specs.inner.Laid.{Laid}
 use Rattle.octets.proofs.Overlay.{laid-append, laid-length}
-use Rattle.hex.specs.declared.digits.Decoded.TheVariants.{Bytes, NoDigit, HalfByte}
-use Rattle.hex.specs.Digits.{blank, other, digit_of, Spelled, bytes, no_digit, half_byte, front, unhex, decoded_of, Decodes}
+use Rattle.hexadecimal.specs.declared.digits.Decoded.TheVariants.{Bytes, NoDigit, HalfByte}
+use Rattle.hexadecimal.specs.Digits.{blank, other, digit_of, Spelled, bytes, no_digit, half_byte, front, unhex, decoded_of, Decodes}
 
 -- ---- several bytes in front of what a text spells
 abbrev pub fronts : List ℕ → Spelled → Spelled

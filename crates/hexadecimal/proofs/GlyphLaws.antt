@@ -4,8 +4,8 @@ use Rattle.basis.specs.Kit.{◌≡◌, sym, ap, ◌∙◌, true, false, ◌&&◌
 use Rattle.basis.proofs.Kit.{arith, lt-ltb, le-ltb}
 use native.Mathlib.Decide.{dec_lt}
 use borrow.Author.Tests.{le-leb, lt-leb}
-use Rattle.hex.specs.Digits.{digit_of, glyph_of}
-use Rattle.hex.proofs.DigitLaws.{digit-figure, digit-upper}
+use Rattle.hexadecimal.specs.Digits.{digit_of, glyph_of}
+use Rattle.hexadecimal.proofs.DigitLaws.{digit-figure, digit-upper}
 
 module _ (d : ℕ) where
   pub glyph-figure : d < 10 → 48 + d ≡ glyph_of d

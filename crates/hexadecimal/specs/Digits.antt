@@ -11,8 +11,8 @@
 --
 -- Assumes nothing.
 use Rattle.basis.specs.Kit.{◌≡◌, true, false, ◌&&◌, ◌||◌, List, [], ◌∷◌, ℕ, suc, ◌+◌, ◌-◌, ◌*◌, eqb, ltb, leb, length, sets}
-use Rattle.hex.specs.declared.digits.Decoded.{Decoded}
-use Rattle.hex.specs.declared.digits.Decoded.TheVariants.{Bytes, NoDigit, HalfByte}
+use Rattle.hexadecimal.specs.declared.digits.Decoded.{Decoded}
+use Rattle.hexadecimal.specs.declared.digits.Decoded.TheVariants.{Bytes, NoDigit, HalfByte}
 
 abbrev pub blank : ℕ
 blank = 16

@@ -3,7 +3,7 @@
 -- Assumes nothing.
 use Rattle.basis.specs.Kit.{◌≡◌, refl, List, [], ◌∷◌, map, ℕ}
 use Rattle.octets.specs.Ascii.{ascii}
-use Rattle.hex.specs.Digits.{blank, other, digit_of, Spelled, bytes, no_digit, half_byte, unhex}
+use Rattle.hexadecimal.specs.Digits.{blank, other, digit_of, Spelled, bytes, no_digit, half_byte, unhex}
 
 -- ---- a byte: before the range, its first, its last, after it
 figures : map digit_of (ascii "/09:") ≡ other ∷ 0 ∷ 9 ∷ other ∷ []

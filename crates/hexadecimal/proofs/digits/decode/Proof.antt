@@ -2,9 +2,9 @@
 -- Assumes nothing.
 use Rattle.basis.specs.Kit.{◌-◌, length}
 use Rattle.basis.proofs.Kit.{needs}
-use Rattle.hex.proofs.SpellingLaws.{Spelling, spelling-laws}
-use Rattle.hex.proofs.digits.decode.Statement.{statement}
-use Rattle.hex.proofs.digits.decode.Tie as tie
+use Rattle.hexadecimal.proofs.SpellingLaws.{Spelling, spelling-laws}
+use Rattle.hexadecimal.proofs.digits.decode.Statement.{statement}
+use Rattle.hexadecimal.proofs.digits.decode.Tie as tie
 
 abbrev invariant-loop : tie.invariant-loop
 invariant-loop text out₀ half₀ n₀ i₀ out half n i = Spelling text out₀ out half n i

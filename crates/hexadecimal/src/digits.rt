@@ -1,6 +1,6 @@
 // Hexadecimal text, two digits a byte, either case; blanks and line ends are passed over.
 ghost use Rattle.basis.specs.Kit.{◌≡◌, ◌≤◌, ◌<◌};
-ghost use Rattle.hex.specs.Digits.{other, digit_of, glyph_of, Decodes};
+ghost use Rattle.hexadecimal.specs.Digits.{other, digit_of, glyph_of, Decodes};
 
 // What a text comes to.
 #[derive(Drop)]

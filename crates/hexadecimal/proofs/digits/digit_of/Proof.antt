@@ -1,9 +1,9 @@
 -- `hex::digits::digit_of` meets its contract.
 -- Assumes nothing.
 use Rattle.basis.proofs.Kit.{needs}
-use Rattle.hex.proofs.DigitLaws.{digit-laws}
-use Rattle.hex.proofs.digits.digit_of.Statement.{statement}
-use Rattle.hex.proofs.digits.digit_of.Tie as tie
+use Rattle.hexadecimal.proofs.DigitLaws.{digit-laws}
+use Rattle.hexadecimal.proofs.digits.digit_of.Statement.{statement}
+use Rattle.hexadecimal.proofs.digits.digit_of.Tie as tie
 
 pub digit-of-spec : {M : Type 1} → statement M
 digit-of-spec = tie.close (tie.spec

@@ -5,7 +5,7 @@ use Rattle.basis.proofs.Kit.{arith}
 use denote.Floats.{passes}
 use lib.Dec.{T, leb→le}
 use mir.Facts.{and_yes}
-use Rattle.hex.specs.Digits.{blank, other, digit_of}
+use Rattle.hexadecimal.specs.Digits.{blank, other, digit_of}
 
 -- ---- a byte within a range
 pub record Within (lo hi c : ℕ) : Type 0 where

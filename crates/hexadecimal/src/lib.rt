@@ -1,2 +1,4 @@
 // What a program is given, before a word of it is printed: hexadecimal text.
+#![tactic(auto)]
+
 pub mod digits;

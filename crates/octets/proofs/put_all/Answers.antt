@@ -1,0 +1,21 @@
+-- `octets::put_all` meets its contract, by its loop's invariant and laws.
+-- Assumes nothing.
+use Rattle.basis.specs.Kit.{◌-◌}
+use Rattle.basis.proofs.Kit.{rules}
+use Rattle.octets.proofs.Halfway.{Laying, laying-laws}
+use Rattle.octets.proofs.put_all.Goals as goal
+
+pub loop-i-init : goal.loop-i-init
+loop-i-init c = search laying-laws
+
+pub bounds-out-at : goal.bounds-out-at
+bounds-out-at c = search laying-laws
+
+pub loop-i-preserved : goal.loop-i-preserved
+loop-i-preserved c = search laying-laws
+
+pub shape_of-out : goal.shape_of-out
+shape_of-out c = search laying-laws
+
+pub returns : goal.returns
+returns c = search laying-laws

@@ -1,0 +1,12 @@
+-- `octets::put_all` meets its contract, by its loop's invariant and laws.
+-- Assumes nothing.
+use Rattle.basis.specs.Kit.{◌-◌}
+use Rattle.basis.proofs.Kit.{rules}
+use Rattle.octets.proofs.Halfway.{Laying, laying-laws}
+use Rattle.octets.proofs.put_all.Given as goal
+
+abbrev pub invariant-loop-i : goal.invariant-loop-i
+invariant-loop-i l = Laying l.initial.out l.at l.src l.out l.n l.i
+
+abbrev pub decreases-loop-i : goal.decreases-loop-i
+decreases-loop-i l = l.n - l.i
