@@ -24,7 +24,7 @@ use sheet::declaration::{Declaration, Declared, Shape};
 use types::{TYPE_BOOL, TYPE_ENUM, TYPE_STRING};
 
 // What a builtin comes to: nothing is asked of it, it sets its field, or why not.
-#[derive(Drop)]
+#[derive(Clone, Copy)]
 pub enum Built {
     Skipped,
     Sets(Shape, Body),

@@ -25,7 +25,7 @@ pub const ANY_KIND: u8 = 0;
 
 // What is asked at a full name: how many declarations of a kind bear it, or how many numbers that are declared for the message that bears
 // it are like one.
-#[derive(Drop)]
+#[derive(Clone, Copy)]
 enum Asked {
     Bearers(u8),
     Numbers(Like),

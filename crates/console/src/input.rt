@@ -15,7 +15,7 @@ pub const MOST_BYTES: usize = 131_076;
 // The text that is read, one byte more than is taken. The digits of MOST_BYTES bytes are 262,152; the rest is for blanks.
 const MOST_TEXT: usize = 524_288;
 
-#[derive(Drop)]
+#[derive(Clone, Copy)]
 pub enum Input {
     // So many bytes of the buffer.
     Bytes(usize),

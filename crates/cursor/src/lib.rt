@@ -18,7 +18,7 @@ use scope::lookup::{LookupScope, Reached, down};
 use sheet::table;
 
 // How far a walk through the scopes at a path has come.
-#[derive(Drop)]
+#[derive(Clone, Copy)]
 pub struct Cursor {
     // The packages tried now are the names before this place; the names from here on are followed as messages.
     pub next: usize,
@@ -28,7 +28,7 @@ pub struct Cursor {
 }
 
 // What the next step of such a walk comes to.
-#[derive(Drop)]
+#[derive(Clone, Copy)]
 pub enum Next {
     At { scope: LookupScope, rest: Cursor },
     NoMore,

@@ -9,7 +9,7 @@ ghost use Rattle.reply.specs.Outcome.{give, Answered};
 use reply::{Answer, Cause, Refusal};
 
 // What a writer comes to: the place after its elements, or why it is refused.
-#[derive(Drop)]
+#[derive(Clone, Copy)]
 pub enum Put {
     Wrote(usize),
     Refused(Cause),

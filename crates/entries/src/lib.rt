@@ -26,7 +26,7 @@ use varint::{Read, varint_at};
 use wire::tag::{number_of, tag_good, wire_type_of};
 
 // A record: its number, its type (0 where unknown), its wire type, place and size of its payload, its value, and what declares its number.
-#[derive(Drop)]
+#[derive(Clone, Copy)]
 pub struct Entry {
     pub number: u32,
     pub typ: u8,
@@ -38,7 +38,7 @@ pub struct Entry {
 }
 
 // A record with its level, 0 the outermost.
-#[derive(Drop)]
+#[derive(Clone, Copy)]
 pub struct Row {
     pub level: u32,
     pub entry: Entry,
@@ -46,7 +46,7 @@ pub struct Row {
 
 // The record at a place: one that holds nothing and where the next begins; a known message with its path and its place in the sheet, whose
 // inside is its payload; or why there is none.
-#[derive(Drop)]
+#[derive(Clone, Copy)]
 pub enum Front {
     Leaf {
         entry: Entry,

@@ -17,7 +17,7 @@ use sheet::declaration::{Declaration, Declared};
 use sheet::table;
 
 // What is asked of a sheet: whether it is clean, or whether a newer one contains it.
-#[derive(Drop)]
+#[derive(Clone, Copy)]
 pub enum Question {
     Clean,
     Contained,

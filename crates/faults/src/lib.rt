@@ -11,14 +11,14 @@ use records::Wrote;
 use reply::{Cause, Refusal, Where};
 
 // Why an option is refused, and at which part of its name, counted from 0.
-#[derive(Drop)]
+#[derive(Clone, Copy)]
 pub struct Fault {
     pub part: u32,
     pub why: Refusal,
 }
 
 // What the step over name parts answers: the place after what it wrote, or the fault.
-#[derive(Drop)]
+#[derive(Clone, Copy)]
 pub enum Stepped {
     Next(usize),
     Refused(Fault),

@@ -8,7 +8,7 @@ ghost use Rattle.field.specs.Field.{field_at};
 ghost use Rattle.field.specs.Leaf.{leaf_at, any_bytes, of_size};
 
 // What stands at a place.
-#[derive(Drop)]
+#[derive(Clone, Copy)]
 pub enum Field {
     // A whole field: its payload is from..to, and the next field starts at `to`.
     Whole { tag: u8, from: usize, to: usize },
@@ -17,14 +17,14 @@ pub enum Field {
 }
 
 // A part of the bytes: those from a place up to another.
-#[derive(Drop)]
+#[derive(Clone, Copy)]
 pub struct Span {
     pub from: usize,
     pub to: usize,
 }
 
 // What is wanted at a place: a whole field of one tag whose payload passes a test.
-#[derive(Drop)]
+#[derive(Clone, Copy)]
 pub enum Leaf {
     // The payload is from..to, and the next field starts at `to`.
     At { from: usize, to: usize },

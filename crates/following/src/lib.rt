@@ -9,14 +9,14 @@ use entries::Row;
 use sheet::declaration::Declared;
 
 // The row that was found last, if any.
-#[derive(Drop)]
+#[derive(Clone, Copy)]
 pub enum Best {
     Found(Row),
     NoneYet,
 }
 
 // After a row: how far the open messages are the name's parts, whether the row that was taken last counts, and whether this one is taken.
-#[derive(Drop)]
+#[derive(Clone, Copy)]
 pub struct Step {
     pub matched: usize,
     pub counts: bool,

@@ -24,14 +24,14 @@ use sheet::declaration::Valued;
 use sheet::table;
 
 // What looking up a message comes to.
-#[derive(Drop)]
+#[derive(Clone, Copy)]
 pub enum LookedUp {
     Message(LookupScope),
     NoMessage(Refusal),
 }
 
 // What looking up an enum comes to: where its values stand.
-#[derive(Drop)]
+#[derive(Clone, Copy)]
 pub enum LookedUpEnum {
     Values(Span),
     NoEnum(Refusal),

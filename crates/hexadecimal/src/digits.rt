@@ -3,7 +3,7 @@ ghost use Rattle.basis.specs.Kit.{◌≡◌, ◌≤◌, ◌<◌};
 ghost use Rattle.hexadecimal.specs.Digits.{other, digit_of, glyph_of, Decodes};
 
 // What a text comes to.
-#[derive(Drop)]
+#[derive(Clone, Copy)]
 pub enum Decoded {
     // So many bytes.
     Bytes(usize),

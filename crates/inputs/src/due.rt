@@ -5,7 +5,7 @@ ghost use Rattle.inputs.specs.inner.Due.{due_at, due_leaf};
 use field::{Field, Leaf};
 
 // What stands where a field of one tag is due.
-#[derive(Drop)]
+#[derive(Clone, Copy)]
 pub enum Due {
     // That field: its payload is from..to, and the next field starts at `to`.
     Here { from: usize, to: usize },

@@ -8,7 +8,7 @@ ghost use Rattle.judged.specs.inner.Answering.{answer_in};
 use reply::{Answer, Cause, Refusal};
 
 // The verdict: so many bytes, Absent, or why the request is refused, and where.
-#[derive(Drop)]
+#[derive(Clone, Copy)]
 pub enum Judged {
     Fine(u32),
     Absent,

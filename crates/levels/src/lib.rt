@@ -21,7 +21,7 @@ use scope::lookup::LookupScope;
 
 // A level that is open: where the bytes of its message end, the message's path in the sheet, and its place there. The outermost has no
 // path: its name is the options type.
-#[derive(Drop)]
+#[derive(Clone, Copy)]
 pub struct Level {
     pub end: usize,
     pub name: Span,
@@ -35,14 +35,14 @@ const LEVEL_WORDS: usize = 8;
 pub const STACK_WORDS: usize = MOST_LEVELS * LEVEL_WORDS;
 
 // Where reading goes on: at a place, with so many levels open.
-#[derive(Drop)]
+#[derive(Clone, Copy)]
 pub struct Cursor {
     pub at: usize,
     pub depth: usize,
 }
 
 // What reading on comes to: a record, and where to go on; that there is none left; or the first fault.
-#[derive(Drop)]
+#[derive(Clone, Copy)]
 pub enum Event {
     Record { row: Row, rest: Cursor },
     End,

@@ -14,7 +14,7 @@ use sheet::declaration::{Declaration, Declared, extension_at, message_field_at};
 
 // A declaration of another sheet, or of the same, and whether one that is like it has to have its type, name and type path besides its
 // number.
-#[derive(Drop)]
+#[derive(Clone, Copy)]
 pub struct Like {
     pub declaration: Declaration,
     pub whole: bool,
@@ -22,7 +22,7 @@ pub struct Like {
 
 // How a scope stands to a message, by their full names: it is that message; that may stand in it, its full name going on at a place; or
 // neither.
-#[derive(Drop)]
+#[derive(Clone, Copy)]
 pub enum Way {
     Own,
     Within(usize),

@@ -21,7 +21,7 @@ use sheet::declaration::Declaration;
 use steps::{Reach, Step, behind, step_of, why_of};
 
 // What a name comes to: so many parts, whose keys were noted; that parts are left on a group; or why not, and at which part.
-#[derive(Drop)]
+#[derive(Clone, Copy)]
 pub enum Naming {
     Parts(usize),
     Group,

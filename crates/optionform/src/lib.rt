@@ -14,7 +14,7 @@ use request::name::{Parted, part_at};
 use request::table;
 
 // What the parts that stand from a place on come to.
-#[derive(Drop)]
+#[derive(Clone, Copy)]
 pub enum Parts {
     // They are fine and end here.
     After(usize),

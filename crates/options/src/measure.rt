@@ -19,7 +19,7 @@ use reply::{Cause, Verdict, bare};
 use request::heading::{Headed, heading_of};
 
 // What the options start with, if there are any and the options type is found.
-#[derive(Drop)]
+#[derive(Clone, Copy)]
 pub enum Opening {
     At(Start),
     Absent,
@@ -27,7 +27,7 @@ pub enum Opening {
 }
 
 // What there is to write: how many options there are, and how many bytes they come to.
-#[derive(Drop)]
+#[derive(Clone, Copy)]
 pub struct Measured {
     pub start: Start,
     pub count: usize,
@@ -35,7 +35,7 @@ pub struct Measured {
 }
 
 // The verdict, with what was measured.
-#[derive(Drop)]
+#[derive(Clone, Copy)]
 pub enum Measure {
     Fine(Measured),
     Absent,

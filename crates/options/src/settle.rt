@@ -25,7 +25,7 @@ use scope::lookup::LookupScope;
 
 // What the options of a request start with: the scope and the path of the options type, where the options stand in the request, and where
 // the options message stands in the sheet.
-#[derive(Drop)]
+#[derive(Clone, Copy)]
 pub struct Start {
     pub scope: Span,
     pub options_type: Span,
@@ -35,7 +35,7 @@ pub struct Start {
 
 // What an option comes to: the note of the builtin that it sets, its number and 1, or 0 where it sets none, and the place after what it wrote;
 // or why the request is refused, and where.
-#[derive(Drop)]
+#[derive(Clone, Copy)]
 pub enum Settling {
     Gives { note: usize, next: usize },
     Fails(Cause),

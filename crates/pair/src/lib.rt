@@ -9,7 +9,7 @@ use field::{Field, Span, field_at};
 use request::table;
 
 // A pair of a message constant: its name, by a field (27), an extension path (28) or a type URL (29), and the field of its constant.
-#[derive(Drop)]
+#[derive(Clone, Copy)]
 pub struct Pair {
     pub by: u8,
     pub name: Span,
@@ -18,7 +18,7 @@ pub struct Pair {
 }
 
 // What a reader of pairs answers.
-#[derive(Drop)]
+#[derive(Clone, Copy)]
 pub enum Paired {
     Pairs(Pair),
     NoPair,

@@ -20,7 +20,7 @@ pub fn check_bytes(bytes: &[u8]) -> Verdict
 }
 
 // A part of lent bytes with the answer beside it.
-#[derive(Drop)]
+#[derive(Clone, Copy)]
 pub struct AnsweredPart<'b> {
     pub answer: Answer,
     pub part: &'b [u8],
@@ -65,7 +65,7 @@ pub fn payload_answer(bytes: &[u8], place: usize, length: usize) -> Answer
 pub fn payload<'b>(bytes: &'b [u8], place: usize, length: usize) -> AnsweredPart<'b>
     ensures { (result.answer ≡ payload_answer bytes.now place length)
         × PartOf (payload_span bytes.now place length)
-        bytes.now bytes.entry.ref_ptr.0 bytes.entry.ref_ptr.1 result.part.now result.part.ptr.0 result.part.ptr.1 }
+        bytes.now bytes.entry.ref_ptr.0 bytes.entry.ref_ptr.1 result.part.now result.part.ref_ptr.0 result.part.ref_ptr.1 }
 {
     AnsweredPart {
         answer: payload_answer(bytes, place, length),

@@ -36,7 +36,7 @@ use scope::lookup::LookupScope;
 const KEY_WORDS: usize = MOST_PARTS * 2;
 
 // What following all rows comes to: the best one, or the first fault and where it is.
-#[derive(Drop)]
+#[derive(Clone, Copy)]
 pub enum Seen {
     All(Best),
     Refused(Cause),

@@ -31,7 +31,7 @@ abbrev pub word : ℤ → ℤ
 word z = to_z w32 (of_z w32 z)
 
 word_back : (z : ℤ) → mag z < 2147483648 → word z ≡ z
-word_back z h = to_z-of_z (record { sfits = h })
+word_back z h = to_z-of_z {w = w32} (record { sfits = h })
 
 pub range-put : (l m l' : List ℤ) (at : ℕ) (s e : ℤ) → SFits w32 s → SFits w32 e
     → m ≡ sets l at (word s ∷ []) → l' ≡ sets m (at + 1) (word e ∷ []) → l' ≡ sets l at (s ∷ e ∷ [])

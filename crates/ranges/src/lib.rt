@@ -13,7 +13,7 @@ use limits::MOST_WORDS;
 use reply::{Answer, Refusal};
 
 // What an end becomes.
-#[derive(Drop)]
+#[derive(Clone, Copy)]
 pub enum End {
     At(i32),
     NoNext,

@@ -9,7 +9,7 @@ ghost use Rattle.reasons.specs.Reasons.{holds as holds_of, or_no};
 use field::Span;
 
 // What is amiss with a message, an enum or an extension, or with one of its fields or values.
-#[derive(Drop)]
+#[derive(Clone, Copy)]
 pub enum Why {
     // Its full name is borne by another one.
     NameShared,
@@ -30,7 +30,7 @@ pub enum Why {
 }
 
 // Yes; or no, and the first reason: what is amiss, with the i-th of all declarations of the sheet, and where it says so, in a name or a path.
-#[derive(Drop)]
+#[derive(Clone, Copy)]
 pub enum Reason {
     Yes,
     No { why: Why, index: usize, about: Span },

@@ -15,14 +15,14 @@ use types::{I32, I64, LEN, TYPE_SINT32, TYPE_SINT64, wire_of};
 use varint::{put_varint, varint_len};
 
 // What a record holds that is no message: the 64 bits of a number, or bytes of the request.
-#[derive(Drop)]
+#[derive(Clone, Copy)]
 pub enum Body {
     Bits(u64),
     Bytes(Span),
 }
 
 // What a writer of constants answers: the place after what it wrote, or why there is nothing to write.
-#[derive(Drop)]
+#[derive(Clone, Copy)]
 pub enum Wrote {
     Next(usize),
     Refused(Refusal),

@@ -11,7 +11,7 @@ ghost use Rattle.reply.specs.Verdicts.{judged, answer_for};
 use octets::wide;
 
 // Why a call is refused, by the names of 01 and of protobuf-parse's OptionResolverError, with 01's number times 100 and the second word.
-#[derive(Drop)]
+#[derive(Clone, Copy)]
 pub enum Refusal {
     BadSheet = 1_00,
     BadRequest = 2_00,
@@ -37,7 +37,7 @@ pub enum Refusal {
 
 // Where a call is refused: nowhere that has a position; at a part of a name that is no option's; at an option, and a part of its name. All
 // are counted from 0.
-#[derive(Drop)]
+#[derive(Clone, Copy)]
 pub enum Where {
     Nowhere,
     Part(u32),
@@ -45,7 +45,7 @@ pub enum Where {
 }
 
 // Why a call is refused, and where.
-#[derive(Drop)]
+#[derive(Clone, Copy)]
 pub struct Cause {
     pub why: Refusal,
     pub place: Where,
@@ -55,14 +55,14 @@ pub struct Cause {
 pub const NOWHERE: u32 = 65_535;
 
 // The two numbers of a place.
-#[derive(Drop)]
+#[derive(Clone, Copy)]
 pub struct Positions {
     pub option: u32,
     pub part: u32,
 }
 
 // What a test of form says of its bytes.
-#[derive(Drop)]
+#[derive(Clone, Copy)]
 pub enum Verdict {
     Fine,
     Refused(Refusal),
@@ -71,7 +71,7 @@ pub enum Verdict {
 // What every public call returns: the reply's number, its second word, 1 for Absent, how much was written to the lent memory, and where it
 // was refused, the positions of an option and of a part of its name. C has the same record (include/opt.h).
 #[repr(C)]
-#[derive(Drop)]
+#[derive(Clone, Copy)]
 pub struct Answer {
     pub reply: u32,
     pub second: u32,
@@ -212,7 +212,7 @@ pub fn answer_for(length: u32, verdict: Verdict) -> Answer
 const MOST_NAME: usize = 40;
 
 // A name: the first `length` of the bytes. No contract says what the others are.
-#[derive(Drop)]
+#[derive(Clone, Copy)]
 pub struct Name {
     pub bytes: [u8; MOST_NAME],
     pub length: usize,

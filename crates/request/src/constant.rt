@@ -6,7 +6,7 @@ use crate::table;
 use field::Span;
 
 // A constant. 21 and 22 are both integers, a sign and a size. A NaN stands apart from the floats, since an f64 does not keep its bits.
-#[derive(Drop)]
+#[derive(Clone, Copy)]
 pub enum Constant {
     Bool(bool),
     Integer { minus: bool, size: u64 },
@@ -19,7 +19,7 @@ pub enum Constant {
 }
 
 // What a reader of constants answers.
-#[derive(Drop)]
+#[derive(Clone, Copy)]
 pub enum Held {
     Holds(Constant),
     NoConstant,

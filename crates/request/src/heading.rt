@@ -9,7 +9,7 @@ use crate::table;
 use field::{Leaf, Span, leaf_at};
 
 // What stands before the options, and where these start.
-#[derive(Drop)]
+#[derive(Clone, Copy)]
 pub struct Heading {
     pub scope: Span,
     // The path of the options type.
@@ -18,7 +18,7 @@ pub struct Heading {
 }
 
 // What the reader of headings answers.
-#[derive(Drop)]
+#[derive(Clone, Copy)]
 pub enum Headed {
     Heads(Heading),
     NoHeading,

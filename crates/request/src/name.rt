@@ -6,14 +6,14 @@ use crate::table;
 use field::{Field, Span, field_at};
 
 // One part: a field of the message that is reached, or an extension of it.
-#[derive(Drop)]
+#[derive(Clone, Copy)]
 pub struct Part {
     pub extension: bool,
     pub name: Span,
 }
 
 // What a reader of parts answers.
-#[derive(Drop)]
+#[derive(Clone, Copy)]
 pub enum Parted {
     Is(Part),
     NoPart,

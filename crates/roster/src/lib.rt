@@ -18,7 +18,7 @@ use sheet::declaration::{Declaration, Declared, extension_at};
 use sheet::table;
 
 // What bears a full name: a message, by what stands after its name; an enum, likewise; or an extension.
-#[derive(Drop)]
+#[derive(Clone, Copy)]
 pub enum Bearer {
     Message(Span),
     Enum(Span),
@@ -26,7 +26,7 @@ pub enum Bearer {
 }
 
 // The i-th of a list: what it is, and how long its full name is; or how much further it stands than the list is long.
-#[derive(Drop)]
+#[derive(Clone, Copy)]
 pub enum Nth {
     Is { bearer: Bearer, size: usize },
     Beyond(usize),

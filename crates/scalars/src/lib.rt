@@ -21,7 +21,7 @@ use types::{
 };
 
 // What a scalar constant comes to on a type.
-#[derive(Drop)]
+#[derive(Clone, Copy)]
 pub enum Scalar {
     Fits(Body),
     Misfit(Refusal),

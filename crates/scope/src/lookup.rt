@@ -12,7 +12,7 @@ use field::{Field, Leaf, Span};
 use sheet::table;
 
 // A file or a message of the sheet, protobuf-parse's LookupScope2.
-#[derive(Drop)]
+#[derive(Clone, Copy)]
 pub struct LookupScope {
     // The index of its file.
     pub file: usize,
@@ -24,7 +24,7 @@ pub struct LookupScope {
 }
 
 // What going down to a message comes to.
-#[derive(Drop)]
+#[derive(Clone, Copy)]
 pub enum Reached {
     To(LookupScope),
     Nowhere,

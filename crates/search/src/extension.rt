@@ -3,28 +3,28 @@ use reply::Refusal;
 use sheet::declaration::Declaration;
 
 // An extension that was found, and the index of its file.
-#[derive(Drop)]
+#[derive(Clone, Copy)]
 pub struct Found {
     pub file: usize,
     pub declaration: Declaration,
 }
 
 // What a look-up comes to.
-#[derive(Drop)]
+#[derive(Clone, Copy)]
 pub enum Resolved {
     Field(Found),
     Refused(Refusal),
 }
 
 // The candidate that answers: its position among the candidates, counted from 0, and what is found there.
-#[derive(Drop)]
+#[derive(Clone, Copy)]
 pub struct Candidate {
     pub position: usize,
     pub found: Found,
 }
 
 // What trying the candidates comes to.
-#[derive(Drop)]
+#[derive(Clone, Copy)]
 pub enum Tried {
     Answers(Candidate),
     Refused(Refusal),
@@ -32,7 +32,7 @@ pub enum Tried {
 
 // What the search for an extension of a message comes to: the candidate that answers; the one that answers where it extends another
 // message, with which the search ends; or why none answers.
-#[derive(Drop)]
+#[derive(Clone, Copy)]
 pub enum Compared {
     Extends(Candidate),
     ExtendsOther(Candidate),

@@ -7,7 +7,7 @@ use field::{Leaf, Span, leaf_at, sized_at};
 use types::{TYPE_ENUM, TYPE_GROUP, TYPE_MESSAGE};
 
 // What an extension and a field have after their names.
-#[derive(Drop)]
+#[derive(Clone, Copy)]
 pub struct Shape {
     pub number: u32,
     pub typ: u8,
@@ -17,14 +17,14 @@ pub struct Shape {
 }
 
 // What a reader of shapes answers.
-#[derive(Drop)]
+#[derive(Clone, Copy)]
 pub enum Shaped {
     Shapes(Shape),
     NoShape,
 }
 
 // An extension or a field.
-#[derive(Drop)]
+#[derive(Clone, Copy)]
 pub struct Declaration {
     pub name: Span,
     // 0 and 0 for a field.
@@ -33,21 +33,21 @@ pub struct Declaration {
 }
 
 // What a reader of extensions or fields answers.
-#[derive(Drop)]
+#[derive(Clone, Copy)]
 pub enum Declared {
     Declares(Declaration),
     NoDeclaration,
 }
 
 // A value of an enum; of its signed number the 32 bits.
-#[derive(Drop)]
+#[derive(Clone, Copy)]
 pub struct Value {
     pub name: Span,
     pub number: u32,
 }
 
 // What a reader of enum values answers.
-#[derive(Drop)]
+#[derive(Clone, Copy)]
 pub enum Valued {
     Values(Value),
     NoValue,

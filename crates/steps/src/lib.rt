@@ -22,7 +22,7 @@ use types::{TYPE_GROUP, TYPE_MESSAGE};
 
 // Why a name part comes to nothing, with the fact behind it: no field of that name in the message reached; the search's own refusal; the
 // candidate that answers, whose extension extends another message.
-#[derive(Drop)]
+#[derive(Clone, Copy)]
 pub enum Lack {
     NoField,
     NoExtension(Refusal),
@@ -30,7 +30,7 @@ pub enum Lack {
 }
 
 // What a name part comes to.
-#[derive(Drop)]
+#[derive(Clone, Copy)]
 pub enum Step {
     Found(Declaration),
     NotFound(Lack),
@@ -38,7 +38,7 @@ pub enum Step {
 
 // What a part leads to: the constant behind it, on a field of that shape; more parts, inside the message of that path and place, in a record
 // of that number; nothing, where there is no part, or parts are left on a group; or a fault. `from` is where the part ends.
-#[derive(Drop)]
+#[derive(Clone, Copy)]
 pub enum Reach {
     Constant {
         shape: Shape,

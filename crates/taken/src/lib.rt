@@ -10,7 +10,7 @@ use reply::Refusal;
 use types::wire_of;
 
 // Place and size of the payload, the value, and where the next record begins; or why there is no such record.
-#[derive(Drop)]
+#[derive(Clone, Copy)]
 pub enum Taken {
     Record {
         place: u32,

@@ -25,7 +25,7 @@ use sheet::declaration::{Declared, Shape};
 use types::TYPE_MESSAGE;
 
 // What a constant is.
-#[derive(Drop)]
+#[derive(Clone, Copy)]
 pub enum Kind {
     Scalar,
     List,
@@ -172,7 +172,7 @@ fn put_pairs(
 }
 
 // What a pair's constant is written on.
-#[derive(Drop)]
+#[derive(Clone, Copy)]
 pub enum Target {
     On(Shape),
     Passed,

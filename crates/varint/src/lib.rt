@@ -9,7 +9,7 @@ ghost use Rattle.varint.specs.Varint.{varint as varint_of, varint_at};
 use limits::MOST_VARINT;
 
 // What reading a varint gives.
-#[derive(Drop)]
+#[derive(Clone, Copy)]
 pub enum Read {
     // Its value, and the place after its last byte.
     Varint { value: u64, next: usize },

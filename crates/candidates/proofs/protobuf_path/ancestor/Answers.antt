@@ -1,0 +1,18 @@
+-- `candidates::protobuf_path::ancestor` meets its contract.
+-- Assumes nothing.
+use Rattle.basis.specs.Kit.{◌-◌}
+use Rattle.basis.proofs.Kit.{rules}
+use Rattle.candidates.proofs.CandidateLaws.{Climbed, climbed-laws}
+use Rattle.candidates.proofs.protobuf_path.ancestor.Goals as goal
+
+pub loop-k-init : goal.loop-k-init
+loop-k-init c = search climbed-laws
+
+pub loop-k-preserved : goal.loop-k-preserved
+loop-k-preserved c = search climbed-laws
+
+pub slice_bounds-result-end : goal.slice_bounds-result-end
+slice_bounds-result-end c = search climbed-laws
+
+pub returns : goal.returns
+returns c = search climbed-laws

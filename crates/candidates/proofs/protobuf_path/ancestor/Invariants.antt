@@ -1,0 +1,12 @@
+-- `candidates::protobuf_path::ancestor` meets its contract.
+-- Assumes nothing.
+use Rattle.basis.specs.Kit.{◌-◌}
+use Rattle.basis.proofs.Kit.{rules}
+use Rattle.candidates.proofs.CandidateLaws.{Climbed, climbed-laws}
+use Rattle.candidates.proofs.protobuf_path.ancestor.Given as goal
+
+abbrev pub invariant-loop-k : goal.invariant-loop-k
+invariant-loop-k l = Climbed l.s l.i l.end l.k
+
+abbrev pub decreases-loop-k : goal.decreases-loop-k
+decreases-loop-k l = l.i - l.k

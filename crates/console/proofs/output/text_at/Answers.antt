@@ -1,0 +1,13 @@
+-- `console::output::text_at` meets its contract.
+-- Assumes nothing.
+use Rattle.field.proofs.PartLaws.{span-ordered, span-within}
+use Rattle.console.proofs.output.text_at.Goals as goal
+
+pub slice_bounds-text-count : goal.slice_bounds-text-count
+slice_bounds-text-count c = search span-ordered
+
+pub slice_bounds-text-start : goal.slice_bounds-text-start
+slice_bounds-text-start c = search span-ordered
+
+pub slice_bounds-text-end : goal.slice_bounds-text-end
+slice_bounds-text-end c = search span-within

@@ -1,0 +1,30 @@
+-- `counts::declarations::count` meets its contract.
+-- Assumes nothing.
+use Rattle.basis.specs.Kit.{◌-◌}
+use Rattle.sheet.specs.Tree.{tree_of}
+use Rattle.counts.specs.Declarations.{files_hold}
+use Rattle.counts.specs.inner.Fields.{file_count}
+use Rattle.field.proofs.Tally.{Tally, total}
+use Rattle.counts.proofs.DeclarationLaws.{files-count-laws}
+use Rattle.counts.proofs.declarations.count.Goals as goal
+
+pub loop-at-init : goal.loop-at-init
+loop-at-init c = search files-count-laws
+
+pub returns-in_default : goal.returns-in_default
+returns-in_default c = search files-count-laws
+
+pub count_file-n-requires : goal.count_file-n-requires
+count_file-n-requires c = search files-count-laws
+
+pub overflow_add-n : goal.overflow_add-n
+overflow_add-n c = search files-count-laws
+
+pub loop-at-smaller : goal.loop-at-smaller
+loop-at-smaller c = search files-count-laws
+
+pub loop-at-preserved : goal.loop-at-preserved
+loop-at-preserved c = search files-count-laws
+
+pub returns : goal.returns
+returns c = search files-count-laws

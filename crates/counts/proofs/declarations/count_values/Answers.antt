@@ -1,0 +1,28 @@
+-- `counts::declarations::count_values` meets its contract.
+-- Assumes nothing.
+use Rattle.basis.specs.Kit.{◌-◌, length}
+use Rattle.basis.proofs.Kit.{rules}
+use Rattle.field.specs.Walk.{walk}
+use Rattle.sheet.specs.Tree.{values_in}
+use Rattle.field.proofs.Tally.{Tally, total}
+use Rattle.counts.specs.inner.Fields.{value_count}
+use Rattle.counts.proofs.DeclarationLaws.{values-count-laws}
+use Rattle.counts.proofs.declarations.count_values.Goals as goal
+
+pub loop-at-init : goal.loop-at-init
+loop-at-init c = search values-count-laws
+
+pub returns-in_default : goal.returns-in_default
+returns-in_default c = search values-count-laws
+
+pub count_value-n-requires : goal.count_value-n-requires
+count_value-n-requires c = search values-count-laws
+
+pub loop-at-smaller : goal.loop-at-smaller
+loop-at-smaller c = search values-count-laws
+
+pub loop-at-preserved : goal.loop-at-preserved
+loop-at-preserved c = search values-count-laws
+
+pub returns : goal.returns
+returns c = search values-count-laws

@@ -1,0 +1,11 @@
+-- `declform::good_type_path` meets its contract.
+-- Assumes nothing.
+use Rattle.basis.proofs.Kit.{rules}
+use Rattle.declform.proofs.DeclarationLaws.{type-path-laws}
+use Rattle.declform.proofs.good_type_path.Goals as goal
+
+pub returns-then-not-has_type_path : goal.returns-then-not-has_type_path
+returns-then-not-has_type_path c = search type-path-laws
+
+pub returns : goal.returns
+returns c = search type-path-laws

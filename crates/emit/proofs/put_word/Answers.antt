@@ -1,0 +1,8 @@
+-- `emit::put_word` meets its contract.
+-- Assumes nothing.
+use Rattle.basis.proofs.Kit.{rules}
+use Rattle.octets.proofs.Overlay.{put-out}
+use Rattle.emit.proofs.put_word.Goals as goal
+
+pub returns-else-at-out : goal.returns-else-at-out
+returns-else-at-out c = search put-out

@@ -1,0 +1,11 @@
+-- `hex::digits::glyph` meets its contract.
+-- Assumes nothing.
+use Rattle.basis.proofs.Kit.{rules}
+use Rattle.hexadecimal.proofs.GlyphLaws.{glyph-laws}
+use Rattle.hexadecimal.proofs.digits.glyph.Goals as goal
+
+pub returns-then-d-lt10 : goal.returns-then-d-lt10
+returns-then-d-lt10 c = search glyph-laws
+
+pub returns-else-d-lt10 : goal.returns-else-d-lt10
+returns-else-d-lt10 c = search glyph-laws

@@ -1,0 +1,15 @@
+-- `ident::protobuf_ident::all_word` meets its contract.
+-- Assumes nothing.
+use Rattle.basis.specs.Kit.{◌-◌, length}
+use Rattle.basis.proofs.Kit.{rules}
+use Rattle.ident.proofs.IdentLaws.{Words, words-laws}
+use Rattle.ident.proofs.protobuf_ident.all_word.Goals as goal
+
+pub returns-then-not-is_word : goal.returns-then-not-is_word
+returns-then-not-is_word c = search words-laws
+
+pub loop-i-preserved : goal.loop-i-preserved
+loop-i-preserved c = search words-laws
+
+pub returns : goal.returns
+returns c = search words-laws

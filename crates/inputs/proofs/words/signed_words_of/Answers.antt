@@ -1,0 +1,19 @@
+-- `inputs::words::signed_words_of` meets its contract, by its loop's invariant and laws.
+-- Assumes nothing.
+use Rattle.basis.specs.Kit.{ℕ, ◌-◌, ◌*◌, length}
+use Rattle.basis.proofs.Kit.{rules}
+use lib.IntN.{pos}
+use mir.Syntax.{w32}
+use mir.Val.{to_z}
+use Rattle.octets.specs.Octets.{big_at}
+use Rattle.inputs.proofs.WordLaws.{Filling, filling-laws}
+use Rattle.inputs.proofs.words.signed_words_of.Goals as goal
+
+pub loop-i-init : goal.loop-i-init
+loop-i-init c = search filling-laws
+
+pub loop-i-preserved : goal.loop-i-preserved
+loop-i-preserved c = search filling-laws
+
+pub returns : goal.returns
+returns c = search filling-laws

@@ -1,0 +1,17 @@
+-- `path::protobuf_abs_path::without_root` meets its contract.
+-- Assumes nothing.
+use Rattle.basis.proofs.Kit.{rules}
+use Rattle.path.proofs.AbsLaws.{abs-laws}
+use Rattle.path.proofs.protobuf_abs_path.without_root.Goals as goal
+
+pub slice_bounds-result-count : goal.slice_bounds-result-count
+slice_bounds-result-count c = search abs-laws
+
+pub slice_bounds-result-start : goal.slice_bounds-result-start
+slice_bounds-result-start c = search abs-laws
+
+pub returns-then-is_abs : goal.returns-then-is_abs
+returns-then-is_abs c = search abs-laws
+
+pub returns : goal.returns
+returns c = search abs-laws

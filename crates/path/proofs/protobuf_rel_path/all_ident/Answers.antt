@@ -1,0 +1,18 @@
+-- `path::protobuf_rel_path::all_ident` meets its contract.
+-- Assumes nothing.
+use Rattle.basis.specs.Kit.{◌-◌, length}
+use Rattle.basis.proofs.Kit.{rules}
+use Rattle.path.proofs.Scans.{Checked, checked-laws}
+use Rattle.path.proofs.protobuf_rel_path.all_ident.Goals as goal
+
+pub slice_bounds-is_ident-end : goal.slice_bounds-is_ident-end
+slice_bounds-is_ident-end c = search checked-laws
+
+pub returns-then-not-is_ident : goal.returns-then-not-is_ident
+returns-then-not-is_ident c = search checked-laws
+
+pub returns-then-s-end : goal.returns-then-s-end
+returns-then-s-end c = search checked-laws
+
+pub loop-from-preserved : goal.loop-from-preserved
+loop-from-preserved c = search checked-laws

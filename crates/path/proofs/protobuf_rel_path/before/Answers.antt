@@ -1,0 +1,11 @@
+-- `path::protobuf_rel_path::before` meets its contract.
+-- Assumes nothing.
+use Rattle.basis.proofs.Kit.{rules}
+use Rattle.path.proofs.Scans.{before-laws}
+use Rattle.path.proofs.protobuf_rel_path.before.Goals as goal
+
+pub returns-then-at-eq0 : goal.returns-then-at-eq0
+returns-then-at-eq0 c = search before-laws
+
+pub slice_bounds-result-length : goal.slice_bounds-result-length
+slice_bounds-result-length c = search before-laws

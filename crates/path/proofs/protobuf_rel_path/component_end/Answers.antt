@@ -1,0 +1,15 @@
+-- `path::protobuf_rel_path::component_end` meets its contract.
+-- Assumes nothing.
+use Rattle.basis.specs.Kit.{◌-◌, length}
+use Rattle.basis.proofs.Kit.{rules}
+use Rattle.path.proofs.Scans.{Ending, ending-laws}
+use Rattle.path.proofs.protobuf_rel_path.component_end.Goals as goal
+
+pub returns-then-s-i-eq46 : goal.returns-then-s-i-eq46
+returns-then-s-i-eq46 c = search ending-laws
+
+pub loop-i-preserved : goal.loop-i-preserved
+loop-i-preserved c = search ending-laws
+
+pub returns : goal.returns
+returns c = search ending-laws

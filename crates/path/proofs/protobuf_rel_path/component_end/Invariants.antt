@@ -1,0 +1,12 @@
+-- `path::protobuf_rel_path::component_end` meets its contract.
+-- Assumes nothing.
+use Rattle.basis.specs.Kit.{◌-◌, length}
+use Rattle.basis.proofs.Kit.{rules}
+use Rattle.path.proofs.Scans.{Ending, ending-laws}
+use Rattle.path.proofs.protobuf_rel_path.component_end.Given as goal
+
+abbrev pub invariant-loop-i : goal.invariant-loop-i
+invariant-loop-i l = Ending l.s l.at l.i
+
+abbrev pub decreases-loop-i : goal.decreases-loop-i
+decreases-loop-i l = length l.s - l.i

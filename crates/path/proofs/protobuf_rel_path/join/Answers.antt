@@ -1,0 +1,12 @@
+-- `path::protobuf_rel_path::join` meets its contract.
+-- Assumes nothing.
+use Rattle.basis.proofs.Kit.{rules}
+use Rattle.path.proofs.JoinLaws.{join-laws}
+use Rattle.path.proofs.JoinLaws.{join-laws}
+use Rattle.path.proofs.protobuf_rel_path.join.Goals as goal
+
+pub returns-then-b-eq0 : goal.returns-then-b-eq0
+returns-then-b-eq0 c = search join-laws
+
+pub returns : goal.returns
+returns c = search join-laws

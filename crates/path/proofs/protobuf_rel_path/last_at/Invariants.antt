@@ -1,0 +1,11 @@
+-- `path::protobuf_rel_path::last_at` meets its contract.
+-- Assumes nothing.
+use Rattle.basis.proofs.Kit.{rules}
+use Rattle.path.proofs.Scans.{Tail, tail-laws}
+use Rattle.path.proofs.protobuf_rel_path.last_at.Given as goal
+
+abbrev pub invariant-loop-i : goal.invariant-loop-i
+invariant-loop-i l = Tail l.s l.i
+
+abbrev pub decreases-loop-i : goal.decreases-loop-i
+decreases-loop-i l = l.i

@@ -1,0 +1,8 @@
+-- `ranges::put` meets its contract.
+-- Assumes nothing.
+use Rattle.basis.proofs.Kit.{rules}
+use Rattle.octets.proofs.Overlay.{put-out}
+use Rattle.ranges.proofs.put.Goals as goal
+
+pub returns-else-at-out : goal.returns-else-at-out
+returns-else-at-out c = search put-out

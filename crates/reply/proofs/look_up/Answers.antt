@@ -1,0 +1,24 @@
+-- `reply::look_up` meets its contract, by its loop's invariant and laws.
+-- Assumes nothing.
+use Rattle.basis.specs.Kit.{◌-◌, length}
+use Rattle.basis.proofs.Kit.{rules}
+use Rattle.reply.proofs.Names.{Passed, look-up-laws}
+use Rattle.reply.proofs.look_up.Goals as goal
+
+pub loop-at-init : goal.loop-at-init
+loop-at-init c = search look-up-laws
+
+pub slice_bounds-spelled-end : goal.slice_bounds-spelled-end
+slice_bounds-spelled-end c = search look-up-laws
+
+pub spelled-requires : goal.spelled-requires
+spelled-requires c = search look-up-laws
+
+pub returns-then-wide-reply : goal.returns-then-wide-reply
+returns-then-wide-reply c = search look-up-laws
+
+pub loop-at-preserved : goal.loop-at-preserved
+loop-at-preserved c = search (look-up-laws, c.if-wide-reply.false)
+
+pub returns : goal.returns
+returns c = search look-up-laws

@@ -1,0 +1,12 @@
+-- `reply::look_up` meets its contract, by its loop's invariant and laws.
+-- Assumes nothing.
+use Rattle.basis.specs.Kit.{◌-◌, length}
+use Rattle.basis.proofs.Kit.{rules}
+use Rattle.reply.proofs.Names.{Passed, look-up-laws}
+use Rattle.reply.proofs.look_up.Given as goal
+
+abbrev pub invariant-loop-at : goal.invariant-loop-at
+invariant-loop-at l = Passed l.rows l.reply l.second l.at
+
+abbrev pub decreases-loop-at : goal.decreases-loop-at
+decreases-loop-at l = length l.rows - l.at

@@ -1,0 +1,12 @@
+-- `reply::spelled` meets its contract, by its loop's invariant and laws.
+-- Assumes nothing.
+use Rattle.basis.specs.Kit.{◌-◌, length}
+use Rattle.basis.proofs.Kit.{rules}
+use Rattle.reply.proofs.Names.{Spelling, spelling-laws}
+use Rattle.reply.proofs.spelled.Goals as goal
+
+pub loop-i-preserved : goal.loop-i-preserved
+loop-i-preserved c = search spelling-laws
+
+pub returns : goal.returns
+returns c = search (rules, spelling-laws)

@@ -1,0 +1,23 @@
+-- `request::heading::after_parts` meets its contract.
+-- Assumes nothing.
+use Rattle.basis.specs.Kit.{◌-◌}
+use Rattle.field.specs.Walk.{walk}
+use Rattle.field.proofs.Rest.{Rest}
+use Rattle.request.specs.Name.{after_parts}
+use Rattle.request.proofs.RequestLaws.{after-laws}
+use Rattle.request.proofs.heading.after_parts.Goals as goal
+
+pub loop-at-init : goal.loop-at-init
+loop-at-init c = search after-laws
+
+pub returns-in_default : goal.returns-in_default
+returns-in_default c = search after-laws
+
+pub loop-at-smaller : goal.loop-at-smaller
+loop-at-smaller c = search after-laws
+
+pub loop-at-preserved : goal.loop-at-preserved
+loop-at-preserved c = search after-laws
+
+pub returns : goal.returns
+returns c = search after-laws

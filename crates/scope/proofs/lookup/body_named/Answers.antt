@@ -1,0 +1,29 @@
+-- `scope::lookup::body_named` meets its contract.
+-- Assumes nothing.
+use Rattle.basis.specs.Kit.{◌-◌}
+use Rattle.field.specs.declared.Leaf.TheVariants.{Not}
+use Rattle.scope.specs.inner.Steps.{tells_leaf, first_of, body_at}
+use Rattle.field.proofs.Seek.{Seeking}
+use Rattle.scope.proofs.LookupLaws.{body-named-laws}
+use Rattle.scope.proofs.lookup.body_named.Goals as goal
+
+pub loop-at-init : goal.loop-at-init
+loop-at-init c = search body-named-laws
+
+pub returns-in_default : goal.returns-in_default
+returns-in_default c = search body-named-laws
+
+pub body_at-requires : goal.body_at-requires
+body_at-requires c = search body-named-laws
+
+pub returns-in-At : goal.returns-in-At
+returns-in-At c = search body-named-laws
+
+pub loop-at-smaller : goal.loop-at-smaller
+loop-at-smaller c = search body-named-laws
+
+pub loop-at-preserved : goal.loop-at-preserved
+loop-at-preserved c = search body-named-laws
+
+pub returns : goal.returns
+returns c = search body-named-laws

@@ -1,0 +1,18 @@
+-- `wire::fixed::put_little` meets its contract, by its loop's invariant and laws.
+-- Assumes nothing.
+use Rattle.basis.specs.Kit.{◌-◌}
+use Rattle.basis.proofs.Kit.{rules}
+use Rattle.wire.proofs.FixedLoops.{Filling, filling-laws}
+use Rattle.wire.proofs.fixed.put_little.Goals as goal
+
+pub loop-i-init : goal.loop-i-init
+loop-i-init c = search filling-laws
+
+pub loop-i-preserved : goal.loop-i-preserved
+loop-i-preserved c = search filling-laws
+
+pub shape_of-out : goal.shape_of-out
+shape_of-out c = search filling-laws
+
+pub returns : goal.returns
+returns c = search filling-laws

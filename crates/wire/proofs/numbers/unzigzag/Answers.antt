@@ -1,0 +1,11 @@
+-- `wire::numbers::unzigzag` meets its contract.
+-- Assumes nothing.
+use Rattle.basis.proofs.Kit.{rules}
+use Rattle.wire.proofs.NumberLaws.{number-laws}
+use Rattle.wire.proofs.numbers.unzigzag.Goals as goal
+
+pub returns-then-z-eq0 : goal.returns-then-z-eq0
+returns-then-z-eq0 c = search number-laws
+
+pub returns-else-z-eq0 : goal.returns-else-z-eq0
+returns-else-z-eq0 c = search number-laws

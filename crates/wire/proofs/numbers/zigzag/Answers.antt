@@ -1,0 +1,11 @@
+-- `wire::numbers::zigzag` meets its contract.
+-- Assumes nothing.
+use Rattle.basis.proofs.Kit.{rules}
+use Rattle.wire.proofs.NumberLaws.{number-laws}
+use Rattle.wire.proofs.numbers.zigzag.Goals as goal
+
+pub returns-then-u-lt9223372036854775808 : goal.returns-then-u-lt9223372036854775808
+returns-then-u-lt9223372036854775808 c = search number-laws
+
+pub returns-else-u-lt9223372036854775808 : goal.returns-else-u-lt9223372036854775808
+returns-else-u-lt9223372036854775808 c = search number-laws
