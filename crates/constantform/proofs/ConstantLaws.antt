@@ -84,6 +84,7 @@ unnamed-bad t bs h =
     pair-name-other t bs (no pair_field_tag refl) (no pair_extension_tag refl) (no pair_url_tag refl)
 
 pairless-malformed : (inner : ℕ → ℕ → ℕ → Verdict) (s : List ℕ) (w : Walk) → Pairless w → pairs_of inner s w ≡ bad_request
+pairless-malformed inner s done x' = elim x' [ ]
 pairless-malformed inner s cut broken = refl
 pairless-malformed inner s (step t a e done) alone = refl
 pairless-malformed inner s (step t a e cut) cut_short = refl

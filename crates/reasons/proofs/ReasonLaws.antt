@@ -11,11 +11,11 @@ use Rattle.reasons.specs.Reasons.{holds, also, or_no, reasons, reasons_from}
 
 -- ---- or_no
 module _ (b : Bool) (w : Why) (k : ℕ) (p : Span) where
-  pub or_yes : b ≡ true → Yes ≡ or_no b w k p
-  or_yes h = rw h refl
+  pub or-yes : b ≡ true → Yes ≡ or_no b w k p
+  or-yes h = rw h refl
 
-  pub or_no : b ≡ false → No w k p ≡ or_no b w k p
-  or_no h = rw h refl
+  pub or-no : b ≡ false → No w k p ≡ or_no b w k p
+  or-no h = rw h refl
 
   pub holds-or-no : holds (or_no b w k p) ≡ b
   holds-or-no = go b
@@ -24,7 +24,7 @@ module _ (b : Bool) (w : Why) (k : ℕ) (p : Span) where
       go true = refl
       go false = refl
 
-pub ruleset or-no-laws = (or_yes, or_no)
+pub ruleset or-no-laws = (or-yes, or-no)
 
 -- ---- the first of two
 pub also-no : (w : Why) (k : ℕ) (p : Span) (q : Reason) → also (No w k p) q ≡ No w k p

@@ -1,0 +1,29 @@
+-- `census::in_files` meets its contract, by its loop's invariant and laws.
+-- Assumes nothing.
+use Rattle.census.proofs.ItemLaws.{file_asked, in-files-laws}
+use Rattle.basis.specs.Kit.{◌-◌}
+use Rattle.field.proofs.Tally.{Tally, total}
+use Rattle.sheet.specs.Tree.{tree_of}
+use Rattle.census.specs.inner.Census.{files_asked}
+use Rattle.census.proofs.in_files.Goals as goal
+
+pub loop-p-init : goal.loop-p-init
+loop-p-init c = search in-files-laws
+
+pub returns-in_default : goal.returns-in_default
+returns-in_default c = search in-files-laws
+
+pub in_file-n-requires : goal.in_file-n-requires
+in_file-n-requires c = search in-files-laws
+
+pub overflow_add-n : goal.overflow_add-n
+overflow_add-n c = search in-files-laws
+
+pub loop-p-smaller : goal.loop-p-smaller
+loop-p-smaller c = search in-files-laws
+
+pub loop-p-preserved : goal.loop-p-preserved
+loop-p-preserved c = search in-files-laws
+
+pub returns : goal.returns
+returns c = search in-files-laws

@@ -1,0 +1,11 @@
+-- `constantform::leaves::is_bool` meets its contract.
+-- Assumes nothing.
+use Rattle.basis.proofs.Kit.{rules}
+use Rattle.constantform.proofs.LeafLaws.{bool-laws}
+use Rattle.constantform.proofs.leaves.is_bool.Goals as goal
+
+pub returns-then-bytes-ne1 : goal.returns-then-bytes-ne1
+returns-then-bytes-ne1 c = search bool-laws
+
+pub returns : goal.returns
+returns c = search bool-laws

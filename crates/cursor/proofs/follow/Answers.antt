@@ -1,0 +1,24 @@
+-- `cursor::follow` meets its contract.
+-- Assumes nothing.
+use Rattle.basis.specs.Kit.{suc, ◌-◌, length}
+use Rattle.basis.proofs.Kit.{rules}
+use Rattle.path.specs.inner.Places.{names_from}
+use Rattle.scope.specs.Scope.{holding}
+use Rattle.scopes.specs.Scopes.{follow}
+use Rattle.cursor.proofs.ScopesLaws.{Following, follow-laws}
+use Rattle.cursor.proofs.follow.Goals as goal
+
+pub slice_bounds-down-end : goal.slice_bounds-down-end
+slice_bounds-down-end c = search follow-laws
+
+pub returns-in_default : goal.returns-in_default
+returns-in_default c = search follow-laws
+
+pub overflow_add-at : goal.overflow_add-at
+overflow_add-at c = search follow-laws
+
+pub loop-at-preserved : goal.loop-at-preserved
+loop-at-preserved c = search follow-laws
+
+pub returns : goal.returns
+returns c = search follow-laws

@@ -1,0 +1,23 @@
+-- `messageform::check_item`, `messageform::check_items` and `messageform::check_message`, a cycle of calls, meet their contracts.
+-- Assumes nothing.
+use Rattle.basis.specs.Kit.{ℕ, ◌+◌, ◌-◌, ◌*◌, ◌<◌}
+use Rattle.basis.proofs.Kit.{rules}
+use Rattle.field.proofs.Rest.{Rest}
+use Rattle.messageform.specs.Form.{judge_items}
+use Rattle.messageform.proofs.MessageLaws.{item-laws, items, items-laws, message-laws}
+use Rattle.messageform.proofs.+check_item_check_items_check_message.Given as goal
+
+abbrev pub decreases-check_item : goal.decreases-check_item
+decreases-check_item l = 3 * l.left + 1
+
+abbrev pub decreases-check_items : goal.decreases-check_items
+decreases-check_items l = 3 * l.left + 2
+
+abbrev pub decreases-check_message : goal.decreases-check_message
+decreases-check_message l = 3 * l.left
+
+abbrev pub invariant-check_items-loop-at : goal.invariant-check_items-loop-at
+invariant-check_items-loop-at l = Rest (judge_items l.left l.fields l.s l.from l.to) (items l.left l.fields l.s) l.s l.to l.at
+
+abbrev pub decreases-check_items-loop-at : goal.decreases-check_items-loop-at
+decreases-check_items-loop-at l = l.to - l.at

@@ -1,0 +1,11 @@
+-- `optcheck::check_cases` meets its contract.
+-- Assumes nothing.
+use Rattle.basis.specs.Kit.{◌-◌, ◌≤◌, length}
+use Rattle.basis.proofs.Kit.{rules}
+use Rattle.optcheck.proofs.check_cases.Given as goal
+
+abbrev pub invariant-loop-at : goal.invariant-loop-at
+invariant-loop-at l = l.at ≤ length l.s
+
+abbrev pub decreases-loop-at : goal.decreases-loop-at
+decreases-loop-at l = length l.s - l.at

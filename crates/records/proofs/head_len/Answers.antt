@@ -1,0 +1,8 @@
+-- `records::head_len` meets its contract.
+-- Assumes nothing.
+use Rattle.basis.proofs.Kit.{rules}
+use Rattle.records.proofs.EnclosedLaws.{head-laws}
+use Rattle.records.proofs.head_len.Goals as goal
+
+pub returns : goal.returns
+returns c = search head-laws

@@ -1,0 +1,11 @@
+-- `records::put_number` meets its contract.
+-- Assumes nothing.
+use Rattle.records.proofs.RecordLaws.{tag-laws}
+use Rattle.basis.proofs.Kit.{rules}
+use Rattle.records.proofs.put_number.Goals as goal
+
+pub put_payload-requires : goal.put_payload-requires
+put_payload-requires c = search tag-laws
+
+pub returns : goal.returns
+returns c = search tag-laws

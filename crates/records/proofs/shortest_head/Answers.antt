@@ -1,0 +1,8 @@
+-- `records::shortest_head` meets its contract.
+-- Assumes nothing.
+use Rattle.basis.proofs.Kit.{rules}
+use Rattle.records.proofs.EnclosedLaws.{head-laws}
+use Rattle.records.proofs.shortest_head.Goals as goal
+
+pub returns : goal.returns
+returns c = search head-laws

@@ -1,0 +1,11 @@
+-- `requestform::check_name` meets its contract.
+-- Assumes nothing.
+use Rattle.basis.proofs.Kit.{rules}
+use Rattle.requestform.proofs.RequestLaws.{name-laws}
+use Rattle.requestform.proofs.check_name.Goals as goal
+
+pub returns-in-Refuses : goal.returns-in-Refuses
+returns-in-Refuses c = search name-laws
+
+pub returns-in-After : goal.returns-in-After
+returns-in-After c = search name-laws

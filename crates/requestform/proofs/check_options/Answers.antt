@@ -1,0 +1,32 @@
+-- `requestform::check_options` meets its contract.
+-- Assumes nothing.
+use Rattle.basis.specs.Kit.{◌-◌, ◌≤◌}
+use Rattle.basis.proofs.Kit.{rules}
+use Rattle.reply.specs.declared.Refusal.TheVariants.{BadRequest}
+use Rattle.form.specs.Each.{each_from}
+use Rattle.field.proofs.Rest.{Rest}
+use Rattle.optionform.specs.Form.{judge_option}
+use Rattle.requestform.specs.Form.{judge_options}
+use Rattle.requestform.proofs.RequestLaws.{options-laws}
+use Rattle.requestform.proofs.check_options.Goals as goal
+
+pub loop-at-init : goal.loop-at-init
+loop-at-init c = search (rules, options-laws)
+
+pub returns-in_default : goal.returns-in_default
+returns-in_default c = search options-laws
+
+pub check_option-requires : goal.check_option-requires
+check_option-requires c = search options-laws
+
+pub returns-in-Refused : goal.returns-in-Refused
+returns-in-Refused c = search options-laws
+
+pub loop-at-smaller : goal.loop-at-smaller
+loop-at-smaller c = search options-laws
+
+pub loop-at-preserved : goal.loop-at-preserved
+loop-at-preserved c = search options-laws
+
+pub returns : goal.returns
+returns c = search options-laws

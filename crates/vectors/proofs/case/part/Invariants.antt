@@ -1,0 +1,12 @@
+-- `vectors::case::part` meets its contract, by its loop's invariant and laws.
+-- Assumes nothing.
+use Rattle.basis.specs.Kit.{◌-◌, ◌≤◌, length}
+use Rattle.basis.proofs.Kit.{rules}
+use Rattle.vectors.proofs.CaseLaws.{case-laws}
+use Rattle.vectors.proofs.case.part.Given as goal
+
+abbrev pub invariant-loop-at : goal.invariant-loop-at
+invariant-loop-at l = l.at ≤ length l.c
+
+abbrev pub decreases-loop-at : goal.decreases-loop-at
+decreases-loop-at l = length l.c - l.at

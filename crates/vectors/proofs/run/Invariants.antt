@@ -1,0 +1,12 @@
+-- `vectors::run` meets its contract, by its loop's invariant and laws.
+-- Assumes nothing.
+use Rattle.basis.specs.Kit.{◌-◌, ◌≤◌, length}
+use Rattle.basis.proofs.Kit.{rules}
+use Rattle.vectors.proofs.CaseLaws.{run-laws}
+use Rattle.vectors.proofs.run.Given as goal
+
+abbrev pub invariant-loop-at : goal.invariant-loop-at
+invariant-loop-at l = (l.at ≤ length l.s) × (l.held ≤ l.at)
+
+abbrev pub decreases-loop-at : goal.decreases-loop-at
+decreases-loop-at l = length l.s - l.at
