@@ -4,7 +4,7 @@
 --   Onward L s t c c' <-> c' is a cursor that has the same scopes of L before it as c
 --
 -- Assumes nothing.
-use Rattle.basis.specs.Kit.{◌≡◌, refl, sym, ◌∙◌, Bool, true, false, List, [], ◌∷◌, ◌++◌, ℕ, zero, suc, ◌+◌, ◌-◌, ◌≤◌, ◌<◌, eqb, length}
+use Rattle.basis.specs.Kit.{◌≡◌, refl, sym, ap, ◌∙◌, Bool, true, false, List, [], ◌∷◌, ◌++◌, ℕ, zero, suc, ◌+◌, ◌-◌, ◌≤◌, ◌<◌, eqb, length}
 use Rattle.basis.specs.Kit.{get_or, take, drop}
 use Rattle.basis.proofs.Kit.{arith, ne_eqb}
 use mathlib.Core.List.{append-nil}
@@ -115,7 +115,7 @@ module _ (s t : List ℕ) where
   ahead-some : (c : Cursor) (p : LookupScope) (c' : Cursor) → here s t c ≡ holding s p ∷ here s t c' → c'.next ≡ c.next
       → ahead s t c ≡ holding s p ∷ ahead s t c'
   unfolding ahead
-  ahead-some c p c' k l = rw (k, l)
+  ahead-some c p c' k l = rw k (ap (λ n. holding s p ∷ (here s t c' ++ wider s (front_at t n) (names_from t n))) (sym l))
 
 -- ---- where a walk starts
 module _ (s t : List ℕ) where

@@ -134,7 +134,7 @@ module _ (ws : List ℕ) where
   opened-reals = (opens-after 0 0 ws).reals
 
 -- of any two one is earlier, or they are one
-pub either-earlier : {C A : Type 0} {R : A → A → Type 0} {xs : List A} {x y : A} → Ordered R xs → Among x xs → Among y xs
+pub either-earlier : {C A : Type 0} {R : A → A → Type 0} {x y : A} {xs : List A} → Ordered R xs → Among x xs → Among y xs
     → (x ≡ y → C) → (R x y → C) → (R y x → C) → C
 either-earlier o here here same before behind = same refl
 either-earlier {y} (next h o) here (there n) same before behind = before (h y n)

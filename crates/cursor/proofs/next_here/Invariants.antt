@@ -7,7 +7,7 @@ use Rattle.cursor.proofs.CursorLaws.{Onward, here-laws}
 use Rattle.cursor.proofs.next_here.Given as goal
 
 abbrev pub invariant-loop-at : goal.invariant-loop-at
-invariant-loop-at l = Onward (here l.s l.names) l.s l.names l.cursor (record { next = l.cursor.next; l.at = l.at; l.file = l.file })
+invariant-loop-at l = Onward (here l.s l.names) l.s l.names l.cursor (record { next = l.cursor.next; at = l.at; file = l.file })
 
 abbrev pub decreases-loop-at : goal.decreases-loop-at
 decreases-loop-at l = l.end - l.at

@@ -5,7 +5,7 @@ use Rattle.records.proofs.EnclosedLaws.{way-laws}
 use Rattle.records.proofs.make_way.Goals as goal
 
 pub move_on-requires : goal.move_on-requires
-move_on-requires c = (search way-laws, search way-laws)
+move_on-requires c = search (rules, way-laws)
 
 pub returns : goal.returns
 returns c = search way-laws

@@ -1,0 +1,32 @@
+-- `evolution::first::first_reason` meets its contract, by its loop's invariant and laws.
+-- Assumes nothing.
+use Rattle.evolution.proofs.RosterLaws.{Asking, first-reason-laws}
+use Rattle.basis.specs.Kit.{◌-◌, length}
+use Rattle.basis.proofs.Kit.{rules}
+use Rattle.names.specs.Names.{every_declared}
+use Rattle.evolution.specs.inner.Bearers.{reason_of}
+use Rattle.evolution.proofs.first.first_reason.Goals as goal
+
+pub returns-in_default : goal.returns-in_default
+returns-in_default c = search first-reason-laws
+
+pub slice_bounds-reason_of-end : goal.slice_bounds-reason_of-end
+slice_bounds-reason_of-end c = search first-reason-laws
+
+pub slice_bounds-reason_of-end-in-loop-bearer : goal.slice_bounds-reason_of-end-in-loop-bearer
+slice_bounds-reason_of-end-in-loop-bearer c = search first-reason-laws
+
+pub reason_of-found-requires : goal.reason_of-found-requires
+reason_of-found-requires c = search first-reason-laws
+
+pub returns-in_default-found : goal.returns-in_default-found
+returns-in_default-found c = search first-reason-laws
+
+pub overflow_add-i : goal.overflow_add-i
+overflow_add-i c = search first-reason-laws
+
+pub loop-bearer-smaller : goal.loop-bearer-smaller
+loop-bearer-smaller c = search first-reason-laws
+
+pub loop-bearer-preserved : goal.loop-bearer-preserved
+loop-bearer-preserved c = search first-reason-laws

@@ -1,0 +1,14 @@
+-- `evolution::first::first_reason` meets its contract, by its loop's invariant and laws.
+-- Assumes nothing.
+use Rattle.evolution.proofs.RosterLaws.{Asking, first-reason-laws}
+use Rattle.basis.specs.Kit.{◌-◌, length}
+use Rattle.basis.proofs.Kit.{rules}
+use Rattle.names.specs.Names.{every_declared}
+use Rattle.evolution.specs.inner.Bearers.{reason_of}
+use Rattle.evolution.proofs.first.first_reason.Given as goal
+
+abbrev pub invariant-loop-bearer : goal.invariant-loop-bearer
+invariant-loop-bearer l = Asking l.s (reason_of l.question l.s l.newer) l.initial.room l.room l.i
+
+abbrev pub decreases-loop-bearer : goal.decreases-loop-bearer
+decreases-loop-bearer l = length (every_declared l.s) - l.i

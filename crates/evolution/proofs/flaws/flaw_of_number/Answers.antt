@@ -1,0 +1,10 @@
+-- `evolution::flaws::flaw_of_number` meets its contract.
+-- Assumes nothing.
+use Rattle.evolution.proofs.FlawLaws.{number-flaw-laws}
+use Rattle.evolution.proofs.flaws.flaw_of_number.Goals as goal
+
+pub returns-then-numbered-ne1 : goal.returns-then-numbered-ne1
+returns-then-numbered-ne1 c = search number-flaw-laws
+
+pub returns : goal.returns
+returns c = search number-flaw-laws

@@ -1,0 +1,14 @@
+-- `evolution::flaws::path_named` meets its contract.
+-- Assumes nothing.
+use Rattle.evolution.proofs.FlawLaws.{path-named-laws}
+use Rattle.basis.proofs.Kit.{rules}
+use Rattle.evolution.proofs.flaws.path_named.Goals as goal
+
+pub returns-then-not-has_type_path : goal.returns-then-not-has_type_path
+returns-then-not-has_type_path c = search path-named-laws
+
+pub returns-then-typ-eq-TYPE_ENUM : goal.returns-then-typ-eq-TYPE_ENUM
+returns-then-typ-eq-TYPE_ENUM c = search path-named-laws
+
+pub returns : goal.returns
+returns c = search path-named-laws
