@@ -1,0 +1,22 @@
+-- `extensions::first_extension` meets its contract.
+-- Assumes nothing.
+use Rattle.basis.specs.Kit.{length}
+use Rattle.cursor.specs.inner.Cursor.{ahead}
+use Rattle.cursor.proofs.Left.{Left}
+use Rattle.extensions.proofs.ExtensionLaws.{named_in, first-extension-laws}
+use Rattle.extensions.proofs.first_extension.Goals as goal
+
+pub returns-in_default : goal.returns-in_default
+returns-in_default c = search first-extension-laws
+
+pub declaration_named-requires : goal.declaration_named-requires
+declaration_named-requires c = search first-extension-laws
+
+pub returns-in-Declares : goal.returns-in-Declares
+returns-in-Declares c = search first-extension-laws
+
+pub loop-scope-smaller : goal.loop-scope-smaller
+loop-scope-smaller c = search first-extension-laws
+
+pub loop-scope-preserved : goal.loop-scope-preserved
+loop-scope-preserved c = search first-extension-laws

@@ -1,0 +1,13 @@
+-- `extensions::first_extension` meets its contract.
+-- Assumes nothing.
+use Rattle.basis.specs.Kit.{length}
+use Rattle.cursor.specs.inner.Cursor.{ahead}
+use Rattle.cursor.proofs.Left.{Left}
+use Rattle.extensions.proofs.ExtensionLaws.{named_in, first-extension-laws}
+use Rattle.extensions.proofs.first_extension.Given as goal
+
+abbrev pub invariant-loop-scope : goal.invariant-loop-scope
+invariant-loop-scope l = Left (named_in l.s l.name (ahead l.s l.names l.initial.c)) (named_in l.s l.name) l.s l.names l.c
+
+abbrev pub decreases-loop-scope : goal.decreases-loop-scope
+decreases-loop-scope l = length (ahead l.s l.names l.c)

@@ -1,0 +1,24 @@
+-- `fullname::next_enum` meets its contract.
+-- Assumes nothing.
+use Rattle.basis.specs.Kit.{length}
+use Rattle.basis.specs.First.{collect}
+use Rattle.cursor.specs.inner.Cursor.{ahead}
+use Rattle.fullname.specs.inner.Ahead.{kept, passing, declares_enum}
+use Rattle.cursor.proofs.Left.{Left}
+use Rattle.fullname.proofs.FullNameLaws.{next-enum-laws}
+use Rattle.fullname.proofs.next_enum.Goals as goal
+
+pub returns-in_default : goal.returns-in_default
+returns-in_default c = search next-enum-laws
+
+pub enum_named-requires : goal.enum_named-requires
+enum_named-requires c = search next-enum-laws
+
+pub returns-in-At-enum_named : goal.returns-in-At-enum_named
+returns-in-At-enum_named c = search next-enum-laws
+
+pub loop-scope-smaller : goal.loop-scope-smaller
+loop-scope-smaller c = search next-enum-laws
+
+pub loop-scope-preserved : goal.loop-scope-preserved
+loop-scope-preserved c = search next-enum-laws

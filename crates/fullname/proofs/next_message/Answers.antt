@@ -1,0 +1,21 @@
+-- `fullname::next_message` meets its contract.
+-- Assumes nothing.
+use Rattle.basis.specs.Kit.{length}
+use Rattle.basis.specs.First.{collect}
+use Rattle.cursor.specs.inner.Cursor.{ahead}
+use Rattle.fullname.specs.inner.Ahead.{kept, passing, is_message}
+use Rattle.cursor.proofs.Left.{Left}
+use Rattle.fullname.proofs.FullNameLaws.{next-message-laws}
+use Rattle.fullname.proofs.next_message.Goals as goal
+
+pub returns-in_default : goal.returns-in_default
+returns-in_default c = search next-message-laws
+
+pub returns-then-scope : goal.returns-then-scope
+returns-then-scope c = search next-message-laws
+
+pub loop-scope-smaller : goal.loop-scope-smaller
+loop-scope-smaller c = search next-message-laws
+
+pub loop-scope-preserved : goal.loop-scope-preserved
+loop-scope-preserved c = search next-message-laws

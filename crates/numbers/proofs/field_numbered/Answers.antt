@@ -1,0 +1,32 @@
+-- `numbers::field_numbered` meets its contract.
+-- Assumes nothing.
+use Rattle.basis.specs.Kit.{◌-◌}
+use Rattle.sheet.specs.Table.{field_tag}
+use Rattle.field.proofs.Seek.{Seeking}
+use Rattle.sheet.specs.declared.declaration.Declared.TheVariants.{NoDeclaration}
+use Rattle.numbers.specs.Number.{has_number}
+use Rattle.scope.specs.inner.Steps.{tells_declared, first_of}
+use Rattle.named.proofs.NamedLaws.{declaration_where}
+use Rattle.numbers.proofs.NumberLaws.{field-numbered-laws}
+use Rattle.numbers.proofs.field_numbered.Goals as goal
+
+pub loop-at-init : goal.loop-at-init
+loop-at-init c = search field-numbered-laws
+
+pub returns-in_default : goal.returns-in_default
+returns-in_default c = search field-numbered-laws
+
+pub field_numbered_at-requires : goal.field_numbered_at-requires
+field_numbered_at-requires c = search field-numbered-laws
+
+pub returns-in-Declares : goal.returns-in-Declares
+returns-in-Declares c = search field-numbered-laws
+
+pub loop-at-smaller : goal.loop-at-smaller
+loop-at-smaller c = search field-numbered-laws
+
+pub loop-at-preserved : goal.loop-at-preserved
+loop-at-preserved c = search field-numbered-laws
+
+pub returns : goal.returns
+returns c = search field-numbered-laws

@@ -1,0 +1,13 @@
+-- `scalars::bool_on` meets its contract.
+-- Assumes nothing.
+use Rattle.scalars.proofs.ScalarLaws.{bool-laws}
+use Rattle.scalars.proofs.bool_on.Goals as goal
+
+pub returns-then-b : goal.returns-then-b
+returns-then-b c = search bool-laws
+
+pub returns-then-typ-eq-TYPE_BOOL : goal.returns-then-typ-eq-TYPE_BOOL
+returns-then-typ-eq-TYPE_BOOL c = search bool-laws
+
+pub returns : goal.returns
+returns c = search bool-laws

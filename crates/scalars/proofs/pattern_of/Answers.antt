@@ -1,0 +1,14 @@
+-- `scalars::pattern_of` meets its contract.
+-- Assumes nothing.
+use Rattle.basis.proofs.Kit.{rules}
+use Rattle.scalars.proofs.ScalarLaws.{pattern-laws}
+use Rattle.scalars.proofs.pattern_of.Goals as goal
+
+pub returns-then-size-eq0 : goal.returns-then-size-eq0
+returns-then-size-eq0 c = search pattern-laws
+
+pub returns-then-minus : goal.returns-then-minus
+returns-then-minus c = search pattern-laws
+
+pub returns : goal.returns
+returns c = search pattern-laws

@@ -1,0 +1,14 @@
+-- `steps::reach_of` meets its contract.
+-- Assumes nothing.
+use Rattle.steps.proofs.ReachLaws.{reach-laws}
+use Rattle.basis.proofs.Kit.{rules}
+use Rattle.steps.proofs.reach_of.Goals as goal
+
+pub returns-in_default : goal.returns-in_default
+returns-in_default c = search reach-laws
+
+pub led-requires : goal.led-requires
+led-requires c = search reach-laws
+
+pub returns : goal.returns
+returns c = search reach-laws

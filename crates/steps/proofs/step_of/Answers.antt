@@ -1,0 +1,16 @@
+-- `steps::step_of` meets its contract.
+-- Assumes nothing.
+use Rattle.steps.proofs.StepLaws.{step-laws}
+use Rattle.steps.proofs.step_of.Goals as goal
+
+pub extension-requires : goal.extension-requires
+extension-requires c = search step-laws
+
+pub returns-then-part : goal.returns-then-part
+returns-then-part c = search step-laws
+
+pub returns-in_default : goal.returns-in_default
+returns-in_default c = search step-laws
+
+pub returns : goal.returns
+returns c = search step-laws
