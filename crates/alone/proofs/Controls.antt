@@ -1,7 +1,8 @@
 -- Closed cases of the definitions, which the checker computes: of a request of three options each one alone, and what they come to where
 -- nothing is found; of an option that is not there the heading alone; of no heading all the bytes.
 -- Assumes nothing.
-use Rattle.basis.specs.Kit.{◌≡◌, refl, false, List, [], ◌∷◌, ◌++◌, map, Option, none, some, ℕ}
+use Rattle.std.specs.Prelude.{◌≡◌, refl, false, List, [], ◌∷◌, ◌++◌, map, ℕ}
+use Rattle.basis.specs.Kit.{Option, none, some}
 use lib.ListN.{get_elem?}
 use Prim.Native.String.{String}
 use Rattle.basis.specs.First.{told}

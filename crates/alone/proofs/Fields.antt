@@ -1,6 +1,7 @@
 -- A field that is whole up to one end is the same up to any other end behind it, and in another request at a place that corresponds.
 -- Assumes nothing.
-use Rattle.basis.specs.Kit.{◌≡◌, refl, sym, ap, ◌∙◌, Bool, true, false, ◌&&◌, List, ℕ, ◌+◌, ◌≤◌, eqb, ltb, get_or}
+use Rattle.std.specs.Prelude.{◌≡◌, refl, Bool, true, false, ◌&&◌, List, ℕ, ◌+◌, ◌≤◌, eqb, ltb, get_or}
+use Rattle.basis.specs.Kit.{sym, ap, ◌∙◌}
 use Rattle.basis.proofs.Kit.{arith}
 use mathlib.Core.Path.{subst₂}
 use borrow.Author.Tests.{eqb-true}

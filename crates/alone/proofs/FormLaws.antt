@@ -1,6 +1,7 @@
 -- The verdicts of a constant and of an option are the same in two requests, at places that correspond.
 -- Assumes nothing.
-use Rattle.basis.specs.Kit.{◌≡◌, refl, sym, ap, ◌∙◌, List, ℕ, zero, suc, ◌+◌, ◌<◌, eqb, ltb}
+use Rattle.std.specs.Prelude.{◌≡◌, refl, List, ℕ, zero, suc, ◌+◌, ◌<◌, eqb, ltb}
+use Rattle.basis.specs.Kit.{sym, ap, ◌∙◌}
 use Rattle.basis.proofs.Kit.{lt-ltb}
 use mathlib.Core.Path.{ap₂}
 use Rattle.limits.specs.Figures.{most_options, most_parts, most_constants}

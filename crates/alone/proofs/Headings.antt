@@ -1,6 +1,7 @@
 -- The heading of a request is that of any other which has the same bytes in front, up to where the options start.
 -- Assumes nothing.
-use Rattle.basis.specs.Kit.{◌≡◌, refl, sym, ap, ◌∙◌, List, ℕ, ◌≤◌, length}
+use Rattle.std.specs.Prelude.{◌≡◌, refl, List, ℕ, ◌≤◌, length}
+use Rattle.basis.specs.Kit.{sym, ap, ◌∙◌}
 use Rattle.basis.proofs.Kit.{arith}
 use mathlib.Core.Path.{ap₂}
 use Rattle.basis.proofs.Never.{never}

@@ -1,6 +1,7 @@
 -- What an option comes to does not depend on what stands around it. The statement stands at the end.
 -- Assumes nothing.
-use Rattle.basis.specs.Kit.{◌≡◌, refl, sym, ap, ◌∙◌, true, List, [], ◌∷◌, ◌++◌, some, ℕ, ◌+◌, ◌-◌, ◌≤◌, length, take}
+use Rattle.std.specs.Prelude.{◌≡◌, refl, true, List, [], ◌∷◌, ◌++◌, ℕ, ◌+◌, ◌-◌, ◌≤◌, length, take}
+use Rattle.basis.specs.Kit.{sym, ap, ◌∙◌, some}
 use Rattle.basis.proofs.Kit.{arith}
 use lib.ListN.{get_elem?}
 use Rattle.limits.specs.Figures.{most_request}

@@ -4,7 +4,8 @@
 --   SameWhole w v v' <-> the same part is the whole name of a builtin, or none is
 --
 -- Assumes nothing.
-use Rattle.basis.specs.Kit.{◌≡◌, refl, ap, Bool, true, false, List, [], ◌∷◌, Option, none, some, ℕ, ◌+◌, eqb}
+use Rattle.std.specs.Prelude.{◌≡◌, refl, Bool, true, false, List, [], ◌∷◌, ℕ, ◌+◌, eqb}
+use Rattle.basis.specs.Kit.{ap, Option, none, some}
 use mathlib.Core.Path.{subst}
 use Rattle.basis.specs.First.{only_if, told}
 use Rattle.basis.proofs.Never.{never}

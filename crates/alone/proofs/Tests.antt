@@ -1,6 +1,7 @@
 -- Tests that come out alike: one of two things by each, and the order of two places that are moved together.
 -- Assumes nothing.
-use Rattle.basis.specs.Kit.{◌≡◌, refl, sym, Bool, true, false, ℕ, ◌+◌, eqb, ltb}
+use Rattle.std.specs.Prelude.{◌≡◌, refl, Bool, true, false, ℕ, ◌+◌, eqb, ltb}
+use Rattle.basis.specs.Kit.{sym}
 use Rattle.basis.proofs.Kit.{arith, eq-eqb, ne_eqb, lt-ltb, le-ltb}
 use borrow.Author.Tests.{eqb-true, eqb-false, ltb-true, ltb-false}
 use Rattle.basis.proofs.Never.{never}

@@ -7,7 +7,8 @@
 --      SameOption w o o' <-> the same parts, and the same constant
 --
 -- Assumes nothing.
-use Rattle.basis.specs.Kit.{◌≡◌, ap, Bool, true, false, List, ℕ, zero, suc, ◌-◌, ◌^◌, eqb, ltb, get_or}
+use Rattle.std.specs.Prelude.{◌≡◌, Bool, true, false, List, ℕ, zero, suc, ◌-◌, ◌^◌, eqb, ltb, get_or}
+use Rattle.basis.specs.Kit.{ap}
 use Rattle.basis.proofs.Kit.{arith}
 use mathlib.Core.Path.{subst}
 use borrow.Author.Tests.{eqb-true}

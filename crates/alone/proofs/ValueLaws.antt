@@ -4,7 +4,8 @@
 --     SameMade m m' <-> records are made of both, or of neither, for one reason
 --
 -- Assumes nothing.
-use Rattle.basis.specs.Kit.{◌≡◌, refl, ap, List, ℕ, eqb}
+use Rattle.std.specs.Prelude.{◌≡◌, refl, List, ℕ, eqb}
+use Rattle.basis.specs.Kit.{ap}
 use mathlib.Core.Path.{subst}
 use lib.Ieee.{binary64, to_bits}
 use Rattle.basis.specs.First.{told}

@@ -4,7 +4,8 @@
 --     SameWalk w u v <-> u and v are the same fields, and end alike
 --
 -- Assumes nothing.
-use Rattle.basis.specs.Kit.{◌≡◌, sym, true, false, List, ℕ, zero, suc, ◌+◌, ◌-◌, ◌≤◌, ltb, get_or}
+use Rattle.std.specs.Prelude.{◌≡◌, true, false, List, ℕ, zero, suc, ◌+◌, ◌-◌, ◌≤◌, ltb, get_or}
+use Rattle.basis.specs.Kit.{sym}
 use Rattle.basis.proofs.Kit.{arith}
 use borrow.Author.Tests.{ltb-false}
 use Rattle.octets.specs.Octets.{big_at}

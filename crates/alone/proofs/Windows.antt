@@ -5,8 +5,8 @@
 --   SameSpan w p p' <-> the span p of r is the span p' of r'
 --
 -- Assumes nothing.
-use Rattle.basis.specs.Kit.{◌≡◌, refl, sym, ap, ◌∙◌, List, ℕ, zero, suc, ◌+◌, ◌-◌, ◌≤◌, ◌<◌, eqb, ltb}
-use Rattle.basis.specs.Kit.{length, get_or, drop}
+use Rattle.std.specs.Prelude.{◌≡◌, refl, List, ℕ, zero, suc, ◌+◌, ◌-◌, ◌≤◌, ◌<◌, eqb, ltb, length, get_or, drop}
+use Rattle.basis.specs.Kit.{sym, ap, ◌∙◌}
 use Rattle.basis.proofs.Kit.{arith}
 use lib.Seq.{get_or-take, get_or-drop, ext_get_or}
 use Rattle.octets.specs.Octets.{part, big_at}

@@ -8,7 +8,8 @@
 --                        which has the fault that o has in r, or none where o has none
 --
 -- Assumes nothing.
-use Rattle.basis.specs.Kit.{◌≡◌, List, [], ◌∷◌, ◌++◌, Option, none, some, ℕ, zero, suc, ◌-◌, length, take}
+use Rattle.std.specs.Prelude.{◌≡◌, List, [], ◌∷◌, ◌++◌, ℕ, zero, suc, ◌-◌, length, take}
+use Rattle.basis.specs.Kit.{Option, none, some}
 use Rattle.octets.specs.Octets.{part}
 use Rattle.reply.specs.declared.Verdict.TheVariants.{Fine}
 use Rattle.field.specs.Field.{header}

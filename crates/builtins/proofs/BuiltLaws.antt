@@ -1,8 +1,8 @@
 -- What a builtin comes to: the ways through `put_builtin`; for callers, that its body lies in the request, and how many bytes its record
 -- has.
 -- Assumes nothing.
-use Rattle.basis.specs.Kit.{◌≡◌, refl, sym, ◌∙◌, Bool, true, false, List, Option, none, some, ℕ, ◌+◌, ◌-◌, ◌≤◌}
-use Rattle.basis.specs.Kit.{eqb, length, drop}
+use Rattle.std.specs.Prelude.{◌≡◌, refl, Bool, true, false, List, ℕ, ◌+◌, ◌-◌, ◌≤◌, eqb, length, drop}
+use Rattle.basis.specs.Kit.{sym, ◌∙◌, Option, none, some}
 use Rattle.basis.proofs.Kit.{arith}
 use Rattle.basis.proofs.Never.{never}
 use native.Mathlib.Nat.{add-zero}

@@ -1,6 +1,7 @@
 -- Closed cases of builtins, which the checker computes: of each rule one that holds, one at its border, one just past it.
 -- Assumes nothing.
-use Rattle.basis.specs.Kit.{◌≡◌, refl, true, false, List, [], ◌∷◌, ◌++◌, map, none, some, ℕ, length}
+use Rattle.std.specs.Prelude.{◌≡◌, refl, true, false, List, [], ◌∷◌, ◌++◌, map, ℕ, length}
+use Rattle.basis.specs.Kit.{none, some}
 use lib.ListN.{replicate}
 use Rattle.octets.specs.Octets.{same_bytes, big_at}
 use Rattle.octets.specs.Ascii.{ascii}

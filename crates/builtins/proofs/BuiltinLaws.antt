@@ -1,6 +1,7 @@
 -- Builtins, over any look-ups: the ways through the functions that say what a constant on one comes to.
 -- Assumes nothing.
-use Rattle.basis.specs.Kit.{◌≡◌, refl, sym, ap, ◌∙◌, Bool, true, false, ◌&&◌, ◌||◌, List, [], ◌∷◌, some, ℕ, ◌-◌, eqb}
+use Rattle.std.specs.Prelude.{◌≡◌, refl, Bool, true, false, ◌&&◌, ◌||◌, List, [], ◌∷◌, ℕ, ◌-◌, eqb}
+use Rattle.basis.specs.Kit.{sym, ap, ◌∙◌, some}
 use Rattle.basis.proofs.Kit.{eq-eqb, ne_eqb}
 use Rattle.octets.specs.Octets.{same_bytes}
 use Rattle.octets.specs.Ascii.{ascii}

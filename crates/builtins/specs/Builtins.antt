@@ -8,7 +8,8 @@
 --       built_recs r b ==  the record of a builtin that is set
 --
 -- Assumes nothing.
-use Rattle.basis.specs.Kit.{Bool, true, false, ◌&&◌, ◌||◌, List, [], ◌∷◌, Option, none, some, ℕ, eqb}
+use Rattle.std.specs.Prelude.{Bool, true, false, ◌&&◌, ◌||◌, List, [], ◌∷◌, ℕ, eqb}
+use Rattle.basis.specs.Kit.{Option, none, some}
 use Rattle.octets.specs.Octets.{same_bytes}
 use Rattle.octets.specs.Ascii.{ascii}
 use Rattle.reply.specs.declared.Refusal.TheVariants.{BuiltinOptionNotFound, BuiltinOptionPointsToNonSingularField}

@@ -1,7 +1,8 @@
 // Builtins: a single direct part, on a field of the options message.
 #![tactic(auto)]
 
-ghost use Rattle.basis.specs.Kit.{◌≡◌, [], ◌∷◌, some, ◌+◌, ◌^◌, ◌≤◌, ◌<◌, length};
+ghost use Rattle.std.specs.Prelude.{◌≡◌, [], ◌∷◌, ◌+◌, ◌^◌, ◌≤◌, ◌<◌, length};
+ghost use Rattle.basis.specs.Kit.{some};
 ghost use Rattle.octets.specs.inner.Laid.{Laid};
 ghost use Rattle.limits.specs.Figures.{most_constants};
 ghost use Rattle.types.specs.Types.{is_any, TYPE_BOOL, TYPE_STRING, TYPE_ENUM};

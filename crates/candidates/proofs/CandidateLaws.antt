@@ -1,7 +1,7 @@
 -- The laws of ancestors and candidates: the ways through `ancestor`, `candidates` and `candidate`, and what the crates above cite.
 -- Assumes nothing.
-use Rattle.basis.specs.Kit.{◌≡◌, refl, sym, ap, ◌∙◌, Bool, true, false, List, [], ◌∷◌, ◌++◌, map, ℕ, zero, suc, ◌+◌, ◌-◌, ◌*◌, ◌^◌}
-use Rattle.basis.specs.Kit.{◌≤◌, ◌<◌, length, get_or, take}
+use Rattle.std.specs.Prelude.{◌≡◌, refl, Bool, true, false, List, [], ◌∷◌, ◌++◌, map, ℕ, zero, suc, ◌+◌, ◌-◌, ◌*◌, ◌^◌, ◌≤◌, ◌<◌, length, get_or, take}
+use Rattle.basis.specs.Kit.{sym, ap, ◌∙◌}
 use Rattle.basis.proofs.Kit.{arith, add-one, w64, Fits}
 use native.Mathlib.Decide.{dec_lt}
 use lib.ListN.{length-append, length-map, length-take, get_or-append}

@@ -1,6 +1,6 @@
 -- Closed cases of ancestors and candidates, which the checker computes.
 -- Assumes nothing.
-use Rattle.basis.specs.Kit.{◌≡◌, refl, List, [], ◌∷◌, ◌++◌, map, ℕ}
+use Rattle.std.specs.Prelude.{◌≡◌, refl, List, [], ◌∷◌, ◌++◌, map, ℕ}
 use Rattle.path.specs.Path.{Name, dot, on_first, split, components, spell, is_abs, rootless}
 use Rattle.candidates.specs.Candidates.{ancestors, candidates}
 

@@ -5,7 +5,7 @@
 --   candidate scope name i == the i-th of them, counted from 0
 --
 -- Assumes nothing.
-use Rattle.basis.specs.Kit.{true, false, List, [], ◌∷◌, ◌++◌, map, ℕ, get_or}
+use Rattle.std.specs.Prelude.{true, false, List, [], ◌∷◌, ◌++◌, map, ℕ, get_or}
 use Rattle.path.specs.Path.{Path, components, is_abs, rootless}
 
 unfoldable pub ancestors : Path → List Path

@@ -1,5 +1,5 @@
 // The candidates of a name in a scope: a scope and its parents, each with the name behind it.
-ghost use Rattle.basis.specs.Kit.{◌≡◌, [], ◌≤◌, ◌<◌, length, get_or};
+ghost use Rattle.std.specs.Prelude.{◌≡◌, [], ◌≤◌, ◌<◌, length, get_or};
 ghost use Rattle.octets.specs.inner.Laid.{Laid};
 ghost use Rattle.path.specs.Path.{components, spell};
 ghost use Rattle.candidates.specs.Candidates.{ancestors, candidates as candidates_of, candidate as candidate_of};

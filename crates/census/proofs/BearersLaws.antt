@@ -1,7 +1,8 @@
 -- What the code counts over the tree is how many of all declarations bear the full name; where that does not go on in a scope, nothing that
 -- the scope holds counts.
 -- Assumes nothing.
-use Rattle.basis.specs.Kit.{◌≡◌, refl, sym, ◌∙◌, Bool, true, false, ◌&&◌, List, [], ◌∷◌, ◌++◌, ℕ, ◌+◌}
+use Rattle.std.specs.Prelude.{◌≡◌, refl, Bool, true, false, ◌&&◌, List, [], ◌∷◌, ◌++◌, ℕ, ◌+◌}
+use Rattle.basis.specs.Kit.{sym, ◌∙◌}
 use Rattle.basis.specs.First.{only_if}
 use Rattle.basis.proofs.Kit.{arith}
 use Rattle.basis.proofs.CountLaws.{count-append}

@@ -5,7 +5,8 @@
 --       file_asked m x o s t a e == how many are in a field of a sheet
 --
 -- Assumes nothing.
-use Rattle.basis.specs.Kit.{◌≡◌, refl, ap, ◌∙◌, Bool, true, false, ◌&&◌, List, [], ℕ, ◌+◌, ◌-◌, ◌*◌, ◌≤◌, ◌<◌, eqb, ltb, length}
+use Rattle.std.specs.Prelude.{◌≡◌, refl, Bool, true, false, ◌&&◌, List, [], ℕ, ◌+◌, ◌-◌, ◌*◌, ◌≤◌, ◌<◌, eqb, ltb, length}
+use Rattle.basis.specs.Kit.{ap, ◌∙◌}
 use Rattle.basis.proofs.Kit.{arith, not-true, not-false, w64, Fits}
 use Rattle.basis.proofs.Never.{never}
 use mathlib.Core.Bool.{not}

@@ -4,7 +4,8 @@
 --   held m l o s b i ==  how many fields among the items i themselves are like that of l, where b holds; else 0
 --
 -- Assumes nothing.
-use Rattle.basis.specs.Kit.{◌≡◌, refl, sym, Bool, true, false, ◌&&◌, List, [], ◌∷◌, ◌++◌, map, ℕ, ◌+◌}
+use Rattle.std.specs.Prelude.{◌≡◌, refl, Bool, true, false, ◌&&◌, List, [], ◌∷◌, ◌++◌, map, ℕ, ◌+◌}
+use Rattle.basis.specs.Kit.{sym}
 use Rattle.basis.specs.First.{only_if}
 use Rattle.basis.specs.Count.{count}
 use Rattle.basis.proofs.Kit.{arith}

@@ -1,6 +1,7 @@
 -- The ways through the functions that tell how a scope stands to a full name.
 -- Assumes nothing.
-use Rattle.basis.specs.Kit.{◌≡◌, refl, sym, ap, ◌∙◌, Bool, true, false, List, [], ◌∷◌, ◌++◌, ℕ, suc, ◌+◌, ◌-◌, ◌≤◌, length, drop}
+use Rattle.std.specs.Prelude.{◌≡◌, refl, Bool, true, false, List, [], ◌∷◌, ◌++◌, ℕ, suc, ◌+◌, ◌-◌, ◌≤◌, length, drop}
+use Rattle.basis.specs.Kit.{sym, ap, ◌∙◌}
 use Rattle.basis.proofs.Kit.{arith, w64, Fits}
 use mir.Facts.{Fits-le}
 use lib.ListN.{length-append, length-drop}

@@ -1,6 +1,7 @@
 -- The laws of what one declaration counts for: the ways through the functions that look at no message.
 -- Assumes nothing.
-use Rattle.basis.specs.Kit.{◌≡◌, refl, sym, ◌∙◌, true, false, List, ℕ, ◌≤◌, length}
+use Rattle.std.specs.Prelude.{◌≡◌, refl, true, false, List, ℕ, ◌≤◌, length}
+use Rattle.basis.specs.Kit.{sym, ◌∙◌}
 use Rattle.basis.proofs.Kit.{arith, not-true, not-false}
 use Rattle.basis.proofs.Never.{never}
 use Rattle.field.specs.declared.Leaf.{Leaf}

@@ -2,7 +2,7 @@
 // full name, by fields and by extensions of it, are like one. One way goes through the sheet for both; siblings are a loop.
 #![tactic(auto)]
 
-ghost use Rattle.basis.specs.Kit.{◌≡◌, ◌+◌, ◌-◌, ◌≤◌};
+ghost use Rattle.std.specs.Prelude.{◌≡◌, ◌+◌, ◌-◌, ◌≤◌};
 ghost use Rattle.field.specs.Leaf.{Lies, on_leaf, span, text as text_of};
 ghost use Rattle.field.specs.Walk.{walk};
 ghost use Rattle.sheet.specs.Tree.{items_in, tree_of};

@@ -1,6 +1,7 @@
 -- The size of a signed number as `size` computes it, and the front of an array as `answer` prints it.
 -- Assumes nothing.
-use Rattle.basis.specs.Kit.{◌≡◌, ap, ◌∙◌, true, false, List, ℕ, suc, ◌+◌, ◌≤◌, length, take}
+use Rattle.std.specs.Prelude.{◌≡◌, true, false, List, ℕ, suc, ◌+◌, ◌≤◌, length, take}
+use Rattle.basis.specs.Kit.{ap, ◌∙◌}
 use Rattle.basis.proofs.Kit.{arith, add-one, le-ltb, w64, Fits}
 use mathlib.Core.Bool.{true≢false}
 use borrow.Author.Tests.{ltb-true}

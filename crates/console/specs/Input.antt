@@ -3,7 +3,7 @@
 --   Fills r room <-> the bytes that were read lie within the room
 --
 -- Assumes nothing.
-use Rattle.basis.specs.Kit.{ℕ, ◌≤◌}
+use Rattle.std.specs.Prelude.{ℕ, ◌≤◌}
 use Rattle.console.specs.declared.input.Input.{Input}
 use Rattle.console.specs.declared.input.Input.TheVariants as input
 

@@ -1,6 +1,6 @@
 // The fields that a program is given. Where the input is not what the program names, one line that begins `input: ` says what is
 // wrong and where, and nothing after that place is answered.
-ghost use Rattle.basis.specs.Kit.{◌≡◌, ◌-◌, ◌%◌, ◌≤◌, eqb, length};
+ghost use Rattle.std.specs.Prelude.{◌≡◌, ◌-◌, ◌%◌, ◌≤◌, eqb, length};
 ghost use Rattle.field.specs.Leaf.{any_bytes, leaf_at};
 ghost use Rattle.console.specs.Input.{Fills};
 

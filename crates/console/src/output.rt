@@ -1,6 +1,5 @@
 // The lines that programs print.
-ghost use Rattle.basis.specs.Kit.{◌≡◌};
-ghost use Rattle.std.specs.Prelude.{nat_abs};
+ghost use Rattle.std.specs.Prelude.{◌≡◌, nat_abs};
 
 use field::part::span_in;
 use field::{Leaf, Span};

@@ -1,6 +1,7 @@
 -- What the tree of a fine constant is like: every leaf is what 01 allows, and nothing is left out, at every depth.
 -- Assumes nothing.
-use Rattle.basis.specs.Kit.{◌≡◌, sym, ap, ◌∙◌, true, List, ◌∷◌, map, ℕ, suc, ◌+◌, ◌*◌, ◌≤◌, ◌<◌, length}
+use Rattle.std.specs.Prelude.{◌≡◌, true, List, ◌∷◌, map, ℕ, suc, ◌+◌, ◌*◌, ◌≤◌, ◌<◌, length}
+use Rattle.basis.specs.Kit.{sym, ap, ◌∙◌}
 use Rattle.octets.specs.Octets.{part}
 use Rattle.reply.specs.declared.Refusal.TheVariants.{BadRequest}
 use Rattle.reply.specs.declared.Verdict.TheVariants.{Fine}

@@ -1,6 +1,6 @@
 -- The leaves of a request: the ways through `is_constant`, `is_bool`, `is_url`, `good_scalar`, `good_pair_name` and `good_part`.
 -- Assumes nothing.
-use Rattle.basis.specs.Kit.{◌≡◌, refl, Bool, true, false, ◌&&◌, ◌||◌, List, ℕ, eqb, leb, length, get_or}
+use Rattle.std.specs.Prelude.{◌≡◌, refl, Bool, true, false, ◌&&◌, ◌||◌, List, ℕ, eqb, leb, length, get_or}
 use Rattle.basis.proofs.Kit.{eq-eqb, ne_eqb}
 use Rattle.limits.specs.Figures.{most_url}
 use Rattle.ident.specs.Ident.{is_ident}

@@ -10,7 +10,7 @@
 --      constant_tags c ==  the tags of the constants that follow one another and of their names, at the first level, in order
 --
 -- Assumes nothing.
-use Rattle.basis.specs.Kit.{Bool, true, false, ◌&&◌, List, [], ◌∷◌, ℕ, ◌+◌, eqb}
+use Rattle.std.specs.Prelude.{Bool, true, false, ◌&&◌, List, [], ◌∷◌, ℕ, ◌+◌, eqb}
 use Rattle.ident.specs.Ident.{is_ident}
 use Rattle.path.specs.Path.{is_rel_path}
 use Rattle.field.specs.Leaf.{text}

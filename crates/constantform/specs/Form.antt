@@ -9,7 +9,7 @@
 --           judge_pairs d s a e == the pairs of a message constant
 --
 -- Assumes nothing.
-use Rattle.basis.specs.Kit.{true, false, List, ℕ, zero, suc, eqb}
+use Rattle.std.specs.Prelude.{true, false, List, ℕ, zero, suc, eqb}
 use Rattle.octets.specs.Octets.{part}
 use Rattle.reply.specs.declared.Refusal.TheVariants.{BadRequest}
 use Rattle.reply.specs.declared.Verdict.{Verdict}

@@ -9,7 +9,7 @@
 --       good_part x bs <=> the bytes are the payload of a part, of an extension part where x holds
 --
 -- Assumes nothing.
-use Rattle.basis.specs.Kit.{Bool, true, false, ◌&&◌, ◌||◌, List, ℕ, eqb, leb, length, get_or}
+use Rattle.std.specs.Prelude.{Bool, true, false, ◌&&◌, ◌||◌, List, ℕ, eqb, leb, length, get_or}
 use Rattle.limits.specs.Figures.{most_url}
 use Rattle.ident.specs.Ident.{is_ident}
 use Rattle.path.specs.Path.{is_rel_path, is_path}

@@ -1,5 +1,5 @@
 // What the leaves of a request may hold, by their tags.
-ghost use Rattle.basis.specs.Kit.{◌≡◌};
+ghost use Rattle.std.specs.Prelude.{◌≡◌};
 ghost use Rattle.constantform.specs.Leaves.{is_constant, is_bool, is_url, good_scalar, good_pair_name, good_part};
 
 use ident::protobuf_ident::is_ident;

@@ -3,7 +3,7 @@
 
 pub mod leaves;
 
-ghost use Rattle.basis.specs.Kit.{◌≡◌, ◌≤◌, length};
+ghost use Rattle.std.specs.Prelude.{◌≡◌, ◌≤◌, length};
 ghost use Rattle.constantform.specs.Form.{judge_constant, judge_elements, judge_pairs};
 
 use crate::leaves::{good_pair_name, good_scalar, is_constant};

@@ -1,7 +1,7 @@
 -- Closed cases of the counts, which the checker computes: P1's sheet, the empty sheet, messages as deep as 01 allows and deeper; the parts
 -- of several options.
 -- Assumes nothing.
-use Rattle.basis.specs.Kit.{◌≡◌, refl, List, [], ◌∷◌, ◌++◌, map, ℕ}
+use Rattle.std.specs.Prelude.{◌≡◌, refl, List, [], ◌∷◌, ◌++◌, map, ℕ}
 use Rattle.octets.specs.Octets.{big_at}
 use Rattle.field.specs.Field.{field_at}
 use Rattle.field.specs.Leaf.{leaf_at}

@@ -1,7 +1,8 @@
 -- The laws of counting: what a field holds and what follows it are counted apart, so that siblings are added up, and what each function
 -- that counts comes to, with the bounds by which no sum wraps.
 -- Assumes nothing.
-use Rattle.basis.specs.Kit.{◌≡◌, refl, ap, ◌∙◌, Bool, true, false, List, [], ◌∷◌, ℕ, zero, suc, ◌+◌, ◌-◌, ◌*◌, ◌≤◌, eqb, length}
+use Rattle.std.specs.Prelude.{◌≡◌, refl, Bool, true, false, List, [], ◌∷◌, ℕ, zero, suc, ◌+◌, ◌-◌, ◌*◌, ◌≤◌, eqb, length}
+use Rattle.basis.specs.Kit.{ap, ◌∙◌}
 use Rattle.basis.proofs.Kit.{arith, eq-eqb, ne_eqb, w64, Fits}
 use native.Mathlib.Nat.{le_refl, mul-le-mul_right}
 use mir.Facts.{Fits-le}

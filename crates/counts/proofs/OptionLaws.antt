@@ -1,6 +1,7 @@
 -- The laws of counting parts and options: the loops of `count_parts_at`, `count_options` and `count_parts`.
 -- Assumes nothing.
-use Rattle.basis.specs.Kit.{◌≡◌, refl, sym, ap, ◌∙◌, List, [], ◌∷◌, ℕ, ◌+◌, ◌-◌, ◌≤◌, ◌<◌, length}
+use Rattle.std.specs.Prelude.{◌≡◌, refl, List, [], ◌∷◌, ℕ, ◌+◌, ◌-◌, ◌≤◌, ◌<◌, length}
+use Rattle.basis.specs.Kit.{sym, ap, ◌∙◌}
 use Rattle.basis.proofs.Kit.{arith, eq-eqb, ne_eqb, w64, Fits}
 use native.Mathlib.Nat.{zero-add, add-zero}
 use Rattle.field.specs.declared.Field.{Field}

@@ -5,7 +5,7 @@
 --   files_hold k fs == how many of the tag k the files have, the files themselves counted
 --
 -- Assumes nothing.
-use Rattle.basis.specs.Kit.{true, false, List, [], ◌∷◌, ℕ, ◌+◌, ◌*◌, eqb, length}
+use Rattle.std.specs.Prelude.{true, false, List, [], ◌∷◌, ℕ, ◌+◌, ◌*◌, eqb, length}
 use Rattle.sheet.specs.Table.{file_tag, message_tag, extension_tag, enum_tag, field_tag, value_tag}
 use Rattle.sheet.specs.Tree.{Items, none, message, extension, enumeration, field, File}
 

@@ -3,7 +3,7 @@
 --   parts_of os == the parts of the names of the options, all together
 --
 -- Assumes nothing.
-use Rattle.basis.specs.Kit.{List, [], ◌∷◌, ℕ, ◌+◌, length}
+use Rattle.std.specs.Prelude.{List, [], ◌∷◌, ℕ, ◌+◌, length}
 use Rattle.request.specs.Request.{Option}
 
 abbrev pub parts_of : List Option → ℕ

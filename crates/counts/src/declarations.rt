@@ -1,5 +1,5 @@
 // How many declarations of one tag a sheet has: a walk over the whole tree. Only nested messages recurse: siblings are a loop.
-ghost use Rattle.basis.specs.Kit.{◌≡◌, ◌+◌, ◌-◌, ◌≤◌, length};
+ghost use Rattle.std.specs.Prelude.{◌≡◌, ◌+◌, ◌-◌, ◌≤◌, length};
 ghost use Rattle.field.specs.Walk.{walk};
 ghost use Rattle.sheet.specs.Tree.{none, values_in, enum_in, message_in, items_in, tree_of};
 ghost use Rattle.counts.specs.Declarations.{one as one_of, items_hold, files_hold};

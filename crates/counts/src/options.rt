@@ -1,5 +1,5 @@
 // How many options a request has, and how many parts their names.
-ghost use Rattle.basis.specs.Kit.{◌≡◌, ◌-◌, ◌≤◌, length};
+ghost use Rattle.std.specs.Prelude.{◌≡◌, ◌-◌, ◌≤◌, length};
 ghost use Rattle.field.specs.Walk.{walk};
 ghost use Rattle.request.specs.Name.{parts_in};
 ghost use Rattle.request.specs.Request.{request_of};

@@ -1,6 +1,7 @@
 -- A loop over the scopes that a cursor has still before it: the answer v is what F, a function of scopes, gives of those.
 -- Assumes nothing.
-use Rattle.basis.specs.Kit.{◌≡◌, refl, ap, ◌∙◌, List, [], ◌∷◌, Option, none, some, ℕ, ◌<◌, length}
+use Rattle.std.specs.Prelude.{◌≡◌, refl, List, [], ◌∷◌, ℕ, ◌<◌, length}
+use Rattle.basis.specs.Kit.{ap, ◌∙◌, Option, none, some}
 use Rattle.scope.specs.declared.lookup.LookupScope.{LookupScope}
 use Rattle.cursor.specs.declared.Cursor.{Cursor}
 use Rattle.cursor.specs.declared.Next.{Next}

@@ -5,8 +5,8 @@
 --       file_place i m e ==  the place of the i-th file, whose body is from m up to e
 --
 -- Assumes nothing.
-use Rattle.basis.specs.Kit.{◌≡◌, refl, ap, ◌∙◌, Bool, true, false, List, ◌∷◌, Option, none, some, ℕ, suc, ◌+◌, ◌-◌, ◌*◌, ◌^◌}
-use Rattle.basis.specs.Kit.{◌≤◌, ◌<◌, eqb, length, take, drop}
+use Rattle.std.specs.Prelude.{◌≡◌, refl, Bool, true, false, List, ◌∷◌, ℕ, suc, ◌+◌, ◌-◌, ◌*◌, ◌^◌, ◌≤◌, ◌<◌, eqb, length, take, drop}
+use Rattle.basis.specs.Kit.{ap, ◌∙◌, Option, none, some}
 use Rattle.basis.proofs.Kit.{arith, ne_eqb, not-true, not-false, w64, Fits}
 use native.Mathlib.Nat.{add-zero}
 use Rattle.basis.proofs.Never.{never}

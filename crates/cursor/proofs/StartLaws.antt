@@ -1,6 +1,7 @@
 -- Where the walks of the look-ups by full name start: before all scopes at the path, or at the path before its last name.
 -- Assumes nothing.
-use Rattle.basis.specs.Kit.{◌≡◌, sym, ap, ◌∙◌, List, [], ℕ, ◌-◌, eqb, length, take, drop}
+use Rattle.std.specs.Prelude.{◌≡◌, List, [], ℕ, ◌-◌, eqb, length, take, drop}
+use Rattle.basis.specs.Kit.{sym, ap, ◌∙◌}
 use Rattle.basis.proofs.Kit.{arith}
 use native.Mathlib.Decide.{ℕ_discrete}
 use lib.ListN.{length-take, length-drop}

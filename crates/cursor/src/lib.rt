@@ -2,7 +2,7 @@
 // a place in it where a name starts; past the end there are no names left.
 #![tactic(auto)]
 
-ghost use Rattle.basis.specs.Kit.{◌≡◌, suc, ◌≤◌, length};
+ghost use Rattle.std.specs.Prelude.{◌≡◌, suc, ◌≤◌, length};
 ghost use Rattle.field.specs.Leaf.{on_leaf};
 ghost use Rattle.path.specs.inner.Places.{names_from};
 ghost use Rattle.scope.specs.Scope.{holding};

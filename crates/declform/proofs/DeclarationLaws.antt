@@ -1,7 +1,7 @@
 -- The laws of what a declaration's leaves may hold: the ways through `good_type_path`, `good_shape`,
 -- `good_field`, `is_field`, `is_extension` and `is_value`.
 -- Assumes nothing.
-use Rattle.basis.specs.Kit.{◌≡◌, Bool, true, false, ◌&&◌, List, ℕ}
+use Rattle.std.specs.Prelude.{◌≡◌, Bool, true, false, ◌&&◌, List, ℕ}
 use Rattle.basis.proofs.Kit.{not-true, not-false}
 use Rattle.limits.specs.Figures.{most_number, most_type, most_label}
 use Rattle.octets.specs.Octets.{part}

@@ -10,7 +10,7 @@
 --       is_value s a e <=> an enum value's payload is from a to e
 --
 -- Assumes nothing.
-use Rattle.basis.specs.Kit.{Bool, true, false, ◌&&◌, List, ℕ, leb}
+use Rattle.std.specs.Prelude.{Bool, true, false, ◌&&◌, List, ℕ, leb}
 use Rattle.limits.specs.Figures.{most_number, most_type, most_label}
 use Rattle.ident.specs.Ident.{is_ident}
 use Rattle.path.specs.Path.{is_rel_path}

@@ -1,7 +1,7 @@
 // Extensions, fields and enum values: each leaf holds what 01 allows it.
 #![tactic(auto)]
 
-ghost use Rattle.basis.specs.Kit.{◌≡◌, ◌≤◌, length};
+ghost use Rattle.std.specs.Prelude.{◌≡◌, ◌≤◌, length};
 ghost use Rattle.field.specs.Leaf.{Lies};
 ghost use Rattle.declform.specs.Declarations.{in_range, good_type_path, good_shape, good_field, is_extension, is_field, is_value};
 

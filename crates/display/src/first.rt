@@ -1,5 +1,5 @@
 // Where reading option bytes under a sheet starts.
-ghost use Rattle.basis.specs.Kit.{◌≡◌, ◌≤◌, length};
+ghost use Rattle.std.specs.Prelude.{◌≡◌, ◌≤◌, length};
 ghost use Rattle.limits.specs.Figures.{most_option_bytes};
 ghost use Rattle.levels.specs.inner.Stack.{stack_words};
 ghost use Rattle.display.specs.inner.Waits.{Waits};

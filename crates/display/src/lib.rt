@@ -11,7 +11,7 @@ mod side;
 mod value;
 mod words;
 
-ghost use Rattle.basis.specs.Kit.{◌≡◌, length};
+ghost use Rattle.std.specs.Prelude.{◌≡◌, length};
 ghost use Rattle.levels.specs.inner.Stack.{stack_words};
 
 use first::first_of;

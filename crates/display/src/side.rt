@@ -1,7 +1,7 @@
 // The records of the same option bytes under two sheets, side by side: one is that of the other sheet where place and level are the same.
 // Places rise from record to record, so the older's are read on up to the place of the newer's; those that the newer lacks have a line of
 // their own.
-ghost use Rattle.basis.specs.Kit.{◌≡◌, ◌≤◌, length};
+ghost use Rattle.std.specs.Prelude.{◌≡◌, ◌≤◌, length};
 ghost use Rattle.limits.specs.Figures.{most_option_bytes};
 ghost use Rattle.levels.specs.inner.Stack.{stack_words};
 ghost use Rattle.display.specs.inner.Waits.{Waits};

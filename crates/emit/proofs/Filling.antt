@@ -1,6 +1,7 @@
 -- Words that are put one by one from a place on: the loop of `put_words`.
 -- Assumes nothing.
-use Rattle.basis.specs.Kit.{◌≡◌, refl, ◌∙◌, List, [], ◌∷◌, ℕ, suc, ◌+◌, ◌≤◌, ◌<◌, length, get_or, drop, sets}
+use Rattle.std.specs.Prelude.{◌≡◌, refl, List, [], ◌∷◌, ℕ, suc, ◌+◌, ◌≤◌, ◌<◌, length, get_or, drop}
+use Rattle.basis.specs.Kit.{◌∙◌, sets}
 use Rattle.basis.proofs.Kit.{arith, add-one}
 use native.Mathlib.Nat.{add-zero, add_assoc}
 use lib.ListN.{length-drop}

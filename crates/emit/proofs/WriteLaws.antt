@@ -1,7 +1,8 @@
 -- A loop that writes elements as it goes, and a public call that runs it twice: once over nothing, to measure, and once over the lent
 -- memory. One set of laws for elements of any type.
 -- Assumes nothing.
-use Rattle.basis.specs.Kit.{◌≡◌, refl, sym, ap, ◌∙◌, List, [], ◌∷◌, ◌++◌, ℕ, ◌+◌, ◌≤◌, ◌<◌, length, drop, sets}
+use Rattle.std.specs.Prelude.{◌≡◌, refl, List, [], ◌∷◌, ◌++◌, ℕ, ◌+◌, ◌≤◌, ◌<◌, length, drop}
+use Rattle.basis.specs.Kit.{sym, ap, ◌∙◌, sets}
 use Rattle.basis.proofs.Kit.{arith}
 use mathlib.Core.List.{append-nil}
 use native.Mathlib.Nat.{zero-add, add-zero}

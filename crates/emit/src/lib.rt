@@ -3,7 +3,8 @@
 // NoRoom comes last.
 #![tactic(auto)]
 
-ghost use Rattle.basis.specs.Kit.{◌≡◌, [], ◌∷◌, ◌+◌, ◌^◌, ◌<◌, length, sets};
+ghost use Rattle.std.specs.Prelude.{◌≡◌, [], ◌∷◌, ◌+◌, ◌^◌, ◌<◌, length};
+ghost use Rattle.basis.specs.Kit.{sets};
 ghost use Rattle.reply.specs.Outcome.{give, Answered};
 
 use reply::{Answer, Cause, Refusal};

@@ -1,6 +1,6 @@
 -- What holds of both answers of a test holds of the answer.
 -- Assumes nothing.
-use Rattle.basis.specs.Kit.{Bool, true, false}
+use Rattle.std.specs.Prelude.{Bool, true, false}
 
 pub either : {A : Type 0} (P : A → Type 0) (b : Bool) (x y : A) → P x → P y → P (elim b [ true ↦ x | false ↦ y ])
 either P true x y p q = p

@@ -1,7 +1,7 @@
 -- The record at a place, as the code answers it, is the item of the definition.
 -- Assumes nothing.
-use Rattle.basis.specs.Kit.{◌≡◌, refl, sym, ap, ◌∙◌, Bool, true, false, List, [], ◌∷◌, Option, none, some as is, ℕ, ◌+◌}
-use Rattle.basis.specs.Kit.{eqb, take, drop}
+use Rattle.std.specs.Prelude.{◌≡◌, refl, Bool, true, false, List, [], ◌∷◌, ℕ, ◌+◌, eqb, take, drop}
+use Rattle.basis.specs.Kit.{sym, ap, ◌∙◌, Option, none, some as is}
 use Rattle.basis.proofs.Kit.{arith}
 use Rattle.basis.proofs.Never.{never}
 use mathlib.Core.Path.{subst}

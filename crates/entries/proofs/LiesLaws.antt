@@ -1,6 +1,7 @@
 -- Where the record at a place lies: behind that place and before the end; a known message's path and place in the sheet.
 -- Assumes nothing.
-use Rattle.basis.specs.Kit.{◌≡◌, refl, sym, ap, List, Option, none, some as is, ℕ, ◌+◌, ◌≤◌, ◌<◌, eqb, length}
+use Rattle.std.specs.Prelude.{◌≡◌, refl, List, ℕ, ◌+◌, ◌≤◌, ◌<◌, eqb, length}
+use Rattle.basis.specs.Kit.{sym, ap, Option, none, some as is}
 use Rattle.basis.proofs.Kit.{arith, not-true, not-false}
 use Rattle.limits.specs.Figures.{most_option_bytes}
 use Rattle.reply.specs.declared.Refusal.{Refusal}

@@ -1,6 +1,6 @@
 -- A part of a part of a list.
 -- Assumes nothing.
-use Rattle.basis.specs.Kit.{◌≡◌, List, [], ◌∷◌, ℕ, zero, suc, ◌+◌, ◌-◌, ◌≤◌, length, take, drop}
+use Rattle.std.specs.Prelude.{◌≡◌, List, [], ◌∷◌, ℕ, zero, suc, ◌+◌, ◌-◌, ◌≤◌, length, take, drop}
 use Rattle.basis.proofs.Kit.{arith}
 use lib.Seq.{take-nil, take-take, take-length, drop-drop}
 use Rattle.octets.specs.Octets.{part}

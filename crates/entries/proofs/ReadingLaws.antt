@@ -1,7 +1,7 @@
 -- The records of a level, one after the other: the first is the item at the front, and the others are read where it ends.
 -- Assumes nothing.
-use Rattle.basis.specs.Kit.{◌≡◌, refl, sym, ap, ◌∙◌, List, [], ◌∷◌, Option, none, some as is, ℕ, zero, suc, ◌+◌, ◌-◌, ◌≤◌}
-use Rattle.basis.specs.Kit.{◌<◌, eqb, length, drop}
+use Rattle.std.specs.Prelude.{◌≡◌, refl, List, [], ◌∷◌, ℕ, zero, suc, ◌+◌, ◌-◌, ◌≤◌, ◌<◌, eqb, length, drop}
+use Rattle.basis.specs.Kit.{sym, ap, ◌∙◌, Option, none, some as is}
 use Rattle.basis.proofs.Kit.{arith}
 use mathlib.Core.Path.{subst}
 use native.Mathlib.Nat.{add-zero}

@@ -1,6 +1,7 @@
 -- The laws of the record behind a tag, one for each way through the code: of a number that nothing declares, and of a known one.
 -- Assumes nothing.
-use Rattle.basis.specs.Kit.{◌≡◌, refl, sym, ◌∙◌, true, List, Option, none, some as is, ℕ}
+use Rattle.std.specs.Prelude.{◌≡◌, refl, true, List, ℕ}
+use Rattle.basis.specs.Kit.{sym, ◌∙◌, Option, none, some as is}
 use Rattle.basis.proofs.Kit.{arith, eq-eqb, ne_eqb, Fits}
 use Rattle.basis.proofs.Never.{never}
 use mir.Syntax.{w32}

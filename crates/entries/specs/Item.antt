@@ -12,7 +12,8 @@
 --   item L s m place bs == the record at the front
 --
 -- Assumes nothing.
-use Rattle.basis.specs.Kit.{true, false, List, [], ◌∷◌, Option, none, some as is, ℕ, ◌+◌, eqb, take, drop}
+use Rattle.std.specs.Prelude.{true, false, List, [], ◌∷◌, ℕ, ◌+◌, eqb, take, drop}
+use Rattle.basis.specs.Kit.{Option, none, some as is}
 use Rattle.reply.specs.declared.Refusal.{Refusal}
 use Rattle.reply.specs.declared.Refusal.TheVariants.{BadBytes, WireMismatch}
 use Rattle.field.specs.Leaf.{text}

@@ -10,7 +10,7 @@
 --       records_of L s t bs == the message that the options type t is, with the records of bs under it; or the first fault
 --
 -- Assumes nothing.
-use Rattle.basis.specs.Kit.{List, [], ◌∷◌, ℕ, zero, suc, ◌+◌, ◌-◌, take, drop}
+use Rattle.std.specs.Prelude.{List, [], ◌∷◌, ℕ, zero, suc, ◌+◌, ◌-◌, take, drop}
 use Rattle.limits.specs.Figures.{most_levels}
 use Rattle.reply.specs.declared.Refusal.{Refusal}
 use Rattle.reply.specs.declared.Refusal.TheVariants.{BeyondLimit}

@@ -2,7 +2,7 @@
 // place in the sheet.
 #![tactic(auto)]
 
-ghost use Rattle.basis.specs.Kit.{◌≡◌, true, ◌≤◌, length};
+ghost use Rattle.std.specs.Prelude.{◌≡◌, true, ◌≤◌, length};
 ghost use Rattle.limits.specs.Figures.{most_option_bytes};
 ghost use Rattle.octets.specs.Octets.{part};
 ghost use Rattle.field.specs.Leaf.{Lies};

@@ -1,6 +1,7 @@
 -- The laws of the calls: no reason is found exactly where a sheet is clean, or contained in another; and what a call answers of that.
 -- Assumes nothing.
-use Rattle.basis.specs.Kit.{◌≡◌, refl, sym, ap, ◌∙◌, Bool, true, false, ◌&&◌, List, ℕ, ◌≤◌, ◌<◌, length}
+use Rattle.std.specs.Prelude.{◌≡◌, refl, Bool, true, false, ◌&&◌, List, ℕ, ◌≤◌, ◌<◌, length}
+use Rattle.basis.specs.Kit.{sym, ap, ◌∙◌}
 use Rattle.basis.specs.Count.{once, every}
 use Rattle.basis.proofs.Kit.{lt-ltb, le-ltb}
 use Rattle.field.specs.Leaf.{text, is_text}

@@ -1,7 +1,8 @@
 -- The laws of reasons, whatever is asked: the ways through the functions that look at one declaration, and that what they look at is what the
 -- sheet declares.
 -- Assumes nothing.
-use Rattle.basis.specs.Kit.{◌≡◌, refl, sym, ap, ◌∙◌, List, [], ◌∷◌, map, ℕ}
+use Rattle.std.specs.Prelude.{◌≡◌, refl, List, [], ◌∷◌, map, ℕ}
+use Rattle.basis.specs.Kit.{sym, ap, ◌∙◌}
 use mathlib.Core.Path.{ap₂}
 use Rattle.field.specs.declared.Span.{Span}
 use Rattle.field.specs.Leaf.{span, text}

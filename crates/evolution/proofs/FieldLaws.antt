@@ -1,6 +1,7 @@
 -- The laws of a loop over the fields of a message that looks for the first reason, whatever that is of a declaration.
 -- Assumes nothing.
-use Rattle.basis.specs.Kit.{◌≡◌, refl, sym, ap, ◌∙◌, true, false, List, ◌++◌, ℕ, eqb}
+use Rattle.std.specs.Prelude.{◌≡◌, refl, true, false, List, ◌++◌, ℕ, eqb}
+use Rattle.basis.specs.Kit.{sym, ap, ◌∙◌}
 use Rattle.field.specs.declared.Span.{Span}
 use Rattle.field.specs.Walk.{Walk, done, cut, step, walk}
 use Rattle.field.proofs.Seek.{seek, seek_is, seek-laws}

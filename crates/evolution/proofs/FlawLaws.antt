@@ -1,6 +1,7 @@
 -- The laws of flaws: the ways through the functions that look at one declaration, or at one number.
 -- Assumes nothing.
-use Rattle.basis.specs.Kit.{◌≡◌, refl, sym, ap, ◌∙◌, Bool, true, false, List, ℕ, eqb}
+use Rattle.std.specs.Prelude.{◌≡◌, refl, Bool, true, false, List, ℕ, eqb}
+use Rattle.basis.specs.Kit.{sym, ap, ◌∙◌}
 use Rattle.basis.specs.Count.{once}
 use Rattle.basis.proofs.Kit.{eq-eqb, ne_eqb, not-true, not-false}
 use Rattle.field.specs.declared.Span.{Span}

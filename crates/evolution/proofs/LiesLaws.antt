@@ -1,6 +1,6 @@
 -- Where that lies which a declaration is made of: what is asked of the spans that are read.
 -- Assumes nothing.
-use Rattle.basis.specs.Kit.{◌≡◌, List, ℕ, ◌≤◌, length}
+use Rattle.std.specs.Prelude.{◌≡◌, List, ℕ, ◌≤◌, length}
 use Rattle.basis.proofs.Never.{never}
 use Rattle.field.specs.declared.Span.{Span}
 use Rattle.field.specs.Leaf.{Lies}

@@ -1,7 +1,8 @@
 -- The laws of losses: the ways through the functions that look at one declaration of the older sheet, or at one number. The older is s, the
 -- newer t.
 -- Assumes nothing.
-use Rattle.basis.specs.Kit.{◌≡◌, refl, sym, ap, ◌∙◌, Bool, true, ◌&&◌, List, ℕ, zero, suc, eqb}
+use Rattle.std.specs.Prelude.{◌≡◌, refl, Bool, true, ◌&&◌, List, ℕ, zero, suc, eqb}
+use Rattle.basis.specs.Kit.{sym, ap, ◌∙◌}
 use Rattle.basis.specs.Count.{count, any}
 use Rattle.basis.proofs.Kit.{arith, ne_eqb}
 use Rattle.basis.proofs.CountLaws.{any-count, none-count}

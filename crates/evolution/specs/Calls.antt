@@ -6,7 +6,7 @@
 --   why_unclean, why_uncontained == the first reason against it
 --
 -- Assumes nothing.
-use Rattle.basis.specs.Kit.{List, ℕ, ltb, length}
+use Rattle.std.specs.Prelude.{List, ℕ, ltb, length}
 use Rattle.basis.specs.First.{only_if}
 use Rattle.limits.specs.Figures.{most_sheet}
 use Rattle.reply.specs.declared.Answer.{Answer}

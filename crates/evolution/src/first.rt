@@ -1,5 +1,5 @@
 // The first reason against what is asked of a sheet: one walk over its declarations and their numbers, whatever is asked.
-ghost use Rattle.basis.specs.Kit.{◌≡◌, ◌≤◌, length};
+ghost use Rattle.std.specs.Prelude.{◌≡◌, ◌≤◌, length};
 ghost use Rattle.field.specs.Leaf.{Lies};
 ghost use Rattle.sheet.specs.Table.{field_tag};
 ghost use Rattle.scope.specs.inner.Steps.{declaration_at};

@@ -1,5 +1,5 @@
 // What is not clean about one declaration of a sheet, or about one number that it declares.
-ghost use Rattle.basis.specs.Kit.{◌≡◌};
+ghost use Rattle.std.specs.Prelude.{◌≡◌};
 ghost use Rattle.field.specs.Leaf.{Lies, text};
 ghost use Rattle.names.specs.Clean.{names_one, clean_path};
 ghost use Rattle.reasons.specs.Reasons.{number_flaw};

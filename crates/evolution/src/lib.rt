@@ -5,7 +5,7 @@ mod first;
 mod flaws;
 mod losses;
 
-ghost use Rattle.basis.specs.Kit.{◌≡◌, ◌≤◌, length};
+ghost use Rattle.std.specs.Prelude.{◌≡◌, ◌≤◌, length};
 ghost use Rattle.limits.specs.Figures.{most_sheet};
 ghost use Rattle.evolution.specs.Calls.{clean_answer, contained_answer, why_unclean, why_uncontained};
 ghost use Rattle.evolution.specs.inner.Bearers.{first_reason, why_not};

@@ -1,5 +1,5 @@
 // What a newer sheet has not kept of one declaration of an older one, or of one number that it declares.
-ghost use Rattle.basis.specs.Kit.{◌≡◌};
+ghost use Rattle.std.specs.Prelude.{◌≡◌};
 ghost use Rattle.reasons.specs.Reasons.{number_loss};
 ghost use Rattle.evolution.specs.inner.Bearers.{DeclaredLies, number_for, name_loss, own_loss};
 

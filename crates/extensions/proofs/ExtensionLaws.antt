@@ -6,8 +6,8 @@
 --   Trying v s ps l₀ l i <-> v is what the paths ps from the i-th on come to, and the room l, lent as l₀, holds every candidate
 --
 -- Assumes nothing.
-use Rattle.basis.specs.Kit.{◌≡◌, refl, sym, ap, ◌∙◌, Bool, true, false, List, [], ◌∷◌, ℕ, ◌+◌, ◌-◌, ◌≤◌, ◌<◌, eqb, length, get_or, take}
-use Rattle.basis.specs.Kit.{drop}
+use Rattle.std.specs.Prelude.{◌≡◌, refl, Bool, true, false, List, [], ◌∷◌, ℕ, ◌+◌, ◌-◌, ◌≤◌, ◌<◌, eqb, length, get_or, take, drop}
+use Rattle.basis.specs.Kit.{sym, ap, ◌∙◌}
 use Rattle.basis.proofs.Kit.{arith, add-one, not-true, not-false}
 use lib.ListN.{drop_of_length-le}
 use lib.Seq.{length-take-le, drop-cons, sets-eq, take-append_seam}

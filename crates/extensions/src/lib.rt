@@ -2,7 +2,7 @@
 // is its extendee compared. Everything is a walk over the lent sheet, and code equals definition on every sheet, well-formed or not.
 #![tactic(auto)]
 
-ghost use Rattle.basis.specs.Kit.{◌≡◌, true, ◌≤◌, length};
+ghost use Rattle.std.specs.Prelude.{◌≡◌, true, ◌≤◌, length};
 ghost use Rattle.limits.specs.Figures.{most_candidate};
 ghost use Rattle.path.specs.Path.{components, is_rel_or_empty, is_path};
 ghost use Rattle.basis.specs.First.{first_some};

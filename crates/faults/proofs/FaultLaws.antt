@@ -1,6 +1,6 @@
 -- The ways through `on_last`.
 -- Assumes nothing.
-use Rattle.basis.specs.Kit.{◌≡◌, ℕ}
+use Rattle.std.specs.Prelude.{◌≡◌, ℕ}
 use Rattle.reply.specs.declared.Refusal.{Refusal}
 use Rattle.records.specs.declared.Wrote.{Wrote}
 use Rattle.records.specs.declared.Wrote.TheVariants as wrote

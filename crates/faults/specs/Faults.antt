@@ -4,7 +4,7 @@
 --   cause_at i f == the fault f of the i-th option, as the cause of a refusal
 --
 -- Assumes nothing.
-use Rattle.basis.specs.Kit.{ℕ}
+use Rattle.std.specs.Prelude.{ℕ}
 use Rattle.reply.specs.declared.Refusal.{Refusal}
 use Rattle.reply.specs.declared.Where.TheVariants.{Option}
 use Rattle.reply.specs.declared.Cause.{Cause}

@@ -2,7 +2,7 @@
 // the last part, and the fault of an option the cause of the request's refusal.
 #![tactic(auto)]
 
-ghost use Rattle.basis.specs.Kit.{◌≡◌, ◌≤◌};
+ghost use Rattle.std.specs.Prelude.{◌≡◌, ◌≤◌};
 ghost use Rattle.limits.specs.Figures.{most_options};
 ghost use Rattle.faults.specs.Faults.{cause_at};
 ghost use Rattle.faults.specs.inner.Answering.{stepped_by};

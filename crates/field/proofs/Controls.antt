@@ -1,7 +1,7 @@
 -- Closed cases of the definitions, which the checker computes: whole fields, an empty one and one in the middle; headers and payloads cut;
 -- leaves by tag and by length; lists of fields that end and that are cut.
 -- Assumes nothing.
-use Rattle.basis.specs.Kit.{◌≡◌, refl, Bool, List, [], ◌∷◌, map, ℕ}
+use Rattle.std.specs.Prelude.{◌≡◌, refl, Bool, List, [], ◌∷◌, map, ℕ}
 use Rattle.octets.specs.Octets.{big_at}
 use Rattle.field.specs.declared.Field.TheVariants.{Whole, Cut}
 use Rattle.field.specs.declared.Leaf.{Leaf}

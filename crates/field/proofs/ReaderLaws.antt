@@ -12,7 +12,8 @@
 -- A reader's ruleset is one of the loops' (Rest, Seek, Tally; EachLaws in `form`) with `reads-laws` and the proof of `Reads` for it.
 --
 -- Assumes nothing.
-use Rattle.basis.specs.Kit.{◌≡◌, sym, ◌∙◌, List, ℕ, ◌-◌, ◌≤◌, ◌<◌, length}
+use Rattle.std.specs.Prelude.{◌≡◌, List, ℕ, ◌-◌, ◌≤◌, ◌<◌, length}
+use Rattle.basis.specs.Kit.{sym, ◌∙◌}
 use Rattle.basis.proofs.Kit.{arith}
 use Rattle.field.specs.declared.Field.{Field}
 use Rattle.field.specs.declared.Field.TheVariants.{Whole}

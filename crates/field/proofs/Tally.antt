@@ -17,7 +17,8 @@
 -- `tally-loop` has those of the turns, for any reader; `tally-laws` all that a loop over the fields of `field_at` needs, but its start.
 --
 -- Assumes nothing.
-use Rattle.basis.specs.Kit.{◌≡◌, sym, ◌∙◌, List, ℕ, ◌+◌, ◌-◌, ◌≤◌, ◌<◌, length}
+use Rattle.std.specs.Prelude.{◌≡◌, List, ℕ, ◌+◌, ◌-◌, ◌≤◌, ◌<◌, length}
+use Rattle.basis.specs.Kit.{sym, ◌∙◌}
 use Rattle.basis.proofs.Kit.{arith, w64, Fits}
 use native.Mathlib.Nat.{zero-add, add-zero, add_assoc}
 use mir.Facts.{Fits-le}

@@ -8,7 +8,8 @@
 --   walk-by-holds  walk-holds  what holds of no fields and of a cut, and of a field that lies ahead with what holds from its end on, holds
 --
 -- Assumes nothing.
-use Rattle.basis.specs.Kit.{◌≡◌, refl, ap, ◌∙◌, Bool, true, false, List, ℕ, zero, suc, ◌-◌, ◌≤◌, ◌<◌, ltb}
+use Rattle.std.specs.Prelude.{◌≡◌, refl, Bool, true, false, List, ℕ, zero, suc, ◌-◌, ◌≤◌, ◌<◌, ltb}
+use Rattle.basis.specs.Kit.{ap, ◌∙◌}
 use Rattle.basis.proofs.Kit.{arith, lt-ltb, le-ltb}
 use borrow.Author.Tests.{ltb-true}
 use Rattle.field.specs.declared.Field.{Field}

@@ -4,7 +4,7 @@
 --   field_at s at end == the field whose header starts at `at`, whole before `end`
 --
 -- Assumes nothing.
-use Rattle.basis.specs.Kit.{true, false, List, ℕ, ◌+◌, ltb, get_or}
+use Rattle.std.specs.Prelude.{true, false, List, ℕ, ◌+◌, ltb, get_or}
 use Rattle.octets.specs.Octets.{big_at}
 use Rattle.field.specs.declared.Field.{Field}
 use Rattle.field.specs.declared.Field.TheVariants.{Whole, Cut}

@@ -11,7 +11,7 @@
 --       on_leaf none l some ==  `some` of a leaf's two places, `none` where there is no leaf
 --
 -- Assumes nothing.
-use Rattle.basis.specs.Kit.{Bool, true, ◌&&◌, List, ℕ, ◌≤◌, eqb, length}
+use Rattle.std.specs.Prelude.{Bool, true, ◌&&◌, List, ℕ, ◌≤◌, eqb, length}
 use Rattle.basis.specs.First.{only_if}
 use Rattle.octets.specs.Octets.{part, same_bytes}
 use Rattle.field.specs.declared.Field.{Field}

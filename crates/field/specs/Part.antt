@@ -7,7 +7,7 @@
 --             span_in t p ==  the two places of the span, where it is one of the bytes t
 --
 -- Assumes nothing.
-use Rattle.basis.specs.Kit.{◌≡◌, ◌&&◌, List, ℕ, ◌+◌, leb, length}
+use Rattle.std.specs.Prelude.{◌≡◌, ◌&&◌, List, ℕ, ◌+◌, leb, length}
 use Rattle.basis.specs.First.{only_if}
 use Rattle.field.specs.declared.Span.{Span}
 use Rattle.field.specs.declared.Leaf.{Leaf}

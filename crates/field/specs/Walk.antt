@@ -9,7 +9,7 @@
 --                  tags_in w == the tags of the fields, in order
 --
 -- Assumes nothing.
-use Rattle.basis.specs.Kit.{true, false, List, [], ◌∷◌, ℕ, zero, suc, ◌-◌, ltb}
+use Rattle.std.specs.Prelude.{true, false, List, [], ◌∷◌, ℕ, zero, suc, ◌-◌, ltb}
 use Rattle.field.specs.declared.Field.{Field}
 use Rattle.field.specs.declared.Field.TheVariants.{Whole, Cut}
 use Rattle.field.specs.Field.{field_at}

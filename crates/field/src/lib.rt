@@ -3,7 +3,7 @@
 
 pub mod part;
 
-ghost use Rattle.basis.specs.Kit.{◌≡◌, ◌≤◌, length};
+ghost use Rattle.std.specs.Prelude.{◌≡◌, ◌≤◌, length};
 ghost use Rattle.field.specs.Field.{field_at};
 ghost use Rattle.field.specs.Leaf.{leaf_at, any_bytes, of_size};
 

@@ -1,5 +1,5 @@
 // Parts of lent bytes that are handed back: a span of the bytes, and no bytes.
-ghost use Rattle.basis.specs.Kit.{◌≡◌};
+ghost use Rattle.std.specs.Prelude.{◌≡◌};
 ghost use Rattle.field.specs.Part.{PartOf, no_bytes, span_in};
 
 use crate::{Leaf, Span};

@@ -1,7 +1,8 @@
 -- The laws of `finding_tested`: the first fault of the sheet's length, the scope and the path, and else what the search finds; what is
 -- known of the scope and the path that it is given; and that of a sheet of the right form the whole test says no more than its length's.
 -- Assumes nothing.
-use Rattle.basis.specs.Kit.{◌≡◌, sym, ap, ◌∙◌, true, List, ℕ}
+use Rattle.std.specs.Prelude.{◌≡◌, true, List, ℕ}
+use Rattle.basis.specs.Kit.{sym, ap, ◌∙◌}
 use Rattle.path.specs.Path.{is_rel_or_empty, is_path}
 use Rattle.reply.specs.declared.Refusal.{Refusal}
 use Rattle.reply.specs.declared.Refusal.TheVariants.{BadRequest}

@@ -1,6 +1,7 @@
 -- What `find` answers, each statement below its sentence. `s` is the sheet, `c` the scope, `p` the path; what is fine has passed the form.
 -- Assumes nothing.
-use Rattle.basis.specs.Kit.{◌≡◌, refl, sym, ap, ◌∙◌, true, List, ℕ}
+use Rattle.std.specs.Prelude.{◌≡◌, refl, true, List, ℕ}
+use Rattle.basis.specs.Kit.{sym, ap, ◌∙◌}
 use Rattle.basis.proofs.Never.{never}
 use Rattle.path.specs.Path.{Path, is_path}
 use Rattle.candidates.specs.Candidates.{candidates}

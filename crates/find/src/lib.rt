@@ -1,7 +1,7 @@
 // The public search: of a sheet, a scope and a path, the extension that the path finds there.
 #![tactic(auto)]
 
-ghost use Rattle.basis.specs.Kit.{◌≡◌, ◌-◌};
+ghost use Rattle.std.specs.Prelude.{◌≡◌, ◌-◌};
 ghost use Rattle.reply.specs.Outcome.{Answered, give};
 ghost use Rattle.field.specs.Part.{PartOf};
 ghost use Rattle.find.specs.Find.{finding, finding_tested, words_of, find_words, find_tested, name_span, name_span_for};

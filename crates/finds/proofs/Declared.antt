@@ -5,7 +5,8 @@
 --      Single s <-> no two of all that the sheet declares share a full name
 --
 -- Assumes nothing.
-use Rattle.basis.specs.Kit.{◌≡◌, refl, sym, ap, ◌∙◌, Bool, true, ◌&&◌, List, [], ◌∷◌, ◌++◌, Option, none, some, ℕ, ◌≤◌}
+use Rattle.std.specs.Prelude.{◌≡◌, refl, Bool, true, ◌&&◌, List, [], ◌∷◌, ◌++◌, ℕ, ◌≤◌}
+use Rattle.basis.specs.Kit.{sym, ap, ◌∙◌, Option, none, some}
 use Rattle.basis.proofs.Kit.{arith}
 use lib.ListN.{get_elem?}
 use mathlib.Core.Bool.{true≢false}

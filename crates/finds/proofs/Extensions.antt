@@ -4,7 +4,8 @@
 --   extension_borne b == the extension that bears the full name, where it is one
 --
 -- Assumes nothing.
-use Rattle.basis.specs.Kit.{◌≡◌, refl, sym, ap, ◌∙◌, List, [], ◌∷◌, ◌++◌, Option, none, some, ℕ, ◌+◌}
+use Rattle.std.specs.Prelude.{◌≡◌, refl, List, [], ◌∷◌, ◌++◌, ℕ, ◌+◌}
+use Rattle.basis.specs.Kit.{sym, ap, ◌∙◌, Option, none, some}
 use mathlib.Core.Path.{ap₂}
 use Rattle.basis.specs.First.{onto, collect}
 use Rattle.field.specs.Leaf.{text}

@@ -5,7 +5,8 @@
 --   Stands s i fs b <-> b is among what one of the files fs declares, the first of which is the i-th
 --
 -- Assumes nothing.
-use Rattle.basis.specs.Kit.{◌≡◌, refl, ap, Bool, true, List, [], ◌∷◌, some, ℕ, zero, suc, ◌+◌, ◌≤◌}
+use Rattle.std.specs.Prelude.{◌≡◌, refl, Bool, true, List, [], ◌∷◌, ℕ, zero, suc, ◌+◌, ◌≤◌}
+use Rattle.basis.specs.Kit.{ap, some}
 use Rattle.basis.proofs.Kit.{arith}
 use lib.ListN.{get_elem?}
 use Rattle.basis.proofs.Never.{never}

@@ -1,7 +1,8 @@
 -- In a sheet that is fine, and in which no two share a full name, a full name is found exactly if it is declared, and then it is that
 -- declaration. The statements stand at the end.
 -- Assumes nothing.
-use Rattle.basis.specs.Kit.{◌≡◌, refl, sym, ap, ◌∙◌, true, List, [], ◌∷◌, ◌++◌, Option, none, some, ℕ}
+use Rattle.std.specs.Prelude.{◌≡◌, refl, true, List, [], ◌∷◌, ◌++◌, ℕ}
+use Rattle.basis.specs.Kit.{sym, ap, ◌∙◌, Option, none, some}
 use Rattle.basis.proofs.Never.{never}
 use Rattle.basis.specs.First.{first_some, collect}
 use Rattle.basis.specs.Among.{Among}

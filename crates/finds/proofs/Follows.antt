@@ -5,7 +5,8 @@
 --            Alone s f c <-> no two of all that the scope c declares at every depth share a full name, f standing before them
 --
 -- Assumes nothing.
-use Rattle.basis.specs.Kit.{◌≡◌, refl, sym, ap, ◌∙◌, Bool, List, [], ◌∷◌, ◌++◌, Option, none, some, ℕ}
+use Rattle.std.specs.Prelude.{◌≡◌, refl, Bool, List, [], ◌∷◌, ◌++◌, ℕ}
+use Rattle.basis.specs.Kit.{sym, ap, ◌∙◌, Option, none, some}
 use Rattle.basis.specs.First.{first}
 use Rattle.basis.specs.Among.{Among}
 use Rattle.basis.proofs.AmongLaws.{behind-among}

@@ -4,7 +4,8 @@
 --   Located s b <-> b stands in a file; the package and the names that lead to it in the file are the components of its full name
 --
 -- Assumes nothing.
-use Rattle.basis.specs.Kit.{◌≡◌, refl, sym, ap, ◌∙◌, true, ◌&&◌, List, [], ◌∷◌, ◌++◌, some, ℕ, zero, suc}
+use Rattle.std.specs.Prelude.{◌≡◌, refl, true, ◌&&◌, List, [], ◌∷◌, ◌++◌, ℕ, zero, suc}
+use Rattle.basis.specs.Kit.{sym, ap, ◌∙◌, some}
 use Rattle.basis.proofs.Kit.{arith}
 use lib.ListN.{get_elem?}
 use mathlib.Core.Bool.{and-eq-true_iff}

@@ -5,7 +5,7 @@
 --   Placed s f c b <-> names lead from the scope c to one that itself declares b; f, these names and its own are the full name of b
 --
 -- Assumes nothing.
-use Rattle.basis.specs.Kit.{◌≡◌, refl, true, ◌&&◌, List, [], ◌∷◌, ◌++◌, ℕ}
+use Rattle.std.specs.Prelude.{◌≡◌, refl, true, ◌&&◌, List, [], ◌∷◌, ◌++◌, ℕ}
 use mathlib.Core.Bool.{and-eq-true_iff}
 use Rattle.basis.specs.Among.{Among, here, there}
 use Rattle.basis.proofs.AmongLaws.{among-nil, among-append-cases}

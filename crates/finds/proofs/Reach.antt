@@ -7,7 +7,7 @@
 --    Under s f c b <-> b is among what the scope c declares at every depth, f standing before the full names
 --
 -- Assumes nothing.
-use Rattle.basis.specs.Kit.{◌≡◌, List, [], ◌∷◌, ◌++◌, ℕ}
+use Rattle.std.specs.Prelude.{◌≡◌, List, [], ◌∷◌, ◌++◌, ℕ}
 use Rattle.basis.specs.Among.{Among, here, there}
 use Rattle.basis.proofs.AmongLaws.{among-nil, among-append-left, among-append-right}
 use Rattle.field.specs.Leaf.{text}

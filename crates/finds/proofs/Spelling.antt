@@ -3,7 +3,8 @@
 --   front_of f ns == what stands in a full name before the name of what the message holds that the names ns lead to, f standing before ns
 --
 -- Assumes nothing.
-use Rattle.basis.specs.Kit.{◌≡◌, refl, sym, ap, ◌∙◌, true, List, [], ◌∷◌, ◌++◌, ℕ}
+use Rattle.std.specs.Prelude.{◌≡◌, refl, true, List, [], ◌∷◌, ◌++◌, ℕ}
+use Rattle.basis.specs.Kit.{sym, ap, ◌∙◌}
 use Rattle.basis.proofs.Never.{never}
 use mathlib.Core.List.{append_assoc}
 use Rattle.path.specs.Path.{Name, Path, dot, components, spell, all_ident, parent}

@@ -1,7 +1,8 @@
 -- Closed cases of the record that declarations lead to, which the checker computes. Of singular fields Encoding says, under "Last One
 -- Wins", that the last value counts, and of messages that their records are merged: that is what `joins` says of a declaration.
 -- Assumes nothing.
-use Rattle.basis.specs.Kit.{◌≡◌, refl, true, List, [], ◌∷◌, Option, none, some, ℕ}
+use Rattle.std.specs.Prelude.{◌≡◌, refl, true, List, [], ◌∷◌, ℕ}
+use Rattle.basis.specs.Kit.{Option, none, some}
 use Rattle.field.specs.Leaf.{span}
 use Rattle.sheet.specs.declared.declaration.Declaration.{Declaration}
 use Rattle.sheet.specs.declared.declaration.Declared.{Declared}

@@ -11,7 +11,8 @@
 --   reached joins l ds t ==  the row that the declarations ds lead to, t standing at the level l
 --
 -- Assumes nothing.
-use Rattle.basis.specs.Kit.{Bool, true, false, List, [], ◌∷◌, Option, none, some, ℕ, suc, eqb}
+use Rattle.std.specs.Prelude.{Bool, true, false, List, [], ◌∷◌, ℕ, suc, eqb}
+use Rattle.basis.specs.Kit.{Option, none, some}
 use Rattle.sheet.specs.declared.declaration.Declaration.{Declaration}
 use Rattle.sheet.specs.declared.declaration.Declared.{Declared}
 use Rattle.sheet.specs.declared.declaration.Declared.TheVariants.{Declares, NoDeclaration}

@@ -1,7 +1,7 @@
 // Rows followed by the parts of a name: what a row does to the row that was found last.
 #![tactic(auto)]
 
-ghost use Rattle.basis.specs.Kit.{◌≡◌, ◌*◌, ◌≤◌, length};
+ghost use Rattle.std.specs.Prelude.{◌≡◌, ◌*◌, ◌≤◌, length};
 ghost use Rattle.following.specs.inner.Keys.{key_words};
 ghost use Rattle.following.specs.inner.Following.{is_at, step_of};
 

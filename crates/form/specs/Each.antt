@@ -5,7 +5,7 @@
 --   each_from bad f n w == likewise, by f index tag from to, the first of them having the index n
 --
 -- Assumes nothing.
-use Rattle.basis.specs.Kit.{ℕ, ◌+◌}
+use Rattle.std.specs.Prelude.{ℕ, ◌+◌}
 use Rattle.reply.specs.declared.Refusal.{Refusal}
 use Rattle.reply.specs.declared.Verdict.{Verdict}
 use Rattle.reply.specs.declared.Verdict.TheVariants.{Fine, Refused}

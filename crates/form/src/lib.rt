@@ -1,7 +1,7 @@
 // Fields that hold one name: of one tag, with an identifier or a path as their payload.
 #![tactic(auto)]
 
-ghost use Rattle.basis.specs.Kit.{◌≡◌, ◌≤◌, length};
+ghost use Rattle.std.specs.Prelude.{◌≡◌, ◌≤◌, length};
 ghost use Rattle.field.specs.Leaf.{leaf_at};
 ghost use Rattle.ident.specs.Ident.{is_ident};
 ghost use Rattle.path.specs.Path.{is_rel_path, is_rel_or_empty};

@@ -1,8 +1,8 @@
 -- The laws of the look-ups by full name: the ways through `next_message`, `next_enum`, `find_message_by_abs_name`, `enum_in`,
 -- `only_enum` and `find_enum_by_abs_name`.
 -- Assumes nothing.
-use Rattle.basis.specs.Kit.{◌≡◌, refl, sym, ap, ◌∙◌, Bool, true, false, List, [], ◌∷◌, Option, none, some, ℕ, suc, ◌-◌, ◌<◌, eqb}
-use Rattle.basis.specs.Kit.{length, take}
+use Rattle.std.specs.Prelude.{◌≡◌, refl, Bool, true, false, List, [], ◌∷◌, ℕ, suc, ◌-◌, ◌<◌, eqb, length, take}
+use Rattle.basis.specs.Kit.{sym, ap, ◌∙◌, Option, none, some}
 use Rattle.basis.proofs.Kit.{arith}
 use Rattle.octets.specs.Octets.{part}
 use Rattle.field.specs.declared.Leaf.{Leaf}

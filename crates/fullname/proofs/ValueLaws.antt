@@ -1,7 +1,8 @@
 -- The laws of values by their names, and of the ways through `value_named_at` and `value_named`. A value's name is the first leaf of its
 -- payload, as a declaration's is.
 -- Assumes nothing.
-use Rattle.basis.specs.Kit.{◌≡◌, refl, sym, ◌∙◌, Bool, true, false, List, none, some, ℕ, eqb}
+use Rattle.std.specs.Prelude.{◌≡◌, refl, Bool, true, false, List, ℕ, eqb}
+use Rattle.basis.specs.Kit.{sym, ◌∙◌, none, some}
 use Rattle.basis.proofs.Kit.{ne_eqb}
 use Rattle.basis.proofs.Never.{never}
 use Rattle.octets.specs.Octets.{same_bytes, big_at}

@@ -6,7 +6,8 @@
 --   looked_up, looked_up_enum == the one that there is; of none MessageNotFound, of more than one MessageFoundMoreThanOnce
 --
 -- Assumes nothing.
-use Rattle.basis.specs.Kit.{List, [], ◌∷◌, Option, none, some, ℕ}
+use Rattle.std.specs.Prelude.{List, [], ◌∷◌, ℕ}
+use Rattle.basis.specs.Kit.{Option, none, some}
 use Rattle.reply.specs.declared.Refusal.TheVariants.{MessageNotFound, MessageFoundMoreThanOnce}
 use Rattle.path.specs.Path.{Path, parent, last}
 use Rattle.sheet.specs.Members.{Enumeration}

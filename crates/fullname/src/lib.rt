@@ -2,7 +2,7 @@
 // the rest is read. Everything is a walk over the lent sheet, and code equals definition on every sheet, well-formed or not.
 #![tactic(auto)]
 
-ghost use Rattle.basis.specs.Kit.{◌≡◌, [], ◌∷◌, ◌≤◌, length};
+ghost use Rattle.std.specs.Prelude.{◌≡◌, [], ◌∷◌, ◌≤◌, length};
 ghost use Rattle.basis.specs.First.{collect};
 ghost use Rattle.field.specs.Leaf.{Lies};
 ghost use Rattle.field.specs.Walk.{walk};

@@ -1,7 +1,7 @@
 -- Closed cases of the definitions, which the checker computes: of each range its two ends and what stands beside them; texts in either
 -- case, with blanks and line ends anywhere, empty, ended within a byte, and with a character that is no digit.
 -- Assumes nothing.
-use Rattle.basis.specs.Kit.{◌≡◌, refl, List, [], ◌∷◌, map, ℕ}
+use Rattle.std.specs.Prelude.{◌≡◌, refl, List, [], ◌∷◌, map, ℕ}
 use Rattle.octets.specs.Ascii.{ascii}
 use Rattle.hexadecimal.specs.Digits.{blank, other, digit_of, Spelled, bytes, no_digit, half_byte, unhex}
 

@@ -1,6 +1,6 @@
 -- The ways through `digit_of`: a byte within one of three ranges, a blank or a line end, any other.
 -- Assumes nothing.
-use Rattle.basis.specs.Kit.{◌≡◌, true, false, ◌&&◌, ◌||◌, ℕ, ◌+◌, ◌-◌, ◌≤◌, eqb, leb}
+use Rattle.std.specs.Prelude.{◌≡◌, true, false, ◌&&◌, ◌||◌, ℕ, ◌+◌, ◌-◌, ◌≤◌, eqb, leb}
 use Rattle.basis.proofs.Kit.{arith}
 use denote.Floats.{passes}
 use lib.Dec.{T, leb→le}

@@ -1,6 +1,7 @@
 -- Digits as they are printed, and that they read back as their numbers.
 -- Assumes nothing.
-use Rattle.basis.specs.Kit.{◌≡◌, sym, ap, ◌∙◌, true, false, ◌&&◌, ℕ, ◌+◌, ◌-◌, ◌≤◌, ◌<◌, leb}
+use Rattle.std.specs.Prelude.{◌≡◌, true, false, ◌&&◌, ℕ, ◌+◌, ◌-◌, ◌≤◌, ◌<◌, leb}
+use Rattle.basis.specs.Kit.{sym, ap, ◌∙◌}
 use Rattle.basis.proofs.Kit.{arith, lt-ltb, le-ltb}
 use native.Mathlib.Decide.{dec_lt}
 use borrow.Author.Tests.{le-leb, lt-leb}

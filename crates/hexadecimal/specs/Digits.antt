@@ -10,7 +10,8 @@
 --   Decodes t l l' r <-> r is what the text t comes to, and where it spells bytes they are laid over l, which is l' then
 --
 -- Assumes nothing.
-use Rattle.basis.specs.Kit.{◌≡◌, true, false, ◌&&◌, ◌||◌, List, [], ◌∷◌, ℕ, suc, ◌+◌, ◌-◌, ◌*◌, eqb, ltb, leb, length, sets}
+use Rattle.std.specs.Prelude.{◌≡◌, true, false, ◌&&◌, ◌||◌, List, [], ◌∷◌, ℕ, suc, ◌+◌, ◌-◌, ◌*◌, eqb, ltb, leb, length}
+use Rattle.basis.specs.Kit.{sets}
 use Rattle.hexadecimal.specs.declared.digits.Decoded.{Decoded}
 use Rattle.hexadecimal.specs.declared.digits.Decoded.TheVariants.{Bytes, NoDigit, HalfByte}
 

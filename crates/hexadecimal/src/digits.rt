@@ -1,5 +1,5 @@
 // Hexadecimal text, two digits a byte, either case; blanks and line ends are passed over.
-ghost use Rattle.basis.specs.Kit.{◌≡◌, ◌≤◌, ◌<◌};
+ghost use Rattle.std.specs.Prelude.{◌≡◌, ◌≤◌, ◌<◌};
 ghost use Rattle.hexadecimal.specs.Digits.{other, digit_of, glyph_of, Decodes};
 
 // What a text comes to.

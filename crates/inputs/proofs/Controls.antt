@@ -1,6 +1,6 @@
 -- Closed cases of the definitions, which the checker computes: what stands where a field is due.
 -- Assumes nothing.
-use Rattle.basis.specs.Kit.{◌≡◌, refl, List, [], ◌∷◌, ℕ}
+use Rattle.std.specs.Prelude.{◌≡◌, refl, List, [], ◌∷◌, ℕ}
 use Rattle.octets.specs.Octets.{big_at}
 use Rattle.field.specs.Field.{field_at}
 use Rattle.inputs.specs.declared.due.Due.TheVariants.{Here, Other, CutShort, Ended}

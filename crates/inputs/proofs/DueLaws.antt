@@ -1,6 +1,7 @@
 -- The ways through `due_at` and `due_leaf`, and that the field which is due is the leaf of its tag.
 -- Assumes nothing.
-use Rattle.basis.specs.Kit.{◌≡◌, refl, ap, Bool, true, false, ◌&&◌, List, ℕ, eqb, length}
+use Rattle.std.specs.Prelude.{◌≡◌, refl, Bool, true, false, ◌&&◌, List, ℕ, eqb, length}
+use Rattle.basis.specs.Kit.{ap}
 use Rattle.basis.proofs.Kit.{arith, eq-eqb, ne_eqb}
 use borrow.Author.Tests.{eqb-true}
 use Rattle.field.specs.declared.Field.{Field}

@@ -1,6 +1,7 @@
 -- A buffer that is filled by a rule, element by element: the loops of `words_of` and `signed_words_of`, for elements of any type.
 -- Assumes nothing.
-use Rattle.basis.specs.Kit.{◌≡◌, refl, ap, ◌∙◌, List, ℕ, ◌+◌, ◌*◌, ◌/◌, ◌≤◌, ◌<◌, length, get_or, take}
+use Rattle.std.specs.Prelude.{◌≡◌, refl, List, ℕ, ◌+◌, ◌*◌, ◌/◌, ◌≤◌, ◌<◌, length, get_or, take}
+use Rattle.basis.specs.Kit.{ap, ◌∙◌}
 use Rattle.basis.proofs.Kit.{arith, Fits}
 use Prim.Native.Nat.{min}
 use native.Mathlib.Decide.{dec_lt}

@@ -1,5 +1,5 @@
 // The field that is due at a place of the input, or why it is not there.
-ghost use Rattle.basis.specs.Kit.{◌≡◌, ◌≤◌, length};
+ghost use Rattle.std.specs.Prelude.{◌≡◌, ◌≤◌, length};
 ghost use Rattle.inputs.specs.inner.Due.{due_at, due_leaf};
 
 use field::{Field, Leaf};

@@ -1,6 +1,5 @@
 // Words of 4 bytes, the highest first, as a payload has them.
-ghost use Rattle.basis.specs.Kit.{◌≡◌, ◌*◌, ◌/◌, length};
-ghost use Rattle.std.specs.Prelude.{min, pos};
+ghost use Rattle.std.specs.Prelude.{◌≡◌, ◌*◌, ◌/◌, length, min, pos};
 ghost use Rattle.std.specs.Int.{w32};
 ghost use Rattle.std.proofs.Common.{to_z};
 ghost use Rattle.octets.specs.Octets.{big_at};

@@ -1,7 +1,8 @@
 -- What is answered of a verdict in a room is what a public call's contract asks: the ways through `answer_in`, and the answers of whoever
 -- writes only where there is room.
 -- Assumes nothing.
-use Rattle.basis.specs.Kit.{◌≡◌, refl, sym, ap, ◌∙◌, Bool, true, false, List, ◌++◌, ℕ, ◌≤◌, ◌<◌, ltb, length, take, drop, sets}
+use Rattle.std.specs.Prelude.{◌≡◌, refl, Bool, true, false, List, ◌++◌, ℕ, ◌≤◌, ◌<◌, ltb, length, take, drop}
+use Rattle.basis.specs.Kit.{sym, ap, ◌∙◌, sets}
 use Rattle.basis.proofs.Kit.{arith, lt-ltb, le-ltb}
 use mathlib.Core.List.{append-nil}
 use native.Mathlib.Decide.{dec_lt}

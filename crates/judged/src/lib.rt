@@ -2,7 +2,7 @@
 // of a verdict in a room, so that NoRoom comes only when all else has passed.
 #![tactic(auto)]
 
-ghost use Rattle.basis.specs.Kit.{◌≡◌};
+ghost use Rattle.std.specs.Prelude.{◌≡◌};
 ghost use Rattle.judged.specs.inner.Answering.{answer_in};
 
 use reply::{Answer, Cause, Refusal};

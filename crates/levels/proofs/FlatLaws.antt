@@ -1,6 +1,7 @@
 -- Outcomes in a row, and the rows of records that are put together.
 -- Assumes nothing.
-use Rattle.basis.specs.Kit.{◌≡◌, refl, sym, ap, List, [], ◌∷◌, ℕ, suc}
+use Rattle.std.specs.Prelude.{◌≡◌, refl, List, [], ◌∷◌, ℕ, suc}
+use Rattle.basis.specs.Kit.{sym, ap}
 use mathlib.Core.List.{append-nil}
 use Rattle.reply.specs.Outcome.{Outcome, refused as refused_for, nothing, give, push}
 use Rattle.reply.proofs.Outcomes.{push-push}

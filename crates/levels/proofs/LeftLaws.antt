@@ -1,7 +1,8 @@
 -- What is left to read after each step of the machine, whatever looks up: behind a level that has ended, behind a record, inside a message,
 -- at a fault, and at a message that lies too deep.
 -- Assumes nothing.
-use Rattle.basis.specs.Kit.{◌≡◌, refl, sym, ap, ◌∙◌, List, [], ◌∷◌, ℕ, zero, suc, ◌+◌, ◌-◌, ◌*◌, ◌≤◌, ◌<◌, length, take, drop, sets}
+use Rattle.std.specs.Prelude.{◌≡◌, refl, List, [], ◌∷◌, ℕ, zero, suc, ◌+◌, ◌-◌, ◌*◌, ◌≤◌, ◌<◌, length, take, drop}
+use Rattle.basis.specs.Kit.{sym, ap, ◌∙◌, sets}
 use Rattle.basis.proofs.Kit.{arith, ne_eqb}
 use mathlib.Core.Path.{ap₂}
 use Rattle.limits.specs.Figures.{most_levels}

@@ -1,6 +1,7 @@
 -- The ways through `front_in`, `step_in` and `next`.
 -- Assumes nothing.
-use Rattle.basis.specs.Kit.{◌≡◌, refl, sym, ◌∙◌, List, [], ◌∷◌, ℕ, suc, ◌+◌, ◌-◌, ◌*◌, ◌≤◌, ◌<◌, length, sets}
+use Rattle.std.specs.Prelude.{◌≡◌, refl, List, [], ◌∷◌, ℕ, suc, ◌+◌, ◌-◌, ◌*◌, ◌≤◌, ◌<◌, length}
+use Rattle.basis.specs.Kit.{sym, ◌∙◌, sets}
 use Rattle.basis.proofs.Kit.{arith, add-one, Fits}
 use Rattle.basis.proofs.Never.{never}
 use mathlib.Core.Path.{subst}

@@ -1,7 +1,8 @@
 -- Which levels are open: those that end at a place are closed, and the others stay; a level stays open behind a record, and another is
 -- opened inside it.
 -- Assumes nothing.
-use Rattle.basis.specs.Kit.{◌≡◌, List, ℕ, zero, suc, ◌-◌, ◌*◌, ◌≤◌, ◌<◌, length, get_or, sets}
+use Rattle.std.specs.Prelude.{◌≡◌, List, ℕ, zero, suc, ◌-◌, ◌*◌, ◌≤◌, ◌<◌, length, get_or}
+use Rattle.basis.specs.Kit.{sets}
 use Rattle.basis.proofs.Kit.{arith}
 use mathlib.Core.Path.{subst}
 use native.Mathlib.Numerals.{sub-one}

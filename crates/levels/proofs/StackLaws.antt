@@ -1,7 +1,8 @@
 -- The stack as words: how its words are laid, a level that was written is read again, and those below it stay.
 -- Assumes nothing.
-use Rattle.basis.specs.Kit.{◌≡◌, refl, sym, ap, ◌∙◌, Bool, true, false, List, [], ◌∷◌, ℕ}
-use Rattle.basis.specs.Kit.{◌+◌, ◌*◌, ◌≤◌, ◌<◌, length, get_or, eqb, sets}
+use Rattle.std.specs.Prelude.{◌≡◌, refl, Bool, true, false, List, [], ◌∷◌, ℕ, ◌+◌, ◌*◌, ◌≤◌, ◌<◌, length, get_or, eqb}
+use Rattle.basis.specs.Kit.{sym, ap, ◌∙◌}
+use Rattle.basis.specs.Kit.{sets}
 use Rattle.basis.proofs.Kit.{arith}
 use mathlib.Core.Bool.{not}
 use native.Mathlib.Nat.{add-zero}

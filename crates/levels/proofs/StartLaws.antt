@@ -1,6 +1,7 @@
 -- Option bytes at their start: what is open and left once the outermost level is.
 -- Assumes nothing.
-use Rattle.basis.specs.Kit.{◌≡◌, refl, ap, ◌∙◌, List, ℕ, ◌*◌, ◌≤◌, length, sets}
+use Rattle.std.specs.Prelude.{◌≡◌, refl, List, ℕ, ◌*◌, ◌≤◌, length}
+use Rattle.basis.specs.Kit.{ap, ◌∙◌, sets}
 use Rattle.basis.proofs.Kit.{arith}
 use lib.Seq.{length-sets}
 use Rattle.limits.specs.Figures.{most_option_bytes, most_levels}

@@ -2,7 +2,8 @@
 // and answers it as a row, with where to go on. Whoever reads option bytes goes through it; nothing recurses over bytes.
 #![tactic(auto)]
 
-ghost use Rattle.basis.specs.Kit.{◌≡◌, suc, ◌+◌, ◌*◌, ◌≤◌, ◌<◌, length, sets};
+ghost use Rattle.std.specs.Prelude.{◌≡◌, suc, ◌+◌, ◌*◌, ◌≤◌, ◌<◌, length};
+ghost use Rattle.basis.specs.Kit.{sets};
 ghost use Rattle.limits.specs.Figures.{most_option_bytes, most_levels};
 ghost use Rattle.field.specs.Leaf.{Lies};
 ghost use Rattle.octets.specs.Octets.{part};

@@ -1,6 +1,6 @@
 -- The ways through the functions that tell whether a declaration is like another one.
 -- Assumes nothing.
-use Rattle.basis.specs.Kit.{◌≡◌, refl, Bool, true, false, ◌&&◌, List, ℕ, eqb}
+use Rattle.std.specs.Prelude.{◌≡◌, refl, Bool, true, false, ◌&&◌, List, ℕ, eqb}
 use Rattle.basis.specs.First.{only_if}
 use Rattle.basis.proofs.Kit.{eq-eqb, ne_eqb, not-true, not-false}
 use Rattle.octets.specs.Octets.{same_bytes}

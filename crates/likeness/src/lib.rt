@@ -1,7 +1,7 @@
 // Whether a declaration of a sheet is like another one, and for the message asked for.
 #![tactic(auto)]
 
-ghost use Rattle.basis.specs.Kit.{◌≡◌, ◌&&◌, ◌≤◌, eqb};
+ghost use Rattle.std.specs.Prelude.{◌≡◌, ◌&&◌, ◌≤◌, eqb};
 ghost use Rattle.octets.specs.Octets.{same_bytes};
 ghost use Rattle.field.specs.Leaf.{Lies, text};
 ghost use Rattle.sheet.specs.Declaration.{extension_at, message_field_at};

@@ -1,7 +1,7 @@
 -- Closed cases of the whole call `list`, which the checker computes: the first fault of each input in its order, then the look-up of the
 -- options type, the words of the records, and room last.
 -- Assumes nothing.
-use Rattle.basis.specs.Kit.{◌≡◌, refl, List, [], ◌∷◌, ◌++◌, map, ℕ}
+use Rattle.std.specs.Prelude.{◌≡◌, refl, List, [], ◌∷◌, ◌++◌, map, ℕ}
 use lib.ListN.{replicate}
 use Prim.Native.String.{String}
 use Rattle.octets.specs.Octets.{big_at, same_bytes}

@@ -1,6 +1,7 @@
 -- Rows that are counted and then written: the ways through `put_all_rows`, `count_words` and `list_over`.
 -- Assumes nothing.
-use Rattle.basis.specs.Kit.{◌≡◌, refl, sym, ap, ◌∙◌, List, ℕ, ◌*◌, ◌≤◌, ◌<◌, length}
+use Rattle.std.specs.Prelude.{◌≡◌, refl, List, ℕ, ◌*◌, ◌≤◌, ◌<◌, length}
+use Rattle.basis.specs.Kit.{sym, ap, ◌∙◌}
 use Rattle.basis.proofs.Kit.{arith, Fits}
 use native.Mathlib.Nat.{zero-add}
 use mir.Syntax.{w32}

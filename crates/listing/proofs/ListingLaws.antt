@@ -1,7 +1,8 @@
 -- The laws of `options_message`, `list_tested` and `list`: the first fault of the inputs, the message that the options type is, and that
 -- the words of its rows are the listing; and that of a sheet of the right form the whole test says no more than its length's.
 -- Assumes nothing.
-use Rattle.basis.specs.Kit.{◌≡◌, refl, sym, ap, ◌∙◌, List, ℕ, ◌≤◌, length}
+use Rattle.std.specs.Prelude.{◌≡◌, refl, List, ℕ, ◌≤◌, length}
+use Rattle.basis.specs.Kit.{sym, ap, ◌∙◌}
 use borrow.Author.Tests.{leb-true}
 use Rattle.limits.specs.Figures.{most_option_bytes, most_levels}
 use Rattle.reply.specs.declared.Refusal.{Refusal}

@@ -8,7 +8,7 @@
 --   listing_tested s type bs == what `list_tested` comes to, where of the sheet the length alone is judged
 --
 -- Assumes nothing.
-use Rattle.basis.specs.Kit.{List, ℕ}
+use Rattle.std.specs.Prelude.{List, ℕ}
 use Rattle.reply.specs.declared.Verdict.{Verdict}
 use Rattle.reply.specs.Verdicts.{first_fault}
 use Rattle.reply.specs.Outcome.{Outcome, refuse, unless, give}

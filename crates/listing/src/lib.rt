@@ -2,7 +2,7 @@
 // and then written over the lent memory, so that a refusal writes nothing and NoRoom comes last.
 #![tactic(auto)]
 
-ghost use Rattle.basis.specs.Kit.{◌≡◌, ◌*◌, ◌≤◌, length};
+ghost use Rattle.std.specs.Prelude.{◌≡◌, ◌*◌, ◌≤◌, length};
 ghost use Rattle.limits.specs.Figures.{most_option_bytes, most_levels};
 ghost use Rattle.reply.specs.Outcome.{Answered};
 ghost use Rattle.sheetform.specs.Form.{judge_length};

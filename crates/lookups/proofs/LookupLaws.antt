@@ -1,7 +1,8 @@
 -- Where that lies which a look-up of the option steps finds: a message, the type path of a field or of an extension, the values of an enum
 -- are places of the sheet. They are for whoever reads the sheet at what was found.
 -- Assumes nothing.
-use Rattle.basis.specs.Kit.{◌≡◌, List, some, ℕ, ◌≤◌, length}
+use Rattle.std.specs.Prelude.{◌≡◌, List, ℕ, ◌≤◌, length}
+use Rattle.basis.specs.Kit.{some}
 use Rattle.field.specs.declared.Span.{Span}
 use Rattle.field.specs.Leaf.{Lies}
 use Rattle.path.specs.Path.{components}

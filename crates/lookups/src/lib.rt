@@ -1,7 +1,7 @@
 // What is asked of a sheet: a message, an enum, an extension, a field, a value. Nothing above this crate calls the search.
 #![tactic(auto)]
 
-ghost use Rattle.basis.specs.Kit.{◌≡◌, true};
+ghost use Rattle.std.specs.Prelude.{◌≡◌, true};
 ghost use Rattle.field.specs.Leaf.{text, Lies};
 ghost use Rattle.path.specs.Path.{is_rel_or_empty, is_path};
 ghost use Rattle.scope.specs.inner.Answers.{InSheet, declared, valued};

@@ -1,7 +1,8 @@
 -- What the tree of a fine enum, a fine message and of what a fine file or message holds is like: every leaf is what 01 allows, and nothing
 -- is left out.
 -- Assumes nothing.
-use Rattle.basis.specs.Kit.{◌≡◌, sym, ap, ◌∙◌, Bool, true, List, ℕ, suc, ◌<◌, length}
+use Rattle.std.specs.Prelude.{◌≡◌, Bool, true, List, ℕ, suc, ◌<◌, length}
+use Rattle.basis.specs.Kit.{sym, ap, ◌∙◌}
 use Rattle.ident.specs.Ident.{is_ident}
 use Rattle.reply.specs.declared.Refusal.TheVariants.{BadSheet}
 use Rattle.reply.specs.declared.Verdict.TheVariants.{Fine}

@@ -1,6 +1,7 @@
 -- The laws of enums and messages: the ways through `check_value`, `check_enum`, `check_item`, `check_message` and `check_items`.
 -- Assumes nothing.
-use Rattle.basis.specs.Kit.{◌≡◌, refl, sym, ◌∙◌, Bool, true, false, List, ℕ, zero, suc, ◌-◌, ◌≤◌, length}
+use Rattle.std.specs.Prelude.{◌≡◌, refl, Bool, true, false, List, ℕ, zero, suc, ◌-◌, ◌≤◌, length}
+use Rattle.basis.specs.Kit.{sym, ◌∙◌}
 use Rattle.basis.proofs.Kit.{arith, eq-eqb, ne_eqb, not-true, not-false}
 use Rattle.ident.specs.Ident.{is_ident}
 use Rattle.reply.specs.declared.Refusal.TheVariants.{BadSheet}

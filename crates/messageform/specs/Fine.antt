@@ -5,7 +5,7 @@
 --        item_tags i ==  the tags of the items, in order
 --
 -- Assumes nothing.
-use Rattle.basis.specs.Kit.{Bool, true, ◌&&◌, List, [], ◌∷◌, ℕ}
+use Rattle.std.specs.Prelude.{Bool, true, ◌&&◌, List, [], ◌∷◌, ℕ}
 use Rattle.ident.specs.Ident.{is_ident}
 use Rattle.path.specs.Path.{is_rel_path}
 use Rattle.field.specs.Leaf.{text}

@@ -9,7 +9,7 @@
 --        judge_items d fields s a e == what a file holds after its package, or a message after its name, with d levels left
 --
 -- Assumes nothing.
-use Rattle.basis.specs.Kit.{Bool, true, false, List, ℕ, zero, suc, eqb}
+use Rattle.std.specs.Prelude.{Bool, true, false, List, ℕ, zero, suc, eqb}
 use Rattle.ident.specs.Ident.{is_ident}
 use Rattle.reply.specs.declared.Refusal.TheVariants.{BadSheet}
 use Rattle.reply.specs.declared.Verdict.{Verdict}

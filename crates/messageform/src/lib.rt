@@ -1,7 +1,7 @@
 // Enums, messages, and what a file or a message holds. Only nested messages recurse: siblings are a loop.
 #![tactic(auto)]
 
-ghost use Rattle.basis.specs.Kit.{◌≡◌, ◌≤◌, length};
+ghost use Rattle.std.specs.Prelude.{◌≡◌, ◌≤◌, length};
 ghost use Rattle.messageform.specs.Form.{judge_value, judge_enum, judge_item, judge_message, judge_items};
 
 use declform::{is_extension, is_field, is_value};

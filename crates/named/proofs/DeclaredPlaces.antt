@@ -5,7 +5,8 @@
 --   Ordered d <-> name, extendee and type path of the declaration end no earlier than they start
 --
 -- Assumes nothing.
-use Rattle.basis.specs.Kit.{◌≡◌, sym, ◌∙◌, Bool, true, false, List, [], some, ℕ, ◌≤◌, eqb, length}
+use Rattle.std.specs.Prelude.{◌≡◌, Bool, true, false, List, [], ℕ, ◌≤◌, eqb, length}
+use Rattle.basis.specs.Kit.{sym, ◌∙◌, some}
 use Rattle.sheet.specs.declared.declaration.Declaration.{Declaration}
 use Rattle.sheet.specs.declared.declaration.Declared.{Declared}
 use Rattle.sheet.specs.declared.declaration.Declared.TheVariants.{Declares}

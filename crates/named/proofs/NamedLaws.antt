@@ -6,7 +6,8 @@
 --   declaration_where good k s t a e ==  the declaration that a field of a scope is, where it passes the test
 --
 -- Assumes nothing.
-use Rattle.basis.specs.Kit.{◌≡◌, refl, sym, ◌∙◌, Bool, true, false, List, [], ◌++◌, Option, none, some, ℕ, eqb}
+use Rattle.std.specs.Prelude.{◌≡◌, refl, Bool, true, false, List, [], ◌++◌, ℕ, eqb}
+use Rattle.basis.specs.Kit.{sym, ◌∙◌, Option, none, some}
 use Rattle.basis.proofs.Kit.{eq-eqb, ne_eqb}
 use borrow.Author.Tests.{eqb-true, eqb-false}
 use Rattle.basis.proofs.Never.{never}

@@ -1,7 +1,7 @@
 // The first declaration of a name in a scope, and whose extension it is. Names are compared before the rest is read.
 #![tactic(auto)]
 
-ghost use Rattle.basis.specs.Kit.{◌≡◌, ◌≤◌, length};
+ghost use Rattle.std.specs.Prelude.{◌≡◌, ◌≤◌, length};
 ghost use Rattle.field.specs.Leaf.{is_text, Lies};
 ghost use Rattle.sheet.specs.declared.declaration.Declared.TheVariants.{NoDeclaration};
 ghost use Rattle.scope.specs.Scope.{holding, declaration_named, extends as extends_of};

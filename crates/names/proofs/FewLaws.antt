@@ -1,6 +1,7 @@
 -- A sheet declares fewer messages, enums and extensions than it has bytes.
 -- Assumes nothing.
-use Rattle.basis.specs.Kit.{◌≡◌, refl, sym, List, ◌∷◌, ◌++◌, ℕ, zero, suc, ◌+◌, ◌-◌, ◌≤◌, ◌<◌, length}
+use Rattle.std.specs.Prelude.{◌≡◌, refl, List, ◌∷◌, ◌++◌, ℕ, zero, suc, ◌+◌, ◌-◌, ◌≤◌, ◌<◌, length}
+use Rattle.basis.specs.Kit.{sym}
 use Rattle.basis.proofs.Kit.{arith}
 use lib.ListN.{length-append}
 use Rattle.limits.specs.Figures.{most_messages}

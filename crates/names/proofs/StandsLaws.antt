@@ -3,7 +3,8 @@
 --   Stands s w <-> it is so of w
 --
 -- Assumes nothing.
-use Rattle.basis.specs.Kit.{◌≡◌, refl, sym, List, ℕ, zero, suc, ◌+◌, ◌-◌, ◌≤◌, length}
+use Rattle.std.specs.Prelude.{◌≡◌, refl, List, ℕ, zero, suc, ◌+◌, ◌-◌, ◌≤◌, length}
+use Rattle.basis.specs.Kit.{sym}
 use mathlib.Core.Path.{subst}
 use Rattle.basis.proofs.Kit.{arith}
 use Rattle.basis.proofs.FirstLaws.{Every, none_of, one_of, every_append}

@@ -15,7 +15,7 @@
 --             clean s <=> it holds of all that the sheet declares
 --
 -- Assumes nothing.
-use Rattle.basis.specs.Kit.{Bool, true, ◌&&◌, List, [], map, ℕ, eqb}
+use Rattle.std.specs.Prelude.{Bool, true, ◌&&◌, List, [], map, ℕ, eqb}
 use Rattle.basis.specs.First.{only_if}
 use Rattle.basis.specs.Count.{once, every}
 use Rattle.octets.specs.Octets.{same_bytes}

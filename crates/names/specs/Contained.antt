@@ -11,7 +11,7 @@
 --      contained s t <=> they hold of all that the older declares
 --
 -- Assumes nothing.
-use Rattle.basis.specs.Kit.{Bool, true, ◌&&◌, List, ℕ, eqb}
+use Rattle.std.specs.Prelude.{Bool, true, ◌&&◌, List, ℕ, eqb}
 use Rattle.basis.specs.Count.{any, every}
 use Rattle.octets.specs.Octets.{same_bytes}
 use Rattle.field.specs.Leaf.{text}

@@ -13,7 +13,7 @@
 --            bears t b <=> its full name is the text t
 --
 -- Assumes nothing.
-use Rattle.basis.specs.Kit.{Bool, ◌||◌, List, [], ◌∷◌, ◌++◌, ℕ, ◌+◌, eqb}
+use Rattle.std.specs.Prelude.{Bool, ◌||◌, List, [], ◌∷◌, ◌++◌, ℕ, ◌+◌, eqb}
 use Rattle.octets.specs.Octets.{same_bytes}
 use Rattle.field.specs.Leaf.{text}
 use Rattle.path.specs.Path.{dot}

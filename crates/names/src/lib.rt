@@ -2,7 +2,7 @@
 // a full name leads another one.
 #![tactic(auto)]
 
-ghost use Rattle.basis.specs.Kit.{◌≡◌, ◌≤◌, length};
+ghost use Rattle.std.specs.Prelude.{◌≡◌, ◌≤◌, length};
 ghost use Rattle.names.specs.inner.Leads.{leads_at};
 
 use octets::same;

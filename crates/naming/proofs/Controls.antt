@@ -1,7 +1,7 @@
 -- Closed cases of a name's declarations, which the checker computes: parts that all have one, parts left on a group, and a part that is
 -- refused, where 02's [9] has it, by hand: counted from 0 and from the front, and of no option. `query` has more of them, in whole calls.
 -- Assumes nothing.
-use Rattle.basis.specs.Kit.{◌≡◌, refl, List, [], ◌∷◌, ◌++◌, map, ℕ, length}
+use Rattle.std.specs.Prelude.{◌≡◌, refl, List, [], ◌∷◌, ◌++◌, map, ℕ, length}
 use Prim.Native.String.{String}
 use Rattle.octets.specs.Octets.{big_at, same_bytes}
 use Rattle.octets.specs.Ascii.{ascii}

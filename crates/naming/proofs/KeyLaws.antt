@@ -1,6 +1,7 @@
 -- Keys in lent memory: one noted, and those before it.
 -- Assumes nothing.
-use Rattle.basis.specs.Kit.{◌≡◌, refl, ap, ◌∙◌, Bool, true, false, List, [], ◌∷◌, ℕ, zero, suc, ◌+◌, ◌*◌, ◌≤◌, ◌<◌, eqb, get_or, length, sets}
+use Rattle.std.specs.Prelude.{◌≡◌, refl, Bool, true, false, List, [], ◌∷◌, ℕ, zero, suc, ◌+◌, ◌*◌, ◌≤◌, ◌<◌, eqb, get_or, length}
+use Rattle.basis.specs.Kit.{ap, ◌∙◌, sets}
 use Rattle.basis.specs.First.{only_if}
 use Rattle.basis.proofs.Kit.{arith, add-one}
 use mathlib.Core.Bool.{not}

@@ -4,8 +4,9 @@
 --   EnteredOn s h at p x <-> the inside that was reached from a field of the shape h, whose part ends at a place
 --
 -- Assumes nothing.
-use Rattle.basis.specs.Kit.{◌≡◌, refl, sym, ap, ◌∙◌, Bool, true, false, List, [], ◌∷◌, map, ℕ, suc, ◌+◌, ◌-◌, ◌*◌, ◌≤◌, ◌<◌}
-use Rattle.basis.specs.Kit.{eqb, length, sets}
+use Rattle.std.specs.Prelude.{◌≡◌, refl, Bool, true, false, List, [], ◌∷◌, map, ℕ, suc, ◌+◌, ◌-◌, ◌*◌, ◌≤◌, ◌<◌, eqb, length}
+use Rattle.basis.specs.Kit.{sym, ap, ◌∙◌}
+use Rattle.basis.specs.Kit.{sets}
 use Rattle.basis.specs.First.{only_if}
 use Rattle.basis.proofs.Kit.{arith, add-one, Fits}
 use Rattle.basis.proofs.Never.{never as nothing_left}

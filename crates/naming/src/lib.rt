@@ -1,7 +1,8 @@
 // The parts of a name as declarations, no option byte being read: of each its place in the sheet, and whether its records are joined.
 #![tactic(auto)]
 
-ghost use Rattle.basis.specs.Kit.{◌≡◌, ◌+◌, ◌*◌, ◌≤◌, [], ◌∷◌, length, sets};
+ghost use Rattle.std.specs.Prelude.{◌≡◌, ◌+◌, ◌*◌, ◌≤◌, [], ◌∷◌, length};
+ghost use Rattle.basis.specs.Kit.{sets};
 ghost use Rattle.basis.specs.First.{only_if};
 ghost use Rattle.field.specs.Leaf.{Lies};
 ghost use Rattle.field.specs.Walk.{walk};

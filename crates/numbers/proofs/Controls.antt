@@ -1,6 +1,6 @@
 -- Closed cases of the declaration of a number, which the checker computes.
 -- Assumes nothing.
-use Rattle.basis.specs.Kit.{◌≡◌, refl, [], ◌∷◌, map}
+use Rattle.std.specs.Prelude.{◌≡◌, refl, [], ◌∷◌, map}
 use Rattle.scope.proofs.Sample.{sheet, file, name_m, name_n, in_m, in_n, declares}
 use Rattle.numbers.specs.Number.{declaration_of}
 

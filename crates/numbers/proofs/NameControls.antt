@@ -1,6 +1,7 @@
 -- Closed cases of the declaration of a number at the message of a full name, which the checker computes.
 -- Assumes nothing.
-use Rattle.basis.specs.Kit.{◌≡◌, refl, List, [], ◌∷◌, ◌++◌, map, Option, none, some, ℕ}
+use Rattle.std.specs.Prelude.{◌≡◌, refl, List, [], ◌∷◌, ◌++◌, map, ℕ}
+use Rattle.basis.specs.Kit.{Option, none, some}
 use Prim.Native.String.{String}
 use Rattle.octets.specs.Octets.{big_at, same_bytes}
 use Rattle.octets.specs.Ascii.{ascii}

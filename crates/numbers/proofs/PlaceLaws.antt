@@ -1,6 +1,7 @@
 -- Where a declaration of a number lies: its spans are of the sheet, and in order.
 -- Assumes nothing.
-use Rattle.basis.specs.Kit.{◌≡◌, List, Option, none, some, ℕ, length}
+use Rattle.std.specs.Prelude.{◌≡◌, List, ℕ, length}
+use Rattle.basis.specs.Kit.{Option, none, some}
 use Rattle.sheet.specs.declared.declaration.Declaration.{Declaration}
 use Rattle.sheet.specs.declared.declaration.Declared.{Declared}
 use Rattle.sheet.specs.declared.declaration.Declared.TheVariants.{Declares}

@@ -1,7 +1,8 @@
 -- The laws of the test that a declaration's number takes before the rest of it is read: the ways through `says_number`, `extension_says`
 -- and `field_says`, and that what they refuse is no declaration of the number.
 -- Assumes nothing.
-use Rattle.basis.specs.Kit.{◌≡◌, refl, sym, ◌∙◌, Bool, true, false, List, ℕ, eqb, get_or}
+use Rattle.std.specs.Prelude.{◌≡◌, refl, Bool, true, false, List, ℕ, eqb, get_or}
+use Rattle.basis.specs.Kit.{sym, ◌∙◌}
 use Rattle.basis.proofs.Kit.{ne_eqb}
 use Rattle.basis.proofs.Never.{never}
 use Rattle.octets.specs.Octets.{big_at}

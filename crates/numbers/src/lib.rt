@@ -1,7 +1,7 @@
 // The declaration of a number at a message: the message's fields first, then the sheet's extensions of it in the order of the bytes.
 #![tactic(auto)]
 
-ghost use Rattle.basis.specs.Kit.{◌≡◌, ◌≤◌, length};
+ghost use Rattle.std.specs.Prelude.{◌≡◌, ◌≤◌, length};
 ghost use Rattle.field.specs.Leaf.{Lies};
 ghost use Rattle.field.specs.Walk.{walk};
 ghost use Rattle.sheet.specs.declared.declaration.Declared.TheVariants.{NoDeclaration};

@@ -1,6 +1,7 @@
 -- Closed cases of the definitions, which the checker computes: of each rule one that holds, one at the limit, one refused just past it.
 -- Assumes nothing.
-use Rattle.basis.specs.Kit.{◌≡◌, refl, List, [], ◌∷◌, map, none, some, ℕ}
+use Rattle.std.specs.Prelude.{◌≡◌, refl, List, [], ◌∷◌, map, ℕ}
+use Rattle.basis.specs.Kit.{none, some}
 use lib.ListN.{replicate}
 use Rattle.reply.specs.declared.Refusal.TheVariants.{BadRequest, BeyondLimit}
 use Rattle.reply.specs.Outcome.{refuse, give}

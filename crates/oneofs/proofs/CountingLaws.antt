@@ -1,6 +1,7 @@
 -- Real oneofs: the loop of `count_reals`, which has counted them among the first i words.
 -- Assumes nothing.
-use Rattle.basis.specs.Kit.{◌≡◌, sym, ap, ◌∙◌, List, ◌∷◌, ℕ, ◌+◌, ◌≤◌, ◌<◌, eqb, length, get_or, drop}
+use Rattle.std.specs.Prelude.{◌≡◌, List, ◌∷◌, ℕ, ◌+◌, ◌≤◌, ◌<◌, eqb, length, get_or, drop}
+use Rattle.basis.specs.Kit.{sym, ap, ◌∙◌}
 use Rattle.basis.specs.First.{only_if}
 use Rattle.basis.proofs.Kit.{arith, add-one, eq-eqb, ne_eqb}
 use lib.ListN.{drop_of_length-le}

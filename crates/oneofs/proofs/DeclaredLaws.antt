@@ -1,6 +1,7 @@
 -- In order of declaration the words of the groups are those of 01's lowering.
 -- Assumes nothing.
-use Rattle.basis.specs.Kit.{◌≡◌, refl, ap, ◌∙◌, Bool, true, false, List, [], ◌∷◌, none, some, ℕ, suc, ◌+◌, eqb, ltb, length}
+use Rattle.std.specs.Prelude.{◌≡◌, refl, Bool, true, false, List, [], ◌∷◌, ℕ, suc, ◌+◌, eqb, ltb, length}
+use Rattle.basis.specs.Kit.{ap, ◌∙◌, none, some}
 use Rattle.basis.proofs.Kit.{arith, ne_eqb}
 use Rattle.limits.specs.Figures.{most_words}
 use Rattle.reply.specs.declared.Refusal.TheVariants.{BadRequest, BeyondLimit}

@@ -3,7 +3,8 @@
 --   Short o n <-> the outcome o is a refusal, or gives n elements or fewer
 --
 -- Assumes nothing.
-use Rattle.basis.specs.Kit.{◌≡◌, refl, ap, ◌∙◌, Bool, true, false, List, [], ◌∷◌, none, some, ℕ, suc, ◌≤◌, ◌<◌, eqb, length}
+use Rattle.std.specs.Prelude.{◌≡◌, refl, Bool, true, false, List, [], ◌∷◌, ℕ, suc, ◌≤◌, ◌<◌, eqb, length}
+use Rattle.basis.specs.Kit.{ap, ◌∙◌, none, some}
 use Rattle.basis.proofs.Kit.{arith, lt-ltb, le-ltb, Fits}
 use Rattle.basis.proofs.CountLaws.{count-few}
 use Rattle.basis.proofs.Never.{never}

@@ -3,7 +3,8 @@
 --   words numbering reals r s member ws == the words of the fields ws after r real and s synthetic oneofs
 --
 -- Assumes nothing.
-use Rattle.basis.specs.Kit.{◌≡◌, refl, sym, List, [], ◌∷◌, map, none, some, ℕ, suc, ◌+◌}
+use Rattle.std.specs.Prelude.{◌≡◌, refl, List, [], ◌∷◌, map, ℕ, suc, ◌+◌}
+use Rattle.basis.specs.Kit.{sym, none, some}
 use Rattle.basis.proofs.Kit.{arith, add-one, eq-eqb, ne_eqb}
 use Rattle.basis.proofs.Never.{never}
 use Rattle.reply.specs.declared.Refusal.TheVariants.{BadRequest}

@@ -5,7 +5,8 @@
 --          Grows numbering reals r s <-> how the indices after r real and s synthetic oneofs go on
 --
 -- Assumes nothing.
-use Rattle.basis.specs.Kit.{◌≡◌, refl, sym, Bool, true, false, ℕ, suc, ◌+◌, ◌≤◌, eqb}
+use Rattle.std.specs.Prelude.{◌≡◌, refl, Bool, true, false, ℕ, suc, ◌+◌, ◌≤◌, eqb}
+use Rattle.basis.specs.Kit.{sym}
 use Rattle.basis.proofs.Kit.{arith, eq-eqb, ne_eqb}
 use borrow.Author.Tests.{eqb-true, eqb-false}
 use Rattle.oneofs.specs.Fields.{Kind, real, synthetic, Oneof, oneof, declared, index_of}

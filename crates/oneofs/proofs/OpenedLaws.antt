@@ -8,7 +8,8 @@
 --                       AllOf P o <-> P holds of each oneof that a field of the outcome o belongs to
 --
 -- Assumes nothing.
-use Rattle.basis.specs.Kit.{◌≡◌, refl, Bool, true, false, List, [], ◌∷◌, none, some, ℕ, zero, suc, ◌+◌, ◌≤◌, eqb, length}
+use Rattle.std.specs.Prelude.{◌≡◌, refl, Bool, true, false, List, [], ◌∷◌, ℕ, zero, suc, ◌+◌, ◌≤◌, eqb, length}
+use Rattle.basis.specs.Kit.{none, some}
 use Rattle.basis.specs.Among.{Among, here, there, Ordered, next}
 use Rattle.basis.specs.Count.{count}
 use Rattle.basis.proofs.Kit.{arith, ne_eqb}

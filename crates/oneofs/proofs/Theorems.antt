@@ -2,7 +2,8 @@
 -- in Among.antt of `basis`. `ws` is a list of fields, any words; a numbering is any number where nothing else is said, though
 -- `lower_fields_by` takes none above `synthetic_last`.
 -- Assumes nothing.
-use Rattle.basis.specs.Kit.{◌≡◌, List, none, some, ℕ, ◌≤◌, ◌<◌, length, get_or}
+use Rattle.std.specs.Prelude.{◌≡◌, List, ℕ, ◌≤◌, ◌<◌, length, get_or}
+use Rattle.basis.specs.Kit.{none, some}
 use Rattle.basis.specs.Among.{Among, Ordered}
 use Rattle.basis.specs.Count.{count}
 use Rattle.basis.proofs.Kit.{arith}

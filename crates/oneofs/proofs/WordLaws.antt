@@ -1,7 +1,7 @@
 -- The words of one list of fields in either numbering: what they are made of, and that they are refused alike.
 -- Assumes nothing.
-use Rattle.basis.specs.Kit.{◌≡◌, refl, sym, ap, ◌∙◌, Bool, true, false, List, [], ◌∷◌, map, none, some, ℕ, zero, suc, ◌≤◌}
-use Rattle.basis.specs.Kit.{ltb, length, get_or}
+use Rattle.std.specs.Prelude.{◌≡◌, refl, Bool, true, false, List, [], ◌∷◌, map, ℕ, zero, suc, ◌≤◌, ltb, length, get_or}
+use Rattle.basis.specs.Kit.{sym, ap, ◌∙◌, none, some}
 use Rattle.basis.specs.Among.{Among, here, there}
 use Rattle.basis.proofs.Kit.{arith, le-ltb}
 use Rattle.basis.proofs.Never.{never}

@@ -5,7 +5,8 @@
 --   Numbering numbering reals ws l l' next-real next-synthetic member n i <-> the first i words are read, and n written over l, now l'
 --
 -- Assumes nothing.
-use Rattle.basis.specs.Kit.{◌≡◌, refl, sym, ap, ◌∙◌, List, [], ◌∷◌, none, some, ℕ, suc, ◌+◌, ◌≤◌, ◌<◌, length, get_or, drop, sets}
+use Rattle.std.specs.Prelude.{◌≡◌, refl, List, [], ◌∷◌, ℕ, suc, ◌+◌, ◌≤◌, ◌<◌, length, get_or, drop}
+use Rattle.basis.specs.Kit.{sym, ap, ◌∙◌, none, some, sets}
 use Rattle.basis.proofs.Kit.{arith, add-one}
 use lib.ListN.{drop_of_length-le}
 use Rattle.limits.specs.Figures.{most_words}

@@ -23,7 +23,8 @@
 --                    Alike o q <-> o and q are one refusal, or give as many words
 --
 -- Assumes nothing.
-use Rattle.basis.specs.Kit.{◌≡◌, Bool, true, false, List, [], ◌∷◌, map, Option, none, some, ℕ, suc, ◌+◌, eqb, ltb, length}
+use Rattle.std.specs.Prelude.{◌≡◌, Bool, true, false, List, [], ◌∷◌, map, ℕ, suc, ◌+◌, eqb, ltb, length}
+use Rattle.basis.specs.Kit.{Option, none, some}
 use Rattle.basis.specs.Count.{count}
 use Rattle.limits.specs.Figures.{most_words}
 use Rattle.reply.specs.declared.Cause.{Cause}

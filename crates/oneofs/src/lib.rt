@@ -2,7 +2,7 @@
 // which finds a wrong word and the length, and then over the lent memory, so that a refusal writes nothing and NoRoom comes last.
 #![tactic(auto)]
 
-ghost use Rattle.basis.specs.Kit.{◌≡◌, ◌≤◌, length};
+ghost use Rattle.std.specs.Prelude.{◌≡◌, ◌≤◌, length};
 ghost use Rattle.limits.specs.Figures.{most_words};
 ghost use Rattle.reply.specs.Outcome.{Answered};
 ghost use Rattle.oneofs.specs.Fields.{real, synthetic, oneof, groups, real_count, index_of, numbered};

@@ -1,6 +1,7 @@
 -- The answer of a test of form is that of the verdict that the test has to give.
 -- Assumes nothing.
-use Rattle.basis.specs.Kit.{◌≡◌, ◌∙◌, ap, ℕ}
+use Rattle.std.specs.Prelude.{◌≡◌, ℕ}
+use Rattle.basis.specs.Kit.{◌∙◌, ap}
 use Rattle.reply.specs.declared.Verdict.{Verdict}
 use Rattle.reply.specs.declared.Answer.{Answer}
 use Rattle.reply.specs.Verdicts.{answer_for, Says}

@@ -3,7 +3,7 @@
 // asks nothing: NULL with a count of 0 is a slice of none.
 #![tactic(auto)]
 
-ghost use Rattle.basis.specs.Kit.{◌≡◌};
+ghost use Rattle.std.specs.Prelude.{◌≡◌};
 ghost use Rattle.reply.specs.Outcome.{Answered};
 ghost use Rattle.reply.specs.Verdicts.{answer_for};
 ghost use Rattle.sheetform.specs.Form.{judge_sheet};

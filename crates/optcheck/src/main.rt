@@ -2,7 +2,7 @@
 // several cases, each answered in its turn. On 0 it says what it read.
 #![tactic(auto)]
 
-ghost use Rattle.basis.specs.Kit.{◌≤◌, length};
+ghost use Rattle.std.specs.Prelude.{◌≤◌, length};
 
 use console::input::{Input, MOST_BYTES};
 use console::output::{number, text};

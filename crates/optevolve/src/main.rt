@@ -8,7 +8,7 @@
 mod compared;
 mod lowered;
 
-ghost use Rattle.basis.specs.Kit.{◌≤◌, length};
+ghost use Rattle.std.specs.Prelude.{◌≤◌, length};
 
 use compared::tell_evolution;
 use console::input::{Input, MOST_BYTES, field_of};

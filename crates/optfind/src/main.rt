@@ -2,7 +2,7 @@
 // turn. On 0 it says which extension the path finds.
 #![tactic(auto)]
 
-ghost use Rattle.basis.specs.Kit.{◌≤◌, length};
+ghost use Rattle.std.specs.Prelude.{◌≤◌, length};
 
 use console::input::{Input, MOST_BYTES, field_of};
 use console::output::{number, text};

@@ -1,6 +1,7 @@
 -- Options and names: the ways through `check_parts`, `check_last` and `check_option`.
 -- Assumes nothing.
-use Rattle.basis.specs.Kit.{◌≡◌, refl, sym, Bool, true, false, List, ℕ, zero, suc, ◌+◌, ◌-◌, ◌≤◌, ◌<◌, eqb, length}
+use Rattle.std.specs.Prelude.{◌≡◌, refl, Bool, true, false, List, ℕ, zero, suc, ◌+◌, ◌-◌, ◌≤◌, ◌<◌, eqb, length}
+use Rattle.basis.specs.Kit.{sym}
 use Rattle.basis.proofs.Kit.{arith, eq-eqb, ne_eqb, lt-ltb, le-ltb, not-true, not-false}
 use native.Mathlib.Decide.{dec_lt}
 use Rattle.basis.proofs.Never.{never}

@@ -1,7 +1,8 @@
 -- The walk over the parts of a fine name: from one part to the next, and on to what follows them. `after` is what holds there: of an option
 -- its constant, of a name alone that it ends.
 -- Assumes nothing.
-use Rattle.basis.specs.Kit.{◌≡◌, sym, ap, ◌∙◌, true, false, List, ℕ, ◌≤◌, length}
+use Rattle.std.specs.Prelude.{◌≡◌, true, false, List, ℕ, ◌≤◌, length}
+use Rattle.basis.specs.Kit.{sym, ap, ◌∙◌}
 use Rattle.basis.proofs.Kit.{arith}
 use mathlib.Core.Path.{subst}
 use mathlib.Core.Bool.{and-eq-true_iff}

@@ -4,7 +4,7 @@
 --   good_option s o <=> an option has 1 to 16 good parts and one good constant
 --
 -- Assumes nothing.
-use Rattle.basis.specs.Kit.{Bool, true, ◌&&◌, List, [], ◌∷◌, ℕ, eqb, leb, length}
+use Rattle.std.specs.Prelude.{Bool, true, ◌&&◌, List, [], ◌∷◌, ℕ, eqb, leb, length}
 use Rattle.limits.specs.Figures.{most_parts}
 use Rattle.field.specs.Leaf.{text}
 use Rattle.request.specs.declared.name.Part.{Part}

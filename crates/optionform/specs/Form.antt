@@ -9,7 +9,7 @@
 --    judge_option s i t a e == one field of a request after its heading, the i-th, counted from 0
 --
 -- Assumes nothing.
-use Rattle.basis.specs.Kit.{true, false, List, ℕ, ◌+◌, eqb, ltb}
+use Rattle.std.specs.Prelude.{true, false, List, ℕ, ◌+◌, eqb, ltb}
 use Rattle.limits.specs.Figures.{most_options, most_parts, most_constants}
 use Rattle.reply.specs.declared.Refusal.TheVariants.{BadRequest, BeyondLimit}
 use Rattle.reply.specs.declared.Verdict.{Verdict}

@@ -1,7 +1,7 @@
 // Options and their names.
 #![tactic(auto)]
 
-ghost use Rattle.basis.specs.Kit.{◌≡◌, ◌≤◌, length};
+ghost use Rattle.std.specs.Prelude.{◌≡◌, ◌≤◌, length};
 ghost use Rattle.field.specs.Walk.{walk};
 ghost use Rattle.optionform.specs.Form.{parts_from, judge_last, judge_option};
 

@@ -1,6 +1,7 @@
 -- What the answer of `gather` says, for its callers: what `put_known` requires, and what is laid.
 -- Assumes nothing.
-use Rattle.basis.specs.Kit.{◌≡◌, refl, ap, List, ℕ, ◌+◌, ◌≤◌, length}
+use Rattle.std.specs.Prelude.{◌≡◌, refl, List, ℕ, ◌+◌, ◌≤◌, length}
+use Rattle.basis.specs.Kit.{ap}
 use Rattle.basis.proofs.Kit.{arith}
 use Rattle.basis.proofs.Never.{never}
 use Rattle.limits.specs.Figures.{most_options}

@@ -1,7 +1,8 @@
 -- What is measured before anything is written: the ways through `gather_length`, `known_length`, `measure_from`, `measure_all` and
 -- `measure_tested`.
 -- Assumes nothing.
-use Rattle.basis.specs.Kit.{◌≡◌, refl, sym, ap, ◌∙◌, List, ℕ, ◌+◌, ◌≤◌, length}
+use Rattle.std.specs.Prelude.{◌≡◌, refl, List, ℕ, ◌+◌, ◌≤◌, length}
+use Rattle.basis.specs.Kit.{sym, ap, ◌∙◌}
 use Rattle.basis.proofs.Kit.{arith, w64, Fits}
 use mir.Syntax.{w32}
 use mathlib.Core.Path.{subst}

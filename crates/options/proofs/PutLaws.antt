@@ -1,6 +1,7 @@
 -- What was measured, written: the second run lays what the first measured.
 -- Assumes nothing.
-use Rattle.basis.specs.Kit.{◌≡◌, sym, ap, ◌∙◌, List, ℕ, length, sets}
+use Rattle.std.specs.Prelude.{◌≡◌, List, ℕ, length}
+use Rattle.basis.specs.Kit.{sym, ap, ◌∙◌, sets}
 use Rattle.basis.proofs.Kit.{arith}
 use mathlib.Core.Path.{subst}
 use Rattle.basis.proofs.Never.{never}

@@ -1,6 +1,7 @@
 -- How many bytes the record of the builtin has that an option sets.
 -- Assumes nothing.
-use Rattle.basis.specs.Kit.{◌≡◌, refl, List, Option, none, some, ℕ, ◌-◌, ◌≤◌, length}
+use Rattle.std.specs.Prelude.{◌≡◌, refl, List, ℕ, ◌-◌, ◌≤◌, length}
+use Rattle.basis.specs.Kit.{Option, none, some}
 use Rattle.basis.proofs.Kit.{arith}
 use Rattle.basis.specs.First.{told}
 use Rattle.limits.specs.Figures.{most_constants}

@@ -1,6 +1,7 @@
 -- On a fine sheet a call comes to what the one for a sheet that was tested before does.
 -- Assumes nothing.
-use Rattle.basis.specs.Kit.{◌≡◌, sym, ap, ◌∙◌, List, ℕ}
+use Rattle.std.specs.Prelude.{◌≡◌, List, ℕ}
+use Rattle.basis.specs.Kit.{sym, ap, ◌∙◌}
 use Rattle.reply.specs.declared.Verdict.{Verdict}
 use Rattle.reply.specs.declared.Verdict.TheVariants.{Fine}
 use Rattle.sheetform.specs.Form.{judge_sheet}

@@ -6,7 +6,7 @@
 --     resolve_tested s r == what `resolve_tested` comes to
 --
 -- Assumes nothing.
-use Rattle.basis.specs.Kit.{List, ℕ, length}
+use Rattle.std.specs.Prelude.{List, ℕ, length}
 use Rattle.reply.specs.Outcome.{Outcome, nothing, give}
 use Rattle.reply.specs.Outcome as outcome
 use Rattle.judged.specs.declared.Judged.{Judged}

@@ -5,7 +5,8 @@
 --               settle o == what the option o comes to
 --
 -- Assumes nothing.
-use Rattle.basis.specs.Kit.{List, [], ◌∷◌, Option, none, some, ℕ}
+use Rattle.std.specs.Prelude.{List, [], ◌∷◌, ℕ}
+use Rattle.basis.specs.Kit.{Option, none, some}
 use Rattle.basis.specs.First.{only_if, told}
 use Rattle.field.specs.Leaf.{text}
 use Rattle.request.specs.declared.name.Part.{Part}

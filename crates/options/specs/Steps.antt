@@ -9,7 +9,7 @@
 --    resolving_tested s r == the same, where its length is judged
 --
 -- Assumes nothing.
-use Rattle.basis.specs.Kit.{List, [], ◌∷◌, ℕ}
+use Rattle.std.specs.Prelude.{List, [], ◌∷◌, ℕ}
 use Rattle.reply.specs.declared.Verdict.{Verdict}
 use Rattle.reply.specs.declared.Verdict.TheVariants.{Fine, Refused}
 use Rattle.reply.specs.Verdicts.{first_fault}

@@ -1,6 +1,7 @@
 // What a request comes to, measured before anything is written, and then written. It is measured in no room, which finds every refusal and
 // the length.
-ghost use Rattle.basis.specs.Kit.{◌≡◌, ◌≤◌, length, sets};
+ghost use Rattle.std.specs.Prelude.{◌≡◌, ◌≤◌, length};
+ghost use Rattle.basis.specs.Kit.{sets};
 ghost use Rattle.limits.specs.Figures.{most_options};
 ghost use Rattle.reply.specs.declared.Verdict.TheVariants.{Fine};
 ghost use Rattle.requestform.specs.Form.{judge_request};

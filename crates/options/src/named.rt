@@ -1,6 +1,6 @@
 // An option by the parts of its name: they are gone through, each inside the message that the one before it leads to, and the constant is
 // written on the last.
-ghost use Rattle.basis.specs.Kit.{◌+◌, ◌-◌, ◌≤◌, length};
+ghost use Rattle.std.specs.Prelude.{◌+◌, ◌-◌, ◌≤◌, length};
 ghost use Rattle.field.specs.Leaf.{Lies};
 ghost use Rattle.records.specs.Made.{holding};
 ghost use Rattle.records.specs.inner.Emits.{bytes_most, Emits, Roomy};

@@ -1,5 +1,5 @@
 // One option in the options message: a builtin, or the steps over the parts of its name.
-ghost use Rattle.basis.specs.Kit.{◌≡◌, [], ◌+◌, ◌-◌, ◌^◌, ◌≤◌, ◌<◌, length};
+ghost use Rattle.std.specs.Prelude.{◌≡◌, [], ◌+◌, ◌-◌, ◌^◌, ◌≤◌, ◌<◌, length};
 ghost use Rattle.limits.specs.Figures.{most_options};
 ghost use Rattle.octets.specs.inner.Laid.{Laid};
 ghost use Rattle.field.specs.Leaf.{text, Lies};

@@ -2,7 +2,7 @@
 // answered in its turn. On 0 it prints the eight words of each record, and then each record once more for people.
 #![tactic(auto)]
 
-ghost use Rattle.basis.specs.Kit.{◌≤◌, length};
+ghost use Rattle.std.specs.Prelude.{◌≤◌, length};
 
 use console::input::{Input, MOST_BYTES, field_of};
 use field::Leaf;

@@ -2,7 +2,7 @@
 // On 0 it prints the option bytes, or `absent`.
 #![tactic(auto)]
 
-ghost use Rattle.basis.specs.Kit.{◌≤◌, length};
+ghost use Rattle.std.specs.Prelude.{◌≤◌, length};
 
 use console::input::{Input, MOST_BYTES, field_of};
 use console::output::option_bytes;

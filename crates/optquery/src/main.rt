@@ -2,7 +2,7 @@
 // of these one after the other are several cases, each answered in its turn. On 0 it prints the eight words of the record, or `absent`.
 #![tactic(auto)]
 
-ghost use Rattle.basis.specs.Kit.{◌≤◌, length};
+ghost use Rattle.std.specs.Prelude.{◌≤◌, length};
 
 use console::input::{Input, MOST_BYTES, field_of};
 use console::output::text;

@@ -2,7 +2,7 @@
 // are several cases, each answered in its turn.
 #![tactic(auto)]
 
-ghost use Rattle.basis.specs.Kit.{◌≤◌, length};
+ghost use Rattle.std.specs.Prelude.{◌≤◌, length};
 
 use console::input::{Input, MOST_BYTES, field_of};
 use field::Leaf;

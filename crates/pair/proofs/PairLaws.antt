@@ -1,6 +1,7 @@
 -- Pairs of a message constant: the ways through `pair_at`, where a pair lies, and the fields that begin with one or with none.
 -- Assumes nothing.
-use Rattle.basis.specs.Kit.{◌≡◌, refl, sym, ap, ◌∙◌, Bool, true, false, ◌&&◌, List, ℕ, ◌-◌, ◌≤◌, ◌<◌, leb, length}
+use Rattle.std.specs.Prelude.{◌≡◌, refl, Bool, true, false, ◌&&◌, List, ℕ, ◌-◌, ◌≤◌, ◌<◌, leb, length}
+use Rattle.basis.specs.Kit.{sym, ap, ◌∙◌}
 use Rattle.basis.proofs.Kit.{arith, not-true, not-false}
 use mathlib.Core.Path.{subst, subst⁻¹}
 use native.Mathlib.Decide.{dec_lt}

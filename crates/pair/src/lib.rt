@@ -1,7 +1,7 @@
 // The pairs of a message constant, read on every byte string; no characters are tested.
 #![tactic(auto)]
 
-ghost use Rattle.basis.specs.Kit.{◌≡◌, ◌≤◌, length};
+ghost use Rattle.std.specs.Prelude.{◌≡◌, ◌≤◌, length};
 ghost use Rattle.request.specs.Constant.{is_pair_name};
 ghost use Rattle.pair.specs.inner.Pair.{pair_at};
 

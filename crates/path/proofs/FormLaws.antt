@@ -1,6 +1,6 @@
 -- The tests of a path's form: the laws of `is_rel_path`, `is_rel_or_empty` and `is_path`.
 -- Assumes nothing.
-use Rattle.basis.specs.Kit.{◌≡◌, refl, Bool, true, false, List, [], ◌∷◌, ℕ, ◌≤◌, ◌<◌, length, drop}
+use Rattle.std.specs.Prelude.{◌≡◌, refl, Bool, true, false, List, [], ◌∷◌, ℕ, ◌≤◌, ◌<◌, length, drop}
 use Rattle.basis.proofs.Kit.{arith}
 use borrow.Author.Tests.{le-leb, lt-leb}
 use Rattle.limits.specs.Figures.{most_path}

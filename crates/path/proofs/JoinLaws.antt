@@ -1,6 +1,7 @@
 -- One path followed by another: the laws of `join`.
 -- Assumes nothing.
-use Rattle.basis.specs.Kit.{◌≡◌, refl, List, [], ◌∷◌, ◌++◌, ℕ, ◌+◌, ◌*◌, ◌^◌, ◌<◌, length, sets}
+use Rattle.std.specs.Prelude.{◌≡◌, refl, List, [], ◌∷◌, ◌++◌, ℕ, ◌+◌, ◌*◌, ◌^◌, ◌<◌, length}
+use Rattle.basis.specs.Kit.{sets}
 use Rattle.basis.proofs.Kit.{arith, w64, Fits}
 use mathlib.Core.List.{append-nil}
 use Rattle.octets.specs.inner.Laid.{Laid}

@@ -1,6 +1,7 @@
 -- A text byte by byte, each a dot or another byte: the laws of its pieces between the dots that go by the bytes.
 -- Assumes nothing.
-use Rattle.basis.specs.Kit.{◌≡◌, refl, sym, ap, ◌∙◌, List, [], ◌∷◌, ◌++◌, ℕ, suc, ◌≤◌, ◌<◌, length, get_or, take, drop}
+use Rattle.std.specs.Prelude.{◌≡◌, refl, List, [], ◌∷◌, ◌++◌, ℕ, suc, ◌≤◌, ◌<◌, length, get_or, take, drop}
+use Rattle.basis.specs.Kit.{sym, ap, ◌∙◌}
 use Rattle.basis.proofs.Kit.{arith, ne_eqb}
 use mathlib.Core.Path.{subst}
 use native.Mathlib.Decide.{ℕ_discrete, dec_lt}

@@ -16,7 +16,7 @@
 --           last p ==  its last component, the empty name where there is none
 --
 -- Assumes nothing.
-use Rattle.basis.specs.Kit.{Bool, true, false, ◌&&◌, List, [], ◌∷◌, ◌++◌, ℕ, eqb, leb, length}
+use Rattle.std.specs.Prelude.{Bool, true, false, ◌&&◌, List, [], ◌∷◌, ◌++◌, ℕ, eqb, leb, length}
 use Rattle.limits.specs.Figures.{most_path}
 use Rattle.ident.specs.Ident.{is_ident}
 

@@ -1,5 +1,5 @@
 // Absolute paths: a leading dot, then a path.
-ghost use Rattle.basis.specs.Kit.{◌≡◌};
+ghost use Rattle.std.specs.Prelude.{◌≡◌};
 ghost use Rattle.path.specs.Path.{is_abs, rootless};
 
 // Whether the text leads with a dot.

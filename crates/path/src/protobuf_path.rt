@@ -1,5 +1,5 @@
 // Paths that may be absolute or relative.
-ghost use Rattle.basis.specs.Kit.{◌≡◌};
+ghost use Rattle.std.specs.Prelude.{◌≡◌};
 ghost use Rattle.path.specs.Path.{is_path};
 
 use crate::protobuf_abs_path::without_root;

@@ -1,5 +1,5 @@
 // Relative paths: identifiers joined by dots, with no leading dot.
-ghost use Rattle.basis.specs.Kit.{◌≡◌, ◌++◌, suc, ◌+◌, ◌-◌, ◌≤◌, length, take, drop};
+ghost use Rattle.std.specs.Prelude.{◌≡◌, ◌++◌, suc, ◌+◌, ◌-◌, ◌≤◌, length, take, drop};
 ghost use Rattle.octets.specs.inner.Laid.{Laid};
 ghost use Rattle.path.specs.inner.Places.{until_dot};
 ghost use Rattle.path.specs.Path.{split, components, spell, all_ident, is_rel_path, is_rel_or_empty, parent};

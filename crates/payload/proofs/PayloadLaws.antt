@@ -1,7 +1,8 @@
 -- The laws of `payload`: the ways through the test of a place and a length, what it says where it is fine, and the part and the answer of
 -- its verdict.
 -- Assumes nothing.
-use Rattle.basis.specs.Kit.{◌≡◌, refl, sym, ap, ◌∙◌, Bool, true, false, List, ℕ, ◌+◌, ◌-◌, ◌≤◌, ◌<◌, leb, length}
+use Rattle.std.specs.Prelude.{◌≡◌, refl, Bool, true, false, List, ℕ, ◌+◌, ◌-◌, ◌≤◌, ◌<◌, leb, length}
+use Rattle.basis.specs.Kit.{sym, ap, ◌∙◌}
 use Rattle.basis.proofs.Kit.{arith, Fits, w64}
 use mir.Syntax.{w32}
 use borrow.Author.Tests.{leb-true, leb-false, le-leb, lt-leb}

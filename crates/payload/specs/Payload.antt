@@ -6,7 +6,7 @@
 --   payload_answer bs at n == the answer beside it
 --
 -- Assumes nothing.
-use Rattle.basis.specs.Kit.{List, ℕ, ◌+◌, leb, length}
+use Rattle.std.specs.Prelude.{List, ℕ, ◌+◌, leb, length}
 use Rattle.limits.specs.Figures.{most_option_bytes}
 use Rattle.reply.specs.declared.Refusal.TheVariants.{BadRequest, BeyondLimit}
 use Rattle.reply.specs.declared.Verdict.{Verdict}

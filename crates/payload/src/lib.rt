@@ -3,7 +3,7 @@
 // say the same and ask for no such proof.
 #![tactic(auto)]
 
-ghost use Rattle.basis.specs.Kit.{◌≡◌};
+ghost use Rattle.std.specs.Prelude.{◌≡◌};
 ghost use Rattle.field.specs.Part.{PartOf};
 ghost use Rattle.reply.specs.Verdicts.{Says};
 ghost use Rattle.payload.specs.Payload.{judge_bytes, judge_payload, payload_span, payload_answer};

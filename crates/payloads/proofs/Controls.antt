@@ -1,7 +1,8 @@
 -- Closed cases of the definitions, which the checker computes: the values of each group of types at its limits, and the payload of each
 -- wire type whole and one byte short.
 -- Assumes nothing.
-use Rattle.basis.specs.Kit.{◌≡◌, refl, List, [], ◌∷◌, map, Option, none, some, ℕ}
+use Rattle.std.specs.Prelude.{◌≡◌, refl, List, [], ◌∷◌, map, ℕ}
+use Rattle.basis.specs.Kit.{Option, none, some}
 use Rattle.types.specs.Types.{TYPE_DOUBLE, TYPE_FLOAT, TYPE_INT64, TYPE_UINT64, TYPE_INT32, TYPE_FIXED64, TYPE_FIXED32, TYPE_BOOL}
 use Rattle.types.specs.Types.{TYPE_UINT32, TYPE_ENUM, TYPE_SFIXED32, TYPE_SFIXED64, TYPE_SINT32, TYPE_SINT64}
 use Rattle.types.specs.Types.{VARINT, I64, LEN, I32}

@@ -1,7 +1,7 @@
 -- What callers know of a payload: it lies inside the bytes that it is read from, and its own bytes say its size and its number.
 -- Assumes nothing.
-use Rattle.basis.specs.Kit.{◌≡◌, refl, sym, ◌∙◌, Bool, true, false, List, Option, none, some, ℕ, ◌+◌, ◌-◌, ◌≤◌, eqb, leb, length}
-use Rattle.basis.specs.Kit.{take, drop}
+use Rattle.std.specs.Prelude.{◌≡◌, refl, Bool, true, false, List, ℕ, ◌+◌, ◌-◌, ◌≤◌, eqb, leb, length, take, drop}
+use Rattle.basis.specs.Kit.{sym, ◌∙◌, Option, none, some}
 use Rattle.basis.proofs.Kit.{arith}
 use Rattle.basis.proofs.Never.{never}
 use native.Mathlib.Nat.{min-le_left}

@@ -1,6 +1,7 @@
 -- The laws of `payload_at` and of its three helpers, one for each way through the code.
 -- Assumes nothing.
-use Rattle.basis.specs.Kit.{◌≡◌, refl, sym, ap, ◌∙◌, Bool, true, false, List, none, some, ℕ, ◌+◌, ◌-◌, ◌≤◌, ◌<◌, eqb, length, take, drop}
+use Rattle.std.specs.Prelude.{◌≡◌, refl, Bool, true, false, List, ℕ, ◌+◌, ◌-◌, ◌≤◌, ◌<◌, eqb, length, take, drop}
+use Rattle.basis.specs.Kit.{sym, ap, ◌∙◌, none, some}
 use Rattle.basis.proofs.Kit.{arith, eq-eqb, ne_eqb, not-true, not-false}
 use Rattle.basis.specs.First.{only_if}
 use Rattle.basis.proofs.Never.{never}

@@ -1,6 +1,7 @@
 -- The value of a record by its type: the laws of `value_of`, one for each way through the code.
 -- Assumes nothing.
-use Rattle.basis.specs.Kit.{◌≡◌, sym, ◌∙◌, Bool, true, false, ◌||◌, ℕ, eqb}
+use Rattle.std.specs.Prelude.{◌≡◌, Bool, true, false, ◌||◌, ℕ, eqb}
+use Rattle.basis.specs.Kit.{sym, ◌∙◌}
 use Rattle.basis.proofs.Kit.{ne_eqb, eq-eqb}
 use Rattle.types.specs.Types.{is_any, TYPE_FLOAT, TYPE_INT32, TYPE_FIXED32, TYPE_BOOL, TYPE_UINT32, TYPE_ENUM, TYPE_SFIXED32}
 use Rattle.types.specs.Types.{TYPE_SINT32, TYPE_SINT64}

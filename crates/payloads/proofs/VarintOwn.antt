@@ -1,6 +1,7 @@
 -- A varint is read from its own bytes: whatever follows them, it is read the same.
 -- Assumes nothing.
-use Rattle.basis.specs.Kit.{◌≡◌, ◌∙◌, List, [], ◌∷◌, ◌++◌, ℕ, zero, suc, ◌≤◌, take, drop}
+use Rattle.std.specs.Prelude.{◌≡◌, List, [], ◌∷◌, ◌++◌, ℕ, zero, suc, ◌≤◌, take, drop}
+use Rattle.basis.specs.Kit.{◌∙◌}
 use Rattle.basis.proofs.Kit.{arith}
 use mathlib.Core.List.{append-nil}
 use native.Mathlib.Nat.{le_trans, min-le_left}

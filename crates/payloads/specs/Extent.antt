@@ -7,7 +7,8 @@
 --   payload_at w bs == the payload of the wire type w at the front of bs
 --
 -- Assumes nothing.
-use Rattle.basis.specs.Kit.{true, false, List, Option, none, some, ℕ, ◌+◌, eqb, leb, length}
+use Rattle.std.specs.Prelude.{true, false, List, ℕ, ◌+◌, eqb, leb, length}
+use Rattle.basis.specs.Kit.{Option, none, some}
 use Rattle.types.specs.Types.{VARINT, I64, I32}
 use Rattle.varint.specs.declared.Read.{Read}
 use Rattle.varint.specs.declared.Read.TheVariants.{Varint, Bad}

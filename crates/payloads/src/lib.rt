@@ -1,7 +1,7 @@
 // The payload of a record: its bytes, the number that they say, and the value of that on a type.
 #![tactic(auto)]
 
-ghost use Rattle.basis.specs.Kit.{◌≡◌, true, ◌≤◌, length};
+ghost use Rattle.std.specs.Prelude.{◌≡◌, true, ◌≤◌, length};
 ghost use Rattle.basis.specs.First.{only_if};
 ghost use Rattle.types.specs.Types.{VARINT as varint_type, I64 as i64_type, I32 as i32_type, LEN as len_type};
 ghost use Rattle.wire.specs.Tag.{wire_read};

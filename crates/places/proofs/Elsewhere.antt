@@ -1,6 +1,7 @@
 -- Every other call is refused nowhere, if it is.
 -- Assumes nothing.
-use Rattle.basis.specs.Kit.{◌≡◌, refl, Bool, List, [], ◌∷◌, map, none, some, ℕ, suc, ◌%◌, eqb, ltb, length}
+use Rattle.std.specs.Prelude.{◌≡◌, refl, Bool, List, [], ◌∷◌, map, ℕ, suc, ◌%◌, eqb, ltb, length}
+use Rattle.basis.specs.Kit.{none, some}
 use lib.IntN.{ℤ}
 use Rattle.limits.specs.Figures.{most_words}
 use Rattle.reply.specs.declared.Refusal.TheVariants.{BadRequest, BeyondLimit, RangeEnd}

@@ -5,7 +5,8 @@
 --                           refused nowhere, if at all
 --
 -- Assumes nothing.
-use Rattle.basis.specs.Kit.{◌≡◌, refl, sym, ap, ◌∙◌, List, [], ◌∷◌, Option, none, some, ℕ, zero, suc, ◌+◌, ◌<◌, length}
+use Rattle.std.specs.Prelude.{◌≡◌, refl, List, [], ◌∷◌, ℕ, zero, suc, ◌+◌, ◌<◌, length}
+use Rattle.basis.specs.Kit.{sym, ap, ◌∙◌, Option, none, some}
 use Rattle.basis.specs.Among.{Among, here, there}
 use Rattle.basis.proofs.Kit.{arith}
 use Rattle.basis.proofs.AmongLaws.{among-nil}

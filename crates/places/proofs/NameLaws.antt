@@ -1,6 +1,7 @@
 -- The part of a query's name that is at fault.
 -- Assumes nothing.
-use Rattle.basis.specs.Kit.{◌≡◌, refl, sym, ◌∙◌, Bool, true, false, List, [], ◌∷◌, ℕ, ◌+◌, eqb}
+use Rattle.std.specs.Prelude.{◌≡◌, refl, Bool, true, false, List, [], ◌∷◌, ℕ, ◌+◌, eqb}
+use Rattle.basis.specs.Kit.{sym, ◌∙◌}
 use mathlib.Core.Path.{subst}
 use native.Mathlib.Nat.{zero-add}
 use borrow.Author.Tests.{eqb-true}

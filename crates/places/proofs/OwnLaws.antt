@@ -1,6 +1,7 @@
 -- An option in a request of its own, of the same scope and options type: it is refused there as it is here, or comes to records.
 -- Assumes nothing.
-use Rattle.basis.specs.Kit.{◌≡◌, ap, ◌∙◌, List, [], ◌∷◌, none, some, ℕ}
+use Rattle.std.specs.Prelude.{◌≡◌, List, [], ◌∷◌, ℕ}
+use Rattle.basis.specs.Kit.{ap, ◌∙◌, none, some}
 use Rattle.basis.specs.Among.{Among, here, there}
 use Rattle.basis.proofs.AmongLaws.{among-nil}
 use Rattle.basis.proofs.Never.{never}

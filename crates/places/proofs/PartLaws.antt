@@ -3,7 +3,8 @@
 --   PartFault Ends i m ps k w <-> w is the refusal of the k-th part, where the parts ps begin with the i-th, from the message m on
 --
 -- Assumes nothing.
-use Rattle.basis.specs.Kit.{◌≡◌, refl, sym, ap, ◌∙◌, Bool, true, false, List, [], ◌∷◌, Option, none, some, ℕ, suc, ◌+◌, ◌<◌, eqb, length}
+use Rattle.std.specs.Prelude.{◌≡◌, refl, Bool, true, false, List, [], ◌∷◌, ℕ, suc, ◌+◌, ◌<◌, eqb, length}
+use Rattle.basis.specs.Kit.{sym, ap, ◌∙◌, Option, none, some}
 use Rattle.basis.specs.First.{told}
 use Rattle.basis.proofs.Kit.{arith, eq-eqb}
 use mathlib.Core.Path.{subst}

@@ -10,7 +10,8 @@
 -- `Ends h w` says that w is the refusal of what stands behind the last part, on a field of the shape h: of a query's name there is none.
 --
 -- Assumes nothing.
-use Rattle.basis.specs.Kit.{◌≡◌, List, [], ◌∷◌, ◌++◌, none, some, ℕ, length}
+use Rattle.std.specs.Prelude.{◌≡◌, List, [], ◌∷◌, ◌++◌, ℕ, length}
+use Rattle.basis.specs.Kit.{none, some}
 use Rattle.reply.specs.declared.Refusal.{Refusal}
 use Rattle.reply.specs.declared.Refusal.TheVariants.{ExtensionIsNotMessage}
 use Rattle.field.specs.Leaf.{text}

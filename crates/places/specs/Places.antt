@@ -19,9 +19,9 @@
 --                 Bare o <-> what comes to o is refused nowhere, if it is
 --
 -- Assumes nothing.
-use Rattle.basis.specs.Kit.{◌≡◌, List, [], some, ℕ, ◌<◌, length}
+use Rattle.std.specs.Prelude.{◌≡◌, List, [], ℕ, ◌<◌, length, ◌⊎◌}
+use Rattle.basis.specs.Kit.{some}
 use Rattle.basis.specs.Among.{Among}
-use Rattle.std.specs.Prelude.{◌⊎◌}
 use Rattle.std.proofs.Math.ListN.{get_elem?}
 use Rattle.reply.specs.declared.Refusal.{Refusal}
 use Rattle.reply.specs.declared.Refusal.TheVariants.{NoRoom}

@@ -1,6 +1,6 @@
 -- What the examples ask of the definitions: the bytes of a request, Absent, or the reply's number, second word and place.
 -- Assumes nothing.
-use Rattle.basis.specs.Kit.{List, ℕ}
+use Rattle.std.specs.Prelude.{List, ℕ}
 use lib.Ieee.{span, climb, size, odd, units, round, of_int, of_fields, of_bits, nan_bits, to_bits}
 use Rattle.reply.specs.Reply.{number, second}
 use Rattle.reply.specs.declared.Where.{Where}

@@ -1,6 +1,7 @@
 -- Closed cases of the premise under which what is written is listed back: a sheet that declares each number once, and one that does not.
 -- Assumes nothing.
-use Rattle.basis.specs.Kit.{◌≡◌, refl, sym, ap, ◌∙◌, true, List, [], ◌∷◌, ◌++◌, ℕ}
+use Rattle.std.specs.Prelude.{◌≡◌, refl, true, List, [], ◌∷◌, ◌++◌, ℕ}
+use Rattle.basis.specs.Kit.{sym, ap, ◌∙◌}
 use Rattle.basis.specs.Among.{here}
 use Rattle.basis.proofs.Kit.{arith}
 use Rattle.basis.proofs.AmongLaws.{among_one}

@@ -1,7 +1,8 @@
 -- What a request writes reads back: by Encoding as these records, and under the same sheet, where that declares each number once, as rows
 -- that hold what they hold. The statements stand at the end.
 -- Assumes nothing.
-use Rattle.basis.specs.Kit.{◌≡◌, true, ◌&&◌, List, some, ℕ, ◌≤◌, length}
+use Rattle.std.specs.Prelude.{◌≡◌, true, ◌&&◌, List, ℕ, ◌≤◌, length}
+use Rattle.basis.specs.Kit.{some}
 use Rattle.basis.proofs.Kit.{arith}
 use mathlib.Core.Bool.{and-eq-true_iff}
 use borrow.Author.Tests.{le-leb}

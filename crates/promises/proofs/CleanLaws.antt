@@ -1,7 +1,8 @@
 -- What a clean sheet has: a full name is found exactly if it is declared, each number is declared once, and a type path that is a message's
 -- names a message. The statements stand at the end.
 -- Assumes nothing.
-use Rattle.basis.specs.Kit.{◌≡◌, refl, sym, ap, Bool, true, ◌&&◌, List, [], ◌∷◌, map, ℕ}
+use Rattle.std.specs.Prelude.{◌≡◌, refl, Bool, true, ◌&&◌, List, [], ◌∷◌, map, ℕ}
+use Rattle.basis.specs.Kit.{sym, ap}
 use Rattle.basis.specs.Among.{Among, here, there}
 use Rattle.basis.specs.Count.{once, every}
 use Rattle.basis.proofs.Kit.{eq-eqb}

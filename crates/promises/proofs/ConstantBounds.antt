@@ -1,7 +1,8 @@
 -- What a constant comes to on a field: at most the levels that it may have, and at most seven bytes for each byte of its own field, its
 -- header among them; over any look-ups and of any bytes.
 -- Assumes nothing.
-use Rattle.basis.specs.Kit.{◌≡◌, refl, sym, Bool, true, false, List, ℕ, zero, suc, ◌+◌, ◌-◌, ◌≤◌, eqb, length, drop}
+use Rattle.std.specs.Prelude.{◌≡◌, refl, Bool, true, false, List, ℕ, zero, suc, ◌+◌, ◌-◌, ◌≤◌, eqb, length, drop}
+use Rattle.basis.specs.Kit.{sym}
 use Rattle.basis.proofs.Kit.{arith}
 use lib.ListN.{length-take}
 use Rattle.reply.specs.declared.Refusal.{Refusal}

@@ -1,6 +1,6 @@
 -- Closed cases of the option steps, which the checker computes: of each reply from 4 to 15 one or more, and of each rule one that holds.
 -- Assumes nothing.
-use Rattle.basis.specs.Kit.{◌≡◌, refl, List, [], ◌∷◌, ◌++◌, map, ℕ}
+use Rattle.std.specs.Prelude.{◌≡◌, refl, List, [], ◌∷◌, ◌++◌, map, ℕ}
 use Rattle.octets.specs.Ascii.{ascii}
 use Rattle.reply.specs.declared.Where.TheVariants.{Nowhere, Option}
 use Rattle.promises.proofs.Asking.{Example, asks, bytes, refused, stepped}

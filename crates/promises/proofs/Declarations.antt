@@ -5,7 +5,8 @@
 --       Steady L s <-> every step in a message that L finds comes to a usable declaration, and enum values are of 32 bits
 --
 -- Assumes nothing.
-use Rattle.basis.specs.Kit.{◌≡◌, refl, Bool, true, ◌&&◌, List, [], ◌∷◌, ◌++◌, some, ℕ, ◌+◌, ◌^◌, ◌≤◌, ◌<◌, leb}
+use Rattle.std.specs.Prelude.{◌≡◌, refl, Bool, true, ◌&&◌, List, [], ◌∷◌, ◌++◌, ℕ, ◌+◌, ◌^◌, ◌≤◌, ◌<◌, leb}
+use Rattle.basis.specs.Kit.{some}
 use Rattle.basis.specs.First.{first}
 use Rattle.basis.specs.Among.{Among, here, there}
 use Rattle.basis.proofs.FirstLaws.{Every, none_of, one_of, every_append, every-onto, every-collect}

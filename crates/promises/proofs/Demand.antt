@@ -1,7 +1,8 @@
 -- Demand 3: what is written under a newer sheet is listed under an older one that is contained in it. Of the definitions first, then of
 -- the calls' own contracts. The statements stand at the end of each part.
 -- Assumes nothing.
-use Rattle.basis.specs.Kit.{◌≡◌, refl, sym, ap, ◌∙◌, Bool, true, false, List, map, ℕ, ◌<◌, ltb, length, take, drop}
+use Rattle.std.specs.Prelude.{◌≡◌, refl, Bool, true, false, List, map, ℕ, ◌<◌, ltb, length, take, drop}
+use Rattle.basis.specs.Kit.{sym, ap, ◌∙◌}
 use Rattle.basis.proofs.Kit.{arith, le-ltb}
 use lib.Dec.{ltb→lt}
 use lib.Seq.{take_at}

@@ -1,6 +1,6 @@
 -- The demands that hold of every call and of every sheet, from what is proved of each.
 -- Assumes nothing.
-use Rattle.basis.specs.Kit.{◌≡◌, refl, Bool, true, false, List, ℕ, ltb, length}
+use Rattle.std.specs.Prelude.{◌≡◌, refl, Bool, true, false, List, ℕ, ltb, length}
 use borrow.Author.Tests.{ltb-true, ltb-false}
 use Rattle.limits.specs.Figures.{most_levels}
 use Rattle.reply.specs.declared.Refusal.TheVariants.{NoRoom}

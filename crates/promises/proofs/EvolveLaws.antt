@@ -4,7 +4,8 @@
 --   One s t m m' <-> the messages m of the older sheet s and m' of the newer one t have one full name, by which both are found
 --
 -- Assumes nothing.
-use Rattle.basis.specs.Kit.{◌≡◌, refl, sym, ap, ◌∙◌, Bool, true, ◌&&◌, List, [], ◌∷◌, some, ℕ, eqb}
+use Rattle.std.specs.Prelude.{◌≡◌, refl, Bool, true, ◌&&◌, List, [], ◌∷◌, ℕ, eqb}
+use Rattle.basis.specs.Kit.{sym, ap, ◌∙◌, some}
 use Rattle.basis.specs.Among.{Among, here}
 use Rattle.basis.proofs.CountLaws.{any-passing, every-among}
 use mathlib.Core.Path.{subst}

@@ -1,6 +1,6 @@
 -- 01's examples P1 to P9, as one table under one statement, which the checker computes: each is of the whole call, the tests of form too.
 -- Assumes nothing.
-use Rattle.basis.specs.Kit.{◌≡◌, refl, List, [], ◌∷◌, ◌++◌, map, ℕ}
+use Rattle.std.specs.Prelude.{◌≡◌, refl, List, [], ◌∷◌, ◌++◌, map, ℕ}
 use Rattle.reply.specs.declared.Where.TheVariants.{Option}
 use Rattle.promises.proofs.Asking.{Example, asks, bytes, absent, refused, answer}
 use Rattle.sheet.proofs.Sheets.{file, message}

@@ -1,6 +1,6 @@
 -- Closed cases of how many levels records have.
 -- Assumes nothing.
-use Rattle.basis.specs.Kit.{◌≡◌, refl, [], ◌∷◌}
+use Rattle.std.specs.Prelude.{◌≡◌, refl, [], ◌∷◌}
 use Rattle.records.specs.Records.{nil, number, bytes, message}
 use Rattle.promises.specs.Levels.{deepest}
 

@@ -7,7 +7,8 @@
 -- `after` it. `Bytes s` says that every element of s is below 256, as those of a slice of bytes are.
 --
 -- Assumes nothing.
-use Rattle.basis.specs.Kit.{◌≡◌, ap, ◌∙◌, Bool, true, false, List, [], ◌∷◌, ◌++◌, map, none, some, ℕ, ◌+◌, ◌≤◌, ◌<◌, ◌^◌, length, take, drop}
+use Rattle.std.specs.Prelude.{◌≡◌, Bool, true, false, List, [], ◌∷◌, ◌++◌, map, ℕ, ◌+◌, ◌≤◌, ◌<◌, ◌^◌, length, take, drop}
+use Rattle.basis.specs.Kit.{ap, ◌∙◌, none, some}
 use Rattle.basis.specs.Among.{Among, Ordered}
 use Rattle.basis.proofs.Kit.{lt-ltb, le-ltb}
 use lib.IntN.{ℤ}

@@ -4,7 +4,8 @@
 --   SmallSettled k n x <-> the records of what one option comes to are small, where it is no fault
 --
 -- Assumes nothing.
-use Rattle.basis.specs.Kit.{◌≡◌, refl, Bool, true, false, List, [], ◌∷◌, Option, ℕ, suc, ◌+◌, ◌-◌, ◌*◌, ◌≤◌, eqb, length}
+use Rattle.std.specs.Prelude.{◌≡◌, refl, Bool, true, false, List, [], ◌∷◌, ℕ, suc, ◌+◌, ◌-◌, ◌*◌, ◌≤◌, eqb, length}
+use Rattle.basis.specs.Kit.{Option}
 use Rattle.basis.proofs.Kit.{arith}
 use Rattle.basis.proofs.Never.{never}
 use mathlib.Core.Option as option

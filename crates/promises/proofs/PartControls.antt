@@ -1,6 +1,6 @@
 -- Closed cases of what one part of a name comes to, with the fact behind a lack, which the checker computes.
 -- Assumes nothing.
-use Rattle.basis.specs.Kit.{◌≡◌, refl, Bool, true, false, List, [], ◌∷◌, ◌++◌, map, ℕ, length}
+use Rattle.std.specs.Prelude.{◌≡◌, refl, Bool, true, false, List, [], ◌∷◌, ◌++◌, map, ℕ, length}
 use Prim.Native.String.{String}
 use Rattle.octets.specs.Octets.{same_bytes, big_at}
 use Rattle.octets.specs.Ascii.{ascii}

@@ -1,7 +1,7 @@
 -- Closed cases of where a request is refused, which the checker computes: each row of 02's request [9] and its readings, of the whole call,
 -- the tests of form too, with a case just beside it.
 -- Assumes nothing.
-use Rattle.basis.specs.Kit.{◌≡◌, refl, List, [], ◌∷◌, ◌++◌, map, ℕ, zero, suc}
+use Rattle.std.specs.Prelude.{◌≡◌, refl, List, [], ◌∷◌, ◌++◌, map, ℕ, zero, suc}
 use Rattle.reply.specs.declared.Where.TheVariants.{Nowhere, Option}
 use Rattle.promises.proofs.Asking.{Example, asks, bytes, absent, refused, answer}
 use Rattle.sheet.proofs.Sheets.{file, message, value, enum, extension_to}

@@ -4,8 +4,8 @@
 --     BodyFits t b <-> the body b is a value of the type t, by its wire type
 --
 -- Assumes nothing.
-use Rattle.basis.specs.Kit.{◌≡◌, refl, Bool, true, false, ◌||◌, List, [], ◌∷◌, Option, none, some, ℕ, zero, suc, ◌+◌, ◌-◌, ◌*◌, ◌%◌, ◌^◌}
-use Rattle.basis.specs.Kit.{◌≤◌, ◌<◌, eqb, ltb, leb}
+use Rattle.std.specs.Prelude.{◌≡◌, refl, Bool, true, false, ◌||◌, List, [], ◌∷◌, ℕ, zero, suc, ◌+◌, ◌-◌, ◌*◌, ◌%◌, ◌^◌, ◌≤◌, ◌<◌, eqb, ltb, leb}
+use Rattle.basis.specs.Kit.{Option, none, some}
 use Rattle.basis.proofs.Kit.{arith}
 use mathlib.Core.Logic.{inl, inr}
 use borrow.Author.Tests.{eqb-true, leb-true, ltb-true, ltb-false}

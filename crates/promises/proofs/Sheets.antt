@@ -8,7 +8,7 @@
 --    option parts const == an option; direct and ext are parts, pair, pair_ext and pair_url the pairs of a message constant
 --
 -- Assumes nothing.
-use Rattle.basis.specs.Kit.{List, [], ◌∷◌, ◌++◌, ℕ, ◌/◌, ◌%◌}
+use Rattle.std.specs.Prelude.{List, [], ◌∷◌, ◌++◌, ℕ, ◌/◌, ◌%◌}
 use Prim.Native.String.{String}
 use Rattle.octets.specs.Ascii.{ascii}
 use Rattle.request.specs.Table as tags

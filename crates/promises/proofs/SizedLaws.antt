@@ -4,8 +4,8 @@
 --   SizedOptions os <-> and among the constants of the options os
 --
 -- Assumes nothing.
-use Rattle.basis.specs.Kit.{◌≡◌, Bool, true, false, List, [], ◌∷◌, some, ℕ, zero, suc, ◌+◌, ◌-◌, ◌^◌, ◌<◌, eqb, ltb, get_or}
-use Rattle.basis.specs.Kit.{length}
+use Rattle.std.specs.Prelude.{◌≡◌, Bool, true, false, List, [], ◌∷◌, ℕ, zero, suc, ◌+◌, ◌-◌, ◌^◌, ◌<◌, eqb, ltb, get_or, length}
+use Rattle.basis.specs.Kit.{some}
 use Rattle.basis.proofs.Kit.{arith}
 use Rattle.basis.proofs.FirstLaws.{Every, none_of, one_of, first_holds}
 use native.Mathlib.Nat.{pow-suc, pow-zero}

@@ -9,7 +9,8 @@
 --            On L s m k <-> what holds constants at the message m: a field of it, or the message itself
 --
 -- Assumes nothing.
-use Rattle.basis.specs.Kit.{◌≡◌, refl, Bool, true, false, List, [], ◌∷◌, Option, ℕ, ◌+◌, eqb, ltb}
+use Rattle.std.specs.Prelude.{◌≡◌, refl, Bool, true, false, List, [], ◌∷◌, ℕ, ◌+◌, eqb, ltb}
+use Rattle.basis.specs.Kit.{Option}
 use Rattle.basis.specs.First.{told}
 use Rattle.basis.proofs.Never.{never}
 use mathlib.Core.Option as option

@@ -4,7 +4,7 @@
 --   ListedBack s type x <-> the bytes of the records x are listed as rows that hold what these records hold, in order
 --
 -- Assumes nothing.
-use Rattle.basis.specs.Kit.{◌≡◌, List, map, ℕ}
+use Rattle.std.specs.Prelude.{◌≡◌, List, map, ℕ}
 use Rattle.reply.specs.Outcome.{give}
 use Rattle.scope.specs.declared.lookup.LookupScope.{LookupScope}
 use Rattle.fullname.specs.declared.LookedUp.TheVariants.{Message as Found}

@@ -6,7 +6,8 @@
 --                                  found, and where a request or a query's name is refused, are Encoding's, 01's and 02's
 --
 -- Assumes nothing.
-use Rattle.basis.specs.Kit.{◌≡◌, true, List, ◌++◌, some, ℕ, ◌≤◌, ◌<◌, length, drop}
+use Rattle.std.specs.Prelude.{◌≡◌, true, List, ◌++◌, ℕ, ◌≤◌, ◌<◌, length, drop}
+use Rattle.basis.specs.Kit.{some}
 use Rattle.basis.specs.Among.{Among}
 use Rattle.octets.proofs.Bytes.{Bytes}
 use Rattle.reply.specs.declared.Refusal.TheVariants.{ExtensionNotFound, NoRoom}

@@ -12,7 +12,7 @@
 --                         them under the older, answers 0 where its room is enough, and leaves these rows there
 --
 -- Assumes nothing.
-use Rattle.basis.specs.Kit.{◌≡◌, Bool, true, List, [], ◌++◌, map, ℕ, ◌≤◌, length, drop}
+use Rattle.std.specs.Prelude.{◌≡◌, Bool, true, List, [], ◌++◌, map, ℕ, ◌≤◌, length, drop}
 use Rattle.reply.specs.declared.Verdict.TheVariants.{Fine}
 use Rattle.reply.specs.declared.Answer.{Answer}
 use Rattle.reply.specs.Reply.{done_with}

@@ -3,8 +3,7 @@
 --   deepest x == how many levels the records x have: where it is 1, they all lie at level 0
 --
 -- Assumes nothing.
-use Rattle.basis.specs.Kit.{ℕ, suc}
-use Rattle.std.specs.Prelude.{max}
+use Rattle.std.specs.Prelude.{ℕ, suc, max}
 use Rattle.records.specs.Records.{Recs, nil, number, bytes, message}
 
 abbrev pub deepest : Recs → ℕ

@@ -2,7 +2,8 @@
 -- options type is, and that what was seen of its rows is the query; and that of a sheet of the right form the whole test says no more than
 -- its length's.
 -- Assumes nothing.
-use Rattle.basis.specs.Kit.{◌≡◌, refl, sym, ap, ◌∙◌, List, Option, none, some, ℕ, ◌≤◌, ◌<◌, length, sets}
+use Rattle.std.specs.Prelude.{◌≡◌, refl, List, ℕ, ◌≤◌, ◌<◌, length}
+use Rattle.basis.specs.Kit.{sym, ap, ◌∙◌, Option, none, some, sets}
 use borrow.Author.Tests.{leb-true}
 use Rattle.limits.specs.Figures.{most_option_bytes, most_levels}
 use Rattle.reply.specs.declared.Refusal.{Refusal}

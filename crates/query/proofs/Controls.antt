@@ -2,7 +2,7 @@
 -- comes from compare/options_reader.py, a second implementation of 01; where it is refused, from 02's [9], by hand: at the part, counted
 -- from 0, that the steps refuse; 6, and 7 and 8 of parts left, at the part whose declaration has that type; any other refusal nowhere.
 -- Assumes nothing.
-use Rattle.basis.specs.Kit.{◌≡◌, refl, List, [], ◌∷◌, ◌++◌, map, ℕ, zero, suc, ◌*◌}
+use Rattle.std.specs.Prelude.{◌≡◌, refl, List, [], ◌∷◌, ◌++◌, map, ℕ, zero, suc, ◌*◌}
 use lib.ListN.{replicate}
 use Prim.Native.String.{String}
 use Rattle.octets.specs.Octets.{big_at, same_bytes}

@@ -10,7 +10,8 @@
 --       query_tested s t q bs == what `query_tested` comes to, where of the sheet the length alone is judged
 --
 -- Assumes nothing.
-use Rattle.basis.specs.Kit.{Bool, List, Option, none, some, ℕ, length}
+use Rattle.std.specs.Prelude.{Bool, List, ℕ, length}
+use Rattle.basis.specs.Kit.{Option, none, some}
 use Rattle.reply.specs.declared.Verdict.{Verdict}
 use Rattle.reply.specs.Verdicts.{first_fault}
 use Rattle.reply.specs.Outcome.{Outcome, refused, refuse, unless, nothing, give}

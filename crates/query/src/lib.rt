@@ -2,7 +2,7 @@
 // declarations first, no option byte being read; then the rows are followed by them in one pass.
 #![tactic(auto)]
 
-ghost use Rattle.basis.specs.Kit.{◌≡◌, ◌*◌, ◌≤◌, length};
+ghost use Rattle.std.specs.Prelude.{◌≡◌, ◌*◌, ◌≤◌, length};
 ghost use Rattle.limits.specs.Figures.{most_option_bytes, most_levels, most_parts};
 ghost use Rattle.reply.specs.Outcome.{Answered, give};
 ghost use Rattle.reply.specs.declared.Verdict.TheVariants.{Fine};

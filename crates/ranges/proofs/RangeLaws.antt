@@ -1,6 +1,7 @@
 -- Ranges: the loop of `put_ranges`, and the ways through `lower_ranges`.
 -- Assumes nothing.
-use Rattle.basis.specs.Kit.{◌≡◌, refl, sym, ap, ◌∙◌, List, [], ◌∷◌, ℕ, suc, ◌+◌, ◌%◌, ◌≤◌, ◌<◌, length, get_or, drop, sets}
+use Rattle.std.specs.Prelude.{◌≡◌, refl, List, [], ◌∷◌, ℕ, suc, ◌+◌, ◌%◌, ◌≤◌, ◌<◌, length, get_or, drop}
+use Rattle.basis.specs.Kit.{sym, ap, ◌∙◌, sets}
 use Rattle.basis.proofs.Kit.{arith, add-one, eq-eqb, ne_eqb, lt-ltb, le-ltb, Fits}
 use lib.IntN.{ℤ, pos}
 use lib.ListN.{drop_of_length-le}

@@ -9,8 +9,7 @@
 --   lower_ranges k ws ==  what lowering ranges comes to
 --
 -- Assumes nothing.
-use Rattle.basis.specs.Kit.{Bool, true, false, List, [], ◌∷◌, ℕ, ◌%◌, eqb, ltb, length}
-use Rattle.std.specs.Prelude.{ℤ, pos, negsuc, ◌+ℤ◌}
+use Rattle.std.specs.Prelude.{Bool, true, false, List, [], ◌∷◌, ℕ, ◌%◌, eqb, ltb, length, ℤ, pos, negsuc, ◌+ℤ◌}
 use Rattle.limits.specs.Figures.{most_words}
 use Rattle.reply.specs.declared.Refusal.TheVariants.{BadRequest, BeyondLimit, RangeEnd}
 use Rattle.reply.specs.Outcome.{Outcome, refuse, give, push}

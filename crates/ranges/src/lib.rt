@@ -3,7 +3,8 @@
 // NoRoom comes last.
 #![tactic(auto)]
 
-ghost use Rattle.basis.specs.Kit.{◌≡◌, [], ◌∷◌, ◌%◌, ◌^◌, ◌<◌, length, sets};
+ghost use Rattle.std.specs.Prelude.{◌≡◌, [], ◌∷◌, ◌%◌, ◌^◌, ◌<◌, length};
+ghost use Rattle.basis.specs.Kit.{sets};
 ghost use Rattle.reply.specs.Outcome.{Answered};
 ghost use Rattle.ranges.specs.Ranges.{end_of, pairs, lower_ranges};
 ghost use Rattle.emit.specs.inner.Puts.{Puts};

@@ -1,7 +1,7 @@
 -- What the calls `list` and `query` come to, in terms of the records of the option bytes: where they give words, their inputs are fine, the
 -- bytes are read, and the words are those of rows.
 -- Assumes nothing.
-use Rattle.basis.specs.Kit.{◌≡◌, refl, List, ℕ}
+use Rattle.std.specs.Prelude.{◌≡◌, refl, List, ℕ}
 use Rattle.basis.proofs.Never.{never}
 use Rattle.reply.specs.declared.Verdict.{Verdict}
 use Rattle.reply.specs.declared.Verdict.TheVariants.{Fine, Refused}

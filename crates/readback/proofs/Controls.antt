@@ -1,7 +1,8 @@
 -- Closed cases, which the checker computes: records that one sheet types, as that sheet, an older and a still older one see them. Bytes and
 -- words are those of compare/options_reader.py, a second implementation of 01.
 -- Assumes nothing.
-use Rattle.basis.specs.Kit.{◌≡◌, refl, sym, ap, ◌∙◌, true, List, [], ◌∷◌, ◌++◌, map, Option, none, some, ℕ, ◌-◌, ◌^◌, ◌≤◌, length}
+use Rattle.std.specs.Prelude.{◌≡◌, refl, true, List, [], ◌∷◌, ◌++◌, map, ℕ, ◌-◌, ◌^◌, ◌≤◌, length}
+use Rattle.basis.specs.Kit.{sym, ap, ◌∙◌, Option, none, some}
 use Rattle.basis.proofs.Kit.{arith}
 use mathlib.Core.Logic.{inl, inr}
 use Rattle.octets.specs.Octets.{big_at, same_bytes}

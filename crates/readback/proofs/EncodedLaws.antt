@@ -1,7 +1,8 @@
 -- Every listed reading has what the bytes are by Encoding alone: the records at each level, with their numbers, wire types and payloads.
 -- The statement stands at the end.
 -- Assumes nothing.
-use Rattle.basis.specs.Kit.{◌≡◌, refl, sym, ap, ◌∙◌, List, [], ◌∷◌, ◌++◌, some as is, ℕ, zero, suc, ◌+◌, ◌≤◌, length, take, drop}
+use Rattle.std.specs.Prelude.{◌≡◌, refl, List, [], ◌∷◌, ◌++◌, ℕ, zero, suc, ◌+◌, ◌≤◌, length, take, drop}
+use Rattle.basis.specs.Kit.{sym, ap, ◌∙◌, some as is}
 use Rattle.basis.proofs.Kit.{arith}
 use mathlib.Core.Path.{subst}
 use mathlib.Core.List.{append-nil}

@@ -1,7 +1,7 @@
 -- Closed cases of the records of option bytes, which the checker computes: of each rule cases that hold, cases at its border, and cases
 -- that are refused. The expected words and replies come from a second implementation of 01, and of a few cases from a reading by hand.
 -- Assumes nothing.
-use Rattle.basis.specs.Kit.{◌≡◌, refl, true, false, List, [], ◌∷◌, ◌++◌, map, ℕ, zero, suc, ◌+◌, ◌-◌, ◌*◌, ltb, length}
+use Rattle.std.specs.Prelude.{◌≡◌, refl, true, false, List, [], ◌∷◌, ◌++◌, map, ℕ, zero, suc, ◌+◌, ◌-◌, ◌*◌, ltb, length}
 use Rattle.basis.specs.First.{told, only_if}
 use Prim.Native.String.{String}
 use Rattle.limits.specs.Figures.{most_messages}

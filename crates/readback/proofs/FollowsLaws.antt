@@ -1,6 +1,7 @@
 -- What a value query reaches is what 01 says that it follows: at each part the last record that the part's declaration lists.
 -- Assumes nothing.
-use Rattle.basis.specs.Kit.{◌≡◌, refl, ap, Bool, true, false, List, [], ◌∷◌, Option, none, some, ℕ, suc}
+use Rattle.std.specs.Prelude.{◌≡◌, refl, Bool, true, false, List, [], ◌∷◌, ℕ, suc}
+use Rattle.basis.specs.Kit.{ap, Option, none, some}
 use Rattle.basis.proofs.Never.{never}
 use Rattle.sheet.specs.declared.declaration.Declaration.{Declaration}
 use Rattle.entries.specs.declared.Entry.{Entry}

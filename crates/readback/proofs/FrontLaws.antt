@@ -1,8 +1,8 @@
 -- A record at the front of bytes, as it is written: its tag, the bytes of a length, its payload. What one reading step makes of it, by what
 -- declares its number.
 -- Assumes nothing.
-use Rattle.basis.specs.Kit.{◌≡◌, refl, sym, ap, ◌∙◌, true, List, [], ◌∷◌, ◌++◌, none, some as is, ℕ, ◌+◌, ◌^◌, ◌≤◌, ◌<◌}
-use Rattle.basis.specs.Kit.{length, take, drop}
+use Rattle.std.specs.Prelude.{◌≡◌, refl, true, List, [], ◌∷◌, ◌++◌, ℕ, ◌+◌, ◌^◌, ◌≤◌, ◌<◌, length, take, drop}
+use Rattle.basis.specs.Kit.{sym, ap, ◌∙◌, none, some as is}
 use Rattle.basis.proofs.Kit.{arith, eq-eqb, ne_eqb}
 use mathlib.Core.Path.{ap₂}
 use mathlib.Core.List.{append_assoc}

@@ -1,6 +1,7 @@
 -- What the item at the front of bytes is made of, where it is none that is refused: a tag, a payload, and what declares the number.
 -- Assumes nothing.
-use Rattle.basis.specs.Kit.{◌≡◌, refl, Bool, true, false, List, [], ◌∷◌, Option, none, some as is, ℕ, ◌+◌, ◌≤◌, eqb, length, drop}
+use Rattle.std.specs.Prelude.{◌≡◌, refl, Bool, true, false, List, [], ◌∷◌, ℕ, ◌+◌, ◌≤◌, eqb, length, drop}
+use Rattle.basis.specs.Kit.{Option, none, some as is}
 use Rattle.basis.proofs.Kit.{arith}
 use borrow.Author.Tests.{eqb-true, eqb-false}
 use lib.ListN.{length-drop}

@@ -1,6 +1,7 @@
 -- Records that a sheet types are not contradicted by an older one that keeps to it: their bytes are read under the older too.
 -- Assumes nothing.
-use Rattle.basis.specs.Kit.{◌≡◌, sym, ap, ◌∙◌, List, some, ℕ, ◌^◌, ◌<◌, length}
+use Rattle.std.specs.Prelude.{◌≡◌, List, ℕ, ◌^◌, ◌<◌, length}
+use Rattle.basis.specs.Kit.{sym, ap, ◌∙◌, some}
 use Rattle.types.specs.Types.{wire_of}
 use Rattle.sheet.specs.declared.declaration.Declaration.{Declaration}
 use Rattle.lookups.specs.Lookups.{Lookups, Message}

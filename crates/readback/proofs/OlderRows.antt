@@ -1,6 +1,7 @@
 -- The rows of records that a sheet types, listed under an older one that keeps to it: these records in order, as the older has them.
 -- Assumes nothing.
-use Rattle.basis.specs.Kit.{◌≡◌, refl, sym, ◌∙◌, List, [], ◌∷◌, ◌++◌, map, Option, none, some, ℕ, suc, ◌+◌, length, drop}
+use Rattle.std.specs.Prelude.{◌≡◌, refl, List, [], ◌∷◌, ◌++◌, map, ℕ, suc, ◌+◌, length, drop}
+use Rattle.basis.specs.Kit.{sym, ◌∙◌, Option, none, some}
 use mathlib.Core.Path.{ap₂}
 use mathlib.Core.List.{append-nil, append_assoc, map-append}
 use Rattle.types.specs.Types.{wire_of, LEN, TYPE_MESSAGE}

@@ -1,7 +1,8 @@
 -- What declares a number at a message: a field of the message or an extension of it, and, where each number is declared once, whichever
 -- was found by its name. The statements stand at the end.
 -- Assumes nothing.
-use Rattle.basis.specs.Kit.{◌≡◌, refl, ap, List, Option, none, some, ℕ}
+use Rattle.std.specs.Prelude.{◌≡◌, refl, List, ℕ}
+use Rattle.basis.specs.Kit.{ap, Option, none, some}
 use Rattle.basis.specs.First.{or_else}
 use Rattle.basis.proofs.Kit.{eq-eqb}
 use Rattle.basis.proofs.Never.{never}

@@ -1,6 +1,7 @@
 -- The bytes of records that a sheet types, read under that sheet: the rows are these records, in order, by number, type, value and payload.
 -- Assumes nothing.
-use Rattle.basis.specs.Kit.{◌≡◌, refl, ap, ◌∙◌, List, ◌∷◌, map, ℕ, suc, ◌^◌, ◌<◌, length}
+use Rattle.std.specs.Prelude.{◌≡◌, refl, List, ◌∷◌, map, ℕ, suc, ◌^◌, ◌<◌, length}
+use Rattle.basis.specs.Kit.{ap, ◌∙◌}
 use Rattle.lookups.specs.Lookups.{Lookups, Message}
 use Rattle.records.specs.Records.{Recs, nil, number, bytes, message, payload, encode}
 use Rattle.records.specs.Raw.{Proper}

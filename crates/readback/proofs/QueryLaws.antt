@@ -1,7 +1,8 @@
 -- What a value query answers: the words of a row of the listing, that of the part's declaration; Absent exactly where nothing is reached or
 -- parts are left on a group. The statements stand at the end.
 -- Assumes nothing.
-use Rattle.basis.specs.Kit.{◌≡◌, refl, sym, ap, ◌∙◌, Bool, List, [], ◌∷◌, ◌++◌, Option, none, some, ℕ, suc}
+use Rattle.std.specs.Prelude.{◌≡◌, refl, Bool, List, [], ◌∷◌, ◌++◌, ℕ, suc}
+use Rattle.basis.specs.Kit.{sym, ap, ◌∙◌, Option, none, some}
 use Rattle.basis.specs.Among.{Among, here, there}
 use Rattle.basis.proofs.Never.{never}
 use Rattle.basis.proofs.AmongLaws.{among-nil, among-append-left, among-append-right, among-append-cases}

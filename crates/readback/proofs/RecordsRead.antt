@@ -1,8 +1,8 @@
 -- The bytes of typed records, read under any sheet that does not contradict them, are those records as that sheet sees them. The statement
 -- stands at the end. Its proof meets the reading step through the laws of a declared and of an undeclared number alone.
 -- Assumes nothing.
-use Rattle.basis.specs.Kit.{◌≡◌, refl, sym, ap, ◌∙◌, true, List, [], ◌∷◌, ◌++◌, Option, none, some as is, ℕ, zero, suc, ◌+◌, ◌^◌, ◌≤◌, ◌<◌}
-use Rattle.basis.specs.Kit.{length}
+use Rattle.std.specs.Prelude.{◌≡◌, refl, true, List, [], ◌∷◌, ◌++◌, ℕ, zero, suc, ◌+◌, ◌^◌, ◌≤◌, ◌<◌, length}
+use Rattle.basis.specs.Kit.{sym, ap, ◌∙◌, Option, none, some as is}
 use Rattle.basis.proofs.Kit.{arith}
 use mathlib.Core.Bool.{false≢true}
 use mathlib.Core.List.{append_assoc}

@@ -1,7 +1,8 @@
 -- How the rows of every listed reading stand to each other: what is inside a known message directly behind it, a level deeper, and then
 -- what lies behind it. The statement stands at the end.
 -- Assumes nothing.
-use Rattle.basis.specs.Kit.{◌≡◌, refl, ap, ◌∙◌, List, [], ◌∷◌, ◌++◌, ℕ, suc, ◌+◌, ◌≤◌}
+use Rattle.std.specs.Prelude.{◌≡◌, refl, List, [], ◌∷◌, ◌++◌, ℕ, suc, ◌+◌, ◌≤◌}
+use Rattle.basis.specs.Kit.{ap, ◌∙◌}
 use Rattle.basis.specs.Among.{Among, here, there}
 use Rattle.basis.proofs.Kit.{arith}
 use Rattle.basis.proofs.AmongLaws.{among-nil, among-append-cases}

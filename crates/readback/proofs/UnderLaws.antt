@@ -1,6 +1,6 @@
 -- The records of option bytes under an options type are the reading of the bytes inside the message that the options type is.
 -- Assumes nothing.
-use Rattle.basis.specs.Kit.{◌≡◌, refl, List, ℕ}
+use Rattle.std.specs.Prelude.{◌≡◌, refl, List, ℕ}
 use Rattle.basis.proofs.Never.{never}
 use Rattle.limits.specs.Figures.{most_levels}
 use Rattle.scope.specs.declared.lookup.LookupScope.{LookupScope}

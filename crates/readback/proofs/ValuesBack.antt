@@ -1,6 +1,7 @@
 -- The value of a record that was written by its own type: the number that was written, and 0 of a length-delimited one.
 -- Assumes nothing.
-use Rattle.basis.specs.Kit.{◌≡◌, refl, ap, ◌∙◌, Bool, true, false, ◌||◌, List, [], ◌∷◌, ℕ, ◌%◌, ◌^◌, ◌<◌, eqb}
+use Rattle.std.specs.Prelude.{◌≡◌, refl, Bool, true, false, ◌||◌, List, [], ◌∷◌, ℕ, ◌%◌, ◌^◌, ◌<◌, eqb}
+use Rattle.basis.specs.Kit.{ap, ◌∙◌}
 use Rattle.basis.proofs.Kit.{arith}
 use borrow.Author.Tests.{eqb-true}
 use Rattle.types.specs.Types.{is_any, wire_of, VARINT, I64, LEN, I32, TYPE_FLOAT, TYPE_INT32, TYPE_FIXED32, TYPE_BOOL, TYPE_UINT32, TYPE_ENUM}

@@ -6,7 +6,8 @@
 --                       known message exactly what it holds
 --
 -- Assumes nothing.
-use Rattle.basis.specs.Kit.{◌≡◌, List, [], ◌∷◌, some, ℕ}
+use Rattle.std.specs.Prelude.{◌≡◌, List, [], ◌∷◌, ℕ}
+use Rattle.basis.specs.Kit.{some}
 use Rattle.records.specs.Raw.{Raw, raw_of}
 use Rattle.entries.specs.declared.Entry.{Entry}
 use Rattle.entries.specs.Tree.{Tree, end, one, held}

@@ -11,7 +11,8 @@
 --           OwnRow s t bs ws <-> the words ws are those of a row that `list` writes of the same bytes
 --
 -- Assumes nothing.
-use Rattle.basis.specs.Kit.{◌≡◌, Bool, true, false, List, [], ◌∷◌, none, some, ℕ, suc, length}
+use Rattle.std.specs.Prelude.{◌≡◌, Bool, true, false, List, [], ◌∷◌, ℕ, suc, length}
+use Rattle.basis.specs.Kit.{none, some}
 use Rattle.basis.specs.Among.{Among}
 use Rattle.reply.specs.Outcome.{give}
 use Rattle.field.specs.Walk.{walk}

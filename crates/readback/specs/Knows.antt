@@ -6,7 +6,8 @@
 --   Knows L s m t <-> so are all records of t; every known message is entered, at the message that its type path names, and nothing else
 --
 -- Assumes nothing.
-use Rattle.basis.specs.Kit.{◌≡◌, List, Option, none, some, ℕ}
+use Rattle.std.specs.Prelude.{◌≡◌, List, ℕ}
+use Rattle.basis.specs.Kit.{Option, none, some}
 use Rattle.types.specs.Types.{wire_of, TYPE_MESSAGE}
 use Rattle.sheet.specs.declared.declaration.Declaration.{Declaration}
 use Rattle.sheet.specs.declared.declaration.Declared.{Declared}

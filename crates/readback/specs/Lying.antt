@@ -7,7 +7,7 @@
 --        Lying bs a b t <-> so do all records of t, each behind the end of the one before it, and what a message holds inside its payload
 --
 -- Assumes nothing.
-use Rattle.basis.specs.Kit.{◌≡◌, List, ℕ, ◌+◌, ◌≤◌}
+use Rattle.std.specs.Prelude.{◌≡◌, List, ℕ, ◌+◌, ◌≤◌}
 use Rattle.octets.specs.Octets.{part}
 use Rattle.payloads.specs.Value.{said, value_of}
 use Rattle.sheet.specs.declared.declaration.Declared.{Declared}

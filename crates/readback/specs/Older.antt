@@ -12,7 +12,8 @@
 --   told L s m l rs ==  what the records rs, at the level l inside the message m, hold as the older has it
 --
 -- Assumes nothing.
-use Rattle.basis.specs.Kit.{◌≡◌, List, [], ◌∷◌, ◌++◌, Option, none, some, ℕ, suc}
+use Rattle.std.specs.Prelude.{◌≡◌, List, [], ◌∷◌, ◌++◌, ℕ, suc}
+use Rattle.basis.specs.Kit.{Option, none, some}
 use Rattle.types.specs.Types.{TYPE_MESSAGE}
 use Rattle.sheet.specs.declared.declaration.Declaration.{Declaration}
 use Rattle.scope.specs.declared.lookup.LookupScope.{LookupScope}

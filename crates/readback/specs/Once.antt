@@ -4,7 +4,7 @@
 --           Once L s <-> no number is declared twice for one message that is looked up
 --
 -- Assumes nothing.
-use Rattle.basis.specs.Kit.{◌≡◌, true, List, ℕ}
+use Rattle.std.specs.Prelude.{◌≡◌, true, List, ℕ}
 use Rattle.basis.specs.Among.{Among}
 use Rattle.sheet.specs.declared.declaration.Declaration.{Declaration}
 use Rattle.sheet.specs.Tree.{tree_of}

@@ -8,7 +8,7 @@
 --        Stand rs <-> so it is of every row, with those behind it
 --
 -- Assumes nothing.
-use Rattle.basis.specs.Kit.{◌≡◌, List, [], ◌∷◌, ◌++◌, ℕ, suc, ◌+◌, ◌≤◌, ◌<◌}
+use Rattle.std.specs.Prelude.{◌≡◌, List, [], ◌∷◌, ◌++◌, ℕ, suc, ◌+◌, ◌≤◌, ◌<◌}
 use Rattle.basis.specs.Among.{Among}
 use Rattle.types.specs.Types.{TYPE_MESSAGE}
 use Rattle.entries.specs.declared.Row.{Row}

@@ -15,8 +15,8 @@
 --                           names one, inside which it is so again. Of a number that is not declared nothing is asked
 --
 -- Assumes nothing.
-use Rattle.basis.specs.Kit.{◌≡◌, List, ◌++◌, Option, none, some, ℕ, suc, ◌+◌, length}
-use Rattle.std.specs.Prelude.{max}
+use Rattle.std.specs.Prelude.{◌≡◌, List, ◌++◌, ℕ, suc, ◌+◌, length, max}
+use Rattle.basis.specs.Kit.{Option, none, some}
 use Rattle.field.specs.Leaf.{text}
 use Rattle.types.specs.Types.{wire_of, LEN, TYPE_MESSAGE}
 use Rattle.payloads.specs.Value.{said, value_of}

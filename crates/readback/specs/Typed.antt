@@ -9,7 +9,8 @@
 --         content_of bs r ==  what the row r of the option bytes bs holds
 --
 -- Assumes nothing.
-use Rattle.basis.specs.Kit.{◌≡◌, List, [], ◌∷◌, ◌++◌, some, ℕ, suc, ◌+◌}
+use Rattle.std.specs.Prelude.{◌≡◌, List, [], ◌∷◌, ◌++◌, ℕ, suc, ◌+◌}
+use Rattle.basis.specs.Kit.{some}
 use Rattle.octets.specs.Octets.{part}
 use Rattle.types.specs.Types.{TYPE_MESSAGE}
 use Rattle.sheet.specs.declared.declaration.Declaration.{Declaration}

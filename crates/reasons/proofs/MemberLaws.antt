@@ -1,7 +1,8 @@
 -- The laws of members: the ways through the functions that look at one field, the loops over them, and that they are the fields of a
 -- message or the values of an enum.
 -- Assumes nothing.
-use Rattle.basis.specs.Kit.{◌≡◌, refl, sym, ap, ◌∙◌, Bool, true, false, List, [], ◌++◌, map, ℕ, ◌+◌, ◌-◌, ◌≤◌, eqb, length}
+use Rattle.std.specs.Prelude.{◌≡◌, refl, Bool, true, false, List, [], ◌++◌, map, ℕ, ◌+◌, ◌-◌, ◌≤◌, eqb, length}
+use Rattle.basis.specs.Kit.{sym, ap, ◌∙◌}
 use Rattle.basis.specs.First.{only_if}
 use Rattle.basis.specs.Count.{count, once}
 use Rattle.basis.proofs.Kit.{arith, eq-eqb, ne_eqb}

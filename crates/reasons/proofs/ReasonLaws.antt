@@ -1,6 +1,7 @@
 -- The laws of reasons: the first of two, and of many, and that there is none exactly where every test holds.
 -- Assumes nothing.
-use Rattle.basis.specs.Kit.{◌≡◌, refl, ◌∙◌, Bool, true, false, ◌&&◌, List, [], ◌∷◌, ℕ, suc}
+use Rattle.std.specs.Prelude.{◌≡◌, refl, Bool, true, false, ◌&&◌, List, [], ◌∷◌, ℕ, suc}
+use Rattle.basis.specs.Kit.{◌∙◌}
 use Rattle.basis.specs.Count.{every}
 use Rattle.field.specs.declared.Span.{Span}
 use Rattle.names.specs.Names.{Named}

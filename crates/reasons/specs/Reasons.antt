@@ -18,7 +18,7 @@
 --    contained_reason s t ==  the first loss
 --
 -- Assumes nothing.
-use Rattle.basis.specs.Kit.{Bool, true, false, List, [], ◌∷◌, ℕ, suc}
+use Rattle.std.specs.Prelude.{Bool, true, false, List, [], ◌∷◌, ℕ, suc}
 use Rattle.basis.specs.First.{only_if}
 use Rattle.basis.specs.Count.{once}
 use Rattle.field.specs.declared.Span.{Span}

@@ -3,7 +3,7 @@
 
 pub mod members;
 
-ghost use Rattle.basis.specs.Kit.{◌≡◌};
+ghost use Rattle.std.specs.Prelude.{◌≡◌};
 ghost use Rattle.reasons.specs.Reasons.{holds as holds_of, or_no};
 
 use field::Span;

@@ -1,5 +1,5 @@
 // The fields of a message, or the values of an enum, by name: no two may share one.
-ghost use Rattle.basis.specs.Kit.{◌≡◌, [], ◌≤◌};
+ghost use Rattle.std.specs.Prelude.{◌≡◌, [], ◌≤◌};
 ghost use Rattle.basis.specs.Count.{count};
 ghost use Rattle.field.specs.Leaf.{Lies, is_text};
 ghost use Rattle.field.specs.Walk.{walk};

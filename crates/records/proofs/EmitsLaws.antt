@@ -1,6 +1,7 @@
 -- What a writer of records answers and leaves: one set of laws for every enum that a writer answers.
 -- Assumes nothing.
-use Rattle.basis.specs.Kit.{◌≡◌, refl, sym, ap, ◌∙◌, List, ℕ, ◌+◌, ◌≤◌, length}
+use Rattle.std.specs.Prelude.{◌≡◌, refl, List, ℕ, ◌+◌, ◌≤◌, length}
+use Rattle.basis.specs.Kit.{sym, ap, ◌∙◌}
 use Rattle.basis.proofs.Kit.{arith}
 use native.Mathlib.Nat.{add-zero, le_trans}
 use Rattle.basis.proofs.Never.{never}

@@ -1,7 +1,8 @@
 -- A message's record: what it holds is written behind the shortest head, and then enclosed. One set of laws for every enum that a writer
 -- answers.
 -- Assumes nothing.
-use Rattle.basis.specs.Kit.{◌≡◌, sym, ap, ◌∙◌, List, ◌++◌, ℕ, ◌+◌, ◌-◌, ◌^◌, ◌≤◌, ◌<◌, length, sets}
+use Rattle.std.specs.Prelude.{◌≡◌, List, ◌++◌, ℕ, ◌+◌, ◌-◌, ◌^◌, ◌≤◌, ◌<◌, length}
+use Rattle.basis.specs.Kit.{sym, ap, ◌∙◌, sets}
 use Rattle.basis.proofs.Kit.{arith, w64, Fits}
 use mathlib.Core.List.{append-nil}
 use lib.ListN.{length-append}

@@ -1,6 +1,7 @@
 -- Records, or what is wrong, one after the other: the laws of `after` and `both`.
 -- Assumes nothing.
-use Rattle.basis.specs.Kit.{◌≡◌, refl, sym, ap}
+use Rattle.std.specs.Prelude.{◌≡◌, refl}
+use Rattle.basis.specs.Kit.{sym, ap}
 use Rattle.records.specs.Records.{Recs, nil, append}
 use Rattle.records.specs.Made.{Made, made, wrong, after, both}
 use Rattle.records.proofs.RecsLaws.{append-nil-right, append-append}

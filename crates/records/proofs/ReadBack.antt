@@ -1,8 +1,8 @@
 -- Records read back: by Encoding alone the bytes of typed records are those records in their order, with their numbers, their wire types
 -- and their payloads, and no varint among them has a shorter form.
 -- Assumes nothing.
-use Rattle.basis.specs.Kit.{◌≡◌, refl, sym, ap, ◌∙◌, Bool, true, false, ◌||◌, List, [], ◌∷◌, ◌++◌, Option, some, ℕ, ◌+◌, ◌-◌, ◌^◌, ◌≤◌}
-use Rattle.basis.specs.Kit.{◌<◌, eqb, length, drop}
+use Rattle.std.specs.Prelude.{◌≡◌, refl, Bool, true, false, ◌||◌, List, [], ◌∷◌, ◌++◌, ℕ, ◌+◌, ◌-◌, ◌^◌, ◌≤◌, ◌<◌, eqb, length, drop}
+use Rattle.basis.specs.Kit.{sym, ap, ◌∙◌, Option, some}
 use Rattle.basis.proofs.Kit.{arith}
 use mathlib.Core.Path.{subst}
 use mathlib.Core.Bool.{false≢true}

@@ -1,6 +1,7 @@
 -- Typed records as bytes and back: the examples of the encoding document, and bytes that are no records.
 -- Assumes nothing.
-use Rattle.basis.specs.Kit.{◌≡◌, refl, List, [], ◌∷◌, map, none, some, ℕ}
+use Rattle.std.specs.Prelude.{◌≡◌, refl, List, [], ◌∷◌, map, ℕ}
+use Rattle.basis.specs.Kit.{none, some}
 use Rattle.types.specs.Types.{TYPE_INT32, TYPE_STRING, TYPE_SINT32, TYPE_FIXED32, TYPE_FIXED64, wire_of, VARINT, I64, I32, LEN}
 use Rattle.varint.specs.Varint.{varint, varint_within, read_varint, read_within}
 use Rattle.wire.specs.Fixed.{little_of}

@@ -1,6 +1,7 @@
 -- Records one after the other, and how many bytes they have.
 -- Assumes nothing.
-use Rattle.basis.specs.Kit.{◌≡◌, refl, ap, List, ◌++◌, ℕ, ◌+◌, ◌≤◌, length}
+use Rattle.std.specs.Prelude.{◌≡◌, refl, List, ◌++◌, ℕ, ◌+◌, ◌≤◌, length}
+use Rattle.basis.specs.Kit.{ap}
 use Rattle.basis.proofs.Kit.{arith}
 use mathlib.Core.List.{append-nil, append_assoc}
 use lib.ListN.{length-append}

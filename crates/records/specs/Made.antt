@@ -6,7 +6,7 @@
 --   holding n m == one message record of the number n that holds the records m
 --
 -- Assumes nothing.
-use Rattle.basis.specs.Kit.{ℕ}
+use Rattle.std.specs.Prelude.{ℕ}
 use Rattle.records.specs.Records.{Recs, nil, message, append}
 
 pub data Made (W : Type 0) : Type 0 where

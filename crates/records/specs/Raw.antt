@@ -12,7 +12,8 @@
 --                        length-delimited, and no group
 --
 -- Assumes nothing.
-use Rattle.basis.specs.Kit.{◌≡◌, true, false, List, [], ◌∷◌, Option, none, some, ℕ, zero, suc, ◌+◌, ◌-◌, ◌^◌, ◌≤◌, ◌<◌, take, drop}
+use Rattle.std.specs.Prelude.{◌≡◌, true, false, List, [], ◌∷◌, ℕ, zero, suc, ◌+◌, ◌-◌, ◌^◌, ◌≤◌, ◌<◌, take, drop}
+use Rattle.basis.specs.Kit.{Option, none, some}
 use Rattle.basis.specs.First.{given}
 use Rattle.limits.specs.Figures.{most_number}
 use Rattle.types.specs.Types.{is_any, wire_of, VARINT, I64, I32, LEN, TYPE_MESSAGE}

@@ -10,7 +10,7 @@
 --      encode rs == the bytes of records
 --
 -- Assumes nothing.
-use Rattle.basis.specs.Kit.{true, false, List, [], ◌∷◌, ◌++◌, ℕ, eqb, length}
+use Rattle.std.specs.Prelude.{true, false, List, [], ◌∷◌, ◌++◌, ℕ, eqb, length}
 use Rattle.field.specs.Leaf.{text}
 use Rattle.types.specs.Types.{is_any, wire_of, I64, I32, LEN, TYPE_SINT32, TYPE_SINT64}
 use Rattle.varint.specs.Varint.{varint}

@@ -1,7 +1,7 @@
 // One record, written: its tag, then a number, bytes, or the length of a message.
 #![tactic(auto)]
 
-ghost use Rattle.basis.specs.Kit.{◌≡◌, ◌++◌, ◌+◌, ◌^◌, ◌≤◌, ◌<◌, length};
+ghost use Rattle.std.specs.Prelude.{◌≡◌, ◌++◌, ◌+◌, ◌^◌, ◌≤◌, ◌<◌, length};
 ghost use Rattle.octets.specs.inner.Laid.{Laid};
 ghost use Rattle.octets.specs.inner.Moved.{Moved};
 ghost use Rattle.records.specs.Records.{record_of, payload, headed, head_of, sized, encode};

@@ -1,6 +1,6 @@
 -- Closed cases of outcomes and of the table, which the checker computes: room one short, exact and ample; Absent in no room; what is left.
 -- Assumes nothing.
-use Rattle.basis.specs.Kit.{◌≡◌, refl, [], ◌∷◌, ◌++◌, map, ℕ}
+use Rattle.std.specs.Prelude.{◌≡◌, refl, [], ◌∷◌, ◌++◌, map, ℕ}
 use Rattle.reply.specs.declared.Refusal.TheVariants.{BadRequest, NoRoom, BuiltinOptionNotFound}
 use Rattle.reply.specs.declared.Refusal.TheVariants.{BuiltinOptionPointsToNonSingularField}
 use Rattle.reply.specs.declared.Where.{Where}

@@ -1,6 +1,7 @@
 -- The laws of outcomes: the ways to a public call's answer, and that there is one answer only.
 -- Assumes nothing.
-use Rattle.basis.specs.Kit.{◌≡◌, refl, sym, ap, ◌∙◌, List, [], ◌++◌, ◌≤◌, ◌<◌, length, drop}
+use Rattle.std.specs.Prelude.{◌≡◌, refl, List, [], ◌++◌, ◌≤◌, ◌<◌, length, drop}
+use Rattle.basis.specs.Kit.{sym, ap, ◌∙◌}
 use Rattle.basis.proofs.Kit.{lt-ltb, le-ltb}
 use mathlib.Core.List.{append_assoc}
 use Rattle.reply.specs.declared.Cause.{Cause}

@@ -1,6 +1,6 @@
 -- The laws of places: the two numbers of each.
 -- Assumes nothing.
-use Rattle.basis.specs.Kit.{◌≡◌, ℕ}
+use Rattle.std.specs.Prelude.{◌≡◌, ℕ}
 use Rattle.reply.specs.declared.Where.{Where}
 use Rattle.reply.specs.declared.Where.TheVariants.{Nowhere, Part, Option}
 use Rattle.reply.specs.declared.Positions.{Positions}

@@ -1,6 +1,7 @@
 -- The rows of 01's table: at a refusal that a match has found, and that no two refusals share one.
 -- Assumes nothing.
-use Rattle.basis.specs.Kit.{◌≡◌, sym, ap, ◌∙◌, Bool, ◌&&◌, ◌||◌, ℕ, ◌/◌, ◌%◌, ◌<◌, eqb, ltb}
+use Rattle.std.specs.Prelude.{◌≡◌, Bool, ◌&&◌, ◌||◌, ℕ, ◌/◌, ◌%◌, ◌<◌, eqb, ltb}
+use Rattle.basis.specs.Kit.{sym, ap, ◌∙◌}
 use Rattle.basis.proofs.Kit.{eq-eqb}
 use mathlib.Core.Path.{subst}
 use mathlib.Core.Bool.{not}

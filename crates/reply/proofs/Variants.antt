@@ -5,7 +5,8 @@
 --       each ps p <=> the test p holds of each, and none holds anything
 --
 -- Assumes nothing.
-use Rattle.basis.specs.Kit.{◌≡◌, refl, ap, Bool, true, false, ◌&&◌, List, [], ◌∷◌, ℕ, zero, suc, ◌<◌}
+use Rattle.std.specs.Prelude.{◌≡◌, refl, Bool, true, false, ◌&&◌, List, [], ◌∷◌, ℕ, zero, suc, ◌<◌}
+use Rattle.basis.specs.Kit.{ap}
 use Rattle.basis.proofs.Kit.{arith}
 use mathlib.Core.Logic.{inl, inr}
 use lib.Dec.{T}

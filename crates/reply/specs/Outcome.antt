@@ -10,7 +10,7 @@
 --   Answered o before after r <-> r is the answer of o, and the lent memory, `before` the call, is `after` it
 --
 -- Assumes nothing.
-use Rattle.basis.specs.Kit.{◌≡◌, true, false, List, ◌++◌, ℕ, ltb, length, drop}
+use Rattle.std.specs.Prelude.{◌≡◌, true, false, List, ◌++◌, ℕ, ltb, length, drop}
 use Rattle.reply.specs.declared.Refusal.{Refusal}
 use Rattle.reply.specs.declared.Refusal.TheVariants.{NoRoom}
 use Rattle.reply.specs.declared.Cause.{Cause}

@@ -17,7 +17,7 @@
 --      decided b ==  the answer of a call that answers yes or no
 --
 -- Assumes nothing.
-use Rattle.basis.specs.Kit.{◌≡◌, Bool, List, [], ℕ, take}
+use Rattle.std.specs.Prelude.{◌≡◌, Bool, List, [], ℕ, take}
 use Rattle.basis.specs.First.{only_if}
 use Prim.Native.String.{String}
 use Rattle.octets.specs.Ascii.{ascii}

@@ -10,7 +10,7 @@
 --         Says v r <-> the answer r is the verdict v, and so has its number and its second word
 --
 -- Assumes nothing.
-use Rattle.basis.specs.Kit.{◌≡◌, Bool, true, false, ℕ}
+use Rattle.std.specs.Prelude.{◌≡◌, Bool, true, false, ℕ}
 use Rattle.reply.specs.declared.Refusal.{Refusal}
 use Rattle.reply.specs.declared.Refusal.TheVariants.{BeyondLimit}
 use Rattle.reply.specs.declared.Verdict.{Verdict}

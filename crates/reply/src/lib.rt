@@ -1,7 +1,7 @@
 // 01's table of replies, once: the refusals, the answer that every public call returns, and the names that programs print.
 #![tactic(auto)]
 
-ghost use Rattle.basis.specs.Kit.{◌≡◌, ◌≤◌, length};
+ghost use Rattle.std.specs.Prelude.{◌≡◌, ◌≤◌, length};
 ghost use Rattle.reply.specs.Reply.{positions as positions_of, bare as bare_of, refused_for, refused_by};
 ghost use Rattle.reply.specs.Reply.{done_with, absent_answer, decided as decided_of};
 ghost use Rattle.reply.specs.Reply.{NameOf, most_name, text_of};

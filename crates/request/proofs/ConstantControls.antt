@@ -1,6 +1,6 @@
 -- Closed cases of constants, which the checker computes: the eight kinds, at their limits and past them, and the tree of a message.
 -- Assumes nothing.
-use Rattle.basis.specs.Kit.{◌≡◌, refl, true, false, List, [], ◌∷◌, map, ℕ, length}
+use Rattle.std.specs.Prelude.{◌≡◌, refl, true, false, List, [], ◌∷◌, map, ℕ, length}
 use lib.IntN.{negsuc}
 use lib.Ieee.{inf, fin, nan_bits, of_bits, of_fields, odd}
 use Rattle.octets.specs.Octets.{big_at}

@@ -1,6 +1,6 @@
 -- Closed cases of requests, which the checker computes: the request of P1 with its places, no options, no heading, and what is left out.
 -- Assumes nothing.
-use Rattle.basis.specs.Kit.{◌≡◌, refl, true, false, List, [], ◌∷◌, ◌++◌, ℕ}
+use Rattle.std.specs.Prelude.{◌≡◌, refl, true, false, List, [], ◌∷◌, ◌++◌, ℕ}
 use Rattle.octets.specs.Octets.{big_at}
 use Rattle.field.specs.Field.{field_at}
 use Rattle.field.specs.Leaf.{span, leaf_at}

@@ -9,7 +9,7 @@
 --         is_pair_name t <=> t is the tag of a pair's name
 --
 -- Assumes nothing.
-use Rattle.basis.specs.Kit.{Bool, true, false, ◌&&◌, List, ℕ, ◌-◌, ◌^◌, eqb, ltb, leb, get_or}
+use Rattle.std.specs.Prelude.{Bool, true, false, ◌&&◌, List, ℕ, ◌-◌, ◌^◌, eqb, ltb, leb, get_or}
 use Rattle.std.specs.Float.{binary64}
 use Rattle.std.specs.Float.Ieee.{of_bits, nan_bits}
 use Rattle.octets.specs.Octets.{big_at}

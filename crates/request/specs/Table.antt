@@ -3,7 +3,7 @@
 --   option_tag .. list_tag == the tag's number
 --
 -- Assumes nothing.
-use Rattle.basis.specs.Kit.{ℕ}
+use Rattle.std.specs.Prelude.{ℕ}
 
 abbrev pub option_tag : ℕ
 option_tag = 0x08

@@ -12,7 +12,7 @@
 --   constant_in d s l t a e rest == the constant of the tag t whose payload is from a to e, with d levels left, and what follows it
 --
 -- Assumes nothing.
-use Rattle.basis.specs.Kit.{true, false, List, ℕ, zero, suc, eqb}
+use Rattle.std.specs.Prelude.{true, false, List, ℕ, zero, suc, eqb}
 use Rattle.field.specs.declared.Span.{Span}
 use Rattle.field.specs.Leaf.{span}
 use Rattle.field.specs.Walk.{Walk, done, cut, step, walk}

@@ -1,5 +1,5 @@
 // Constants.
-ghost use Rattle.basis.specs.Kit.{◌≡◌, ◌≤◌, length};
+ghost use Rattle.std.specs.Prelude.{◌≡◌, ◌≤◌, length};
 ghost use Rattle.request.specs.Constant.{integer_of, float_of, bool_of, numeric_of, constant_of};
 
 use crate::table;

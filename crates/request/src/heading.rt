@@ -1,5 +1,5 @@
 // The heading of a request, its scope and the path of its options type, and where the parts of an option end.
-ghost use Rattle.basis.specs.Kit.{◌≡◌, ◌≤◌, length};
+ghost use Rattle.std.specs.Prelude.{◌≡◌, ◌≤◌, length};
 ghost use Rattle.field.specs.Walk.{walk};
 ghost use Rattle.request.specs.Name.{after_parts};
 ghost use Rattle.request.specs.Request.{heading_of};

@@ -1,5 +1,5 @@
 // The parts of an option's name.
-ghost use Rattle.basis.specs.Kit.{◌≡◌, ◌≤◌, length};
+ghost use Rattle.std.specs.Prelude.{◌≡◌, ◌≤◌, length};
 ghost use Rattle.request.specs.Name.{part_at};
 
 use crate::table;

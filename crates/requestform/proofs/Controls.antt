@@ -1,6 +1,6 @@
 -- Closed cases of the definitions, computed: of each rule one that holds, one at the limit and one refused just past it.
 -- Assumes nothing.
-use Rattle.basis.specs.Kit.{◌≡◌, refl, true, false, List, [], ◌∷◌, ◌++◌, map, ℕ, zero, suc, length}
+use Rattle.std.specs.Prelude.{◌≡◌, refl, true, false, List, [], ◌∷◌, ◌++◌, map, ℕ, zero, suc, length}
 use lib.ListN.{replicate}
 use Rattle.octets.specs.Octets.{big_at}
 use Rattle.ident.specs.Ident.{is_letter, is_digit, all_word, is_ident}

@@ -1,7 +1,8 @@
 -- What a fine request's tree is like: every leaf is what 01 allows, and nothing is left out. The final statements stand at the end; what
 -- they say of an option goes on in optionform/proofs (FineLaws, PartsLaws), of its constant in constantform/proofs (FineLaws).
 -- Assumes nothing.
-use Rattle.basis.specs.Kit.{◌≡◌, refl, sym, ap, ◌∙◌, Bool, true, false, ◌&&◌, List, ◌∷◌, ℕ, suc, ◌+◌, ◌≤◌, ◌<◌, eqb, ltb, length}
+use Rattle.std.specs.Prelude.{◌≡◌, refl, Bool, true, false, ◌&&◌, List, ◌∷◌, ℕ, suc, ◌+◌, ◌≤◌, ◌<◌, eqb, ltb, length}
+use Rattle.basis.specs.Kit.{sym, ap, ◌∙◌}
 use Rattle.basis.proofs.Kit.{arith}
 use mathlib.Core.Path.{subst}
 use mathlib.Core.Bool.{false≢true, not, and-eq-true_iff}

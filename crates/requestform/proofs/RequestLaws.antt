@@ -1,7 +1,7 @@
 -- Requests, and what a call is given alone: the ways through `check_options`, `check_request`, `check_scope`, `check_options_type`,
 -- `check_path` and `check_name`.
 -- Assumes nothing.
-use Rattle.basis.specs.Kit.{◌≡◌, Bool, ◌&&◌, List, ℕ, ◌+◌, ◌-◌, ◌≤◌, ◌<◌, eqb, length}
+use Rattle.std.specs.Prelude.{◌≡◌, Bool, ◌&&◌, List, ℕ, ◌+◌, ◌-◌, ◌≤◌, ◌<◌, eqb, length}
 use Rattle.basis.proofs.Kit.{arith, lt-ltb, le-ltb}
 use mathlib.Core.Bool.{not}
 use Rattle.limits.specs.Figures.{most_request}

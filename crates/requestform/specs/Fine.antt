@@ -4,7 +4,7 @@
 --    good_request s q <=> scope, options type and options are what 01 allows
 --
 -- Assumes nothing.
-use Rattle.basis.specs.Kit.{Bool, true, ◌&&◌, List, [], ◌∷◌, ℕ}
+use Rattle.std.specs.Prelude.{Bool, true, ◌&&◌, List, [], ◌∷◌, ℕ}
 use Rattle.path.specs.Path.{is_rel_path, is_rel_or_empty}
 use Rattle.field.specs.Leaf.{text}
 use Rattle.request.specs.Request.{Option, Request}

@@ -10,8 +10,7 @@
 --          judge_path t == a path as an extension part has it, alone
 --
 -- Assumes nothing.
-use Rattle.basis.specs.Kit.{true, false, ◌&&◌, List, ℕ, eqb, ltb, length}
-use Rattle.std.specs.Prelude.{not}
+use Rattle.std.specs.Prelude.{true, false, ◌&&◌, List, ℕ, eqb, ltb, length, not}
 use Rattle.limits.specs.Figures.{most_request}
 use Rattle.path.specs.Path.{is_rel_path, is_rel_or_empty, is_path}
 use Rattle.reply.specs.declared.Refusal.TheVariants.{BadRequest}

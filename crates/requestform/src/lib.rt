@@ -2,7 +2,7 @@
 // front.
 #![tactic(auto)]
 
-ghost use Rattle.basis.specs.Kit.{◌≡◌, ◌≤◌, length};
+ghost use Rattle.std.specs.Prelude.{◌≡◌, ◌≤◌, length};
 ghost use Rattle.reply.specs.Verdicts.{Says};
 ghost use Rattle.requestform.specs.Form.{judge_options, judge_request, judge_scope, judge_options_type, judge_path, judge_name};
 

@@ -1,6 +1,7 @@
 -- The ways through `resolve`, `judged_by`, `verdict_tested` and `verdict`.
 -- Assumes nothing.
-use Rattle.basis.specs.Kit.{◌≡◌, refl, sym, ◌∙◌, List, ℕ}
+use Rattle.std.specs.Prelude.{◌≡◌, refl, List, ℕ}
+use Rattle.basis.specs.Kit.{sym, ◌∙◌}
 use Rattle.reply.specs.declared.Refusal.{Refusal}
 use Rattle.reply.specs.declared.Verdict.{Verdict}
 use Rattle.reply.specs.declared.Verdict.TheVariants.{Fine, Refused as Bad}

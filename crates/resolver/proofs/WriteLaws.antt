@@ -1,6 +1,7 @@
 -- What was measured, written: the ways through `write` and `resolve_over`.
 -- Assumes nothing.
-use Rattle.basis.specs.Kit.{◌≡◌, refl, sym, ap, ◌∙◌, List, ◌++◌, ℕ, ◌≤◌, length, take, drop, sets}
+use Rattle.std.specs.Prelude.{◌≡◌, refl, List, ◌++◌, ℕ, ◌≤◌, length, take, drop}
+use Rattle.basis.specs.Kit.{sym, ap, ◌∙◌, sets}
 use lib.Seq.{length-take-le}
 use Rattle.basis.proofs.Never.{never}
 use Rattle.reply.specs.declared.Answer.{Answer}

@@ -3,7 +3,7 @@
 // refusal writes nothing, and NoRoom comes last.
 #![tactic(auto)]
 
-ghost use Rattle.basis.specs.Kit.{◌≡◌, ◌≤◌, length};
+ghost use Rattle.std.specs.Prelude.{◌≡◌, ◌≤◌, length};
 ghost use Rattle.limits.specs.Figures.{most_options};
 ghost use Rattle.reply.specs.Outcome.{Answered};
 ghost use Rattle.lookups.specs.Lookups.{walking};

@@ -1,7 +1,7 @@
 -- Closed cases of the i-th of all messages, enums and extensions, which the checker computes: P1's sheet; a message that holds another, a
 -- field and an enum, in a file of no package; one past the last, and further; the empty sheet.
 -- Assumes nothing.
-use Rattle.basis.specs.Kit.{◌≡◌, refl, List, [], ◌∷◌, map, ℕ}
+use Rattle.std.specs.Prelude.{◌≡◌, refl, List, [], ◌∷◌, map, ℕ}
 use Rattle.octets.specs.Ascii.{ascii}
 use Rattle.field.specs.Leaf.{span}
 use Rattle.sheet.specs.Declaration.{shape}

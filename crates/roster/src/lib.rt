@@ -2,7 +2,7 @@
 // loop.
 #![tactic(auto)]
 
-ghost use Rattle.basis.specs.Kit.{◌≤◌, ◌<◌, length, take};
+ghost use Rattle.std.specs.Prelude.{◌≤◌, ◌<◌, length, take};
 ghost use Rattle.field.specs.Leaf.{Lies, text};
 ghost use Rattle.field.specs.Walk.{walk};
 ghost use Rattle.sheet.specs.Declaration.{extension_at};

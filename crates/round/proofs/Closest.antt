@@ -1,6 +1,7 @@
 -- `closest m p`, the whole number nearest to m / p, a tie to the even one: which neighbour of m / p it is, how large, and that it is within
 -- half of m / p and even at a tie. Then the laws of `round_shift`, whose p is 1 << k. Assumes nothing.
-use Rattle.basis.specs.Kit.{◌≡◌, refl, sym, ap, ◌∙◌, ℕ, zero, suc, ◌+◌, ◌-◌, ◌*◌, ◌/◌, ◌%◌, ◌^◌, ◌≤◌, ◌<◌, eqb}
+use Rattle.std.specs.Prelude.{◌≡◌, refl, ℕ, zero, suc, ◌+◌, ◌-◌, ◌*◌, ◌/◌, ◌%◌, ◌^◌, ◌≤◌, ◌<◌, eqb}
+use Rattle.basis.specs.Kit.{sym, ap, ◌∙◌}
 use Rattle.basis.proofs.Kit.{arith, add-one, w64, Fits}
 use mathlib.Core.Path.{subst}
 use mathlib.Core.Bool.{not}

@@ -1,6 +1,6 @@
 -- Closed cases, which antt computes, that hold the definitions of specs/ to 01 and to IEEE 754: of each rule one that holds, one at the
 -- limit and one past it. The definitions are believed, so a wrong clause need break no other proof. Assumes nothing.
-use Rattle.basis.specs.Kit.{◌≡◌, refl, true, false, List, [], ◌∷◌, map, ℕ}
+use Rattle.std.specs.Prelude.{◌≡◌, refl, true, false, List, [], ◌∷◌, map, ℕ}
 use lib.Ieee.{Format, binary32, binary64, of_int, of_bits, round, to_bits}
 use Rattle.round.specs.Rounding.{signed_of, int_bits, narrow, narrow_bits}
 

@@ -1,6 +1,7 @@
 -- The laws of the conversions of integers, at either format: the shift that brings the top bit to bit 63, the bits of an integer that is so
 -- shifted, and the sign. Assumes nothing.
-use Rattle.basis.specs.Kit.{◌≡◌, refl, sym, ap, ◌∙◌, Bool, true, false, ℕ, zero, suc, ◌+◌, ◌-◌, ◌*◌, ◌/◌, ◌%◌, ◌^◌, ◌≤◌, ◌<◌, ltb}
+use Rattle.std.specs.Prelude.{◌≡◌, refl, Bool, true, false, ℕ, zero, suc, ◌+◌, ◌-◌, ◌*◌, ◌/◌, ◌%◌, ◌^◌, ◌≤◌, ◌<◌, ltb}
+use Rattle.basis.specs.Kit.{sym, ap, ◌∙◌}
 use Rattle.basis.proofs.Kit.{arith, w64, Fits}
 use Prim.Native.Nat.{suc-le-suc, min}
 use native.Mathlib.Nat.{le_trans, lt_of_le_of_lt, zero-lt-suc, one-mul, mul-le-mul_right, mod-eq_of_lt, min-eq_left}

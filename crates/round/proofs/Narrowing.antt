@@ -1,6 +1,7 @@
 -- The laws of narrowing a double to a float: the bits of m * 2 ^ x units of the smallest double, then the same by a double's fields, as
 -- `finite` has them, then with the sign, the infinities and the NaNs, as `f64_bits_to_f32_bits` has them. Assumes nothing.
-use Rattle.basis.specs.Kit.{◌≡◌, refl, sym, ap, ◌∙◌, Bool, true, false, ℕ, zero, suc, ◌+◌, ◌-◌, ◌*◌, ◌/◌, ◌%◌, ◌^◌, ◌≤◌, ◌<◌, leb}
+use Rattle.std.specs.Prelude.{◌≡◌, refl, Bool, true, false, ℕ, zero, suc, ◌+◌, ◌-◌, ◌*◌, ◌/◌, ◌%◌, ◌^◌, ◌≤◌, ◌<◌, leb}
+use Rattle.basis.specs.Kit.{sym, ap, ◌∙◌}
 use Rattle.basis.proofs.Kit.{arith, ne_eqb, w64, Fits}
 use mathlib.Core.Bool.{cond}
 use Prim.Native.Nat.{min}

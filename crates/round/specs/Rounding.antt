@@ -7,8 +7,7 @@
 --       narrow_bits b == the bits of a float from the bits of a double
 --
 -- Assumes nothing.
-use Rattle.basis.specs.Kit.{Bool, true, false, ℕ, ◌*◌}
-use Rattle.std.specs.Prelude.{ℤ, pos, neg_ℤ, Float}
+use Rattle.std.specs.Prelude.{Bool, true, false, ℕ, ◌*◌, ℤ, pos, neg_ℤ, Float}
 use Rattle.std.specs.Float.{nan, inf, fin, Format, binary32, binary64}
 use Rattle.std.specs.Float.Ieee.{up, down, round, of_int, of_bits, to_bits}
 

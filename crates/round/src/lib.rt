@@ -1,8 +1,7 @@
 // Rounding to float and double, on bit patterns: to nearest, ties to even, overflow to infinity, any NaN to 7FC00000.
 #![tactic(auto)]
 
-ghost use Rattle.basis.specs.Kit.{◌≡◌, false, ◌*◌, ◌^◌, ◌≤◌, ◌<◌};
-ghost use Rattle.std.specs.Prelude.{pos};
+ghost use Rattle.std.specs.Prelude.{◌≡◌, false, ◌*◌, ◌^◌, ◌≤◌, ◌<◌, pos};
 ghost use Rattle.std.specs.Float.{binary32, binary64};
 ghost use Rattle.std.specs.Float.Ieee.{of_fields, to_bits};
 ghost use Rattle.std.specs.Float.Ieee.Nearest.{closest};

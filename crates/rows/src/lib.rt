@@ -1,7 +1,8 @@
 // A row as words of lent memory.
 #![tactic(auto)]
 
-ghost use Rattle.basis.specs.Kit.{◌≡◌, ◌+◌, ◌^◌, ◌<◌, sets};
+ghost use Rattle.std.specs.Prelude.{◌≡◌, ◌+◌, ◌^◌, ◌<◌};
+ghost use Rattle.basis.specs.Kit.{sets};
 ghost use Rattle.entries.specs.Tree.{words};
 
 use entries::Row;

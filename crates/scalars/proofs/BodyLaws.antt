@@ -1,6 +1,7 @@
 -- What a scalar constant that fits holds: bytes are a string's own, all others are numbers.
 -- Assumes nothing.
-use Rattle.basis.specs.Kit.{◌≡◌, sym, ap, ◌∙◌, Bool, true, false, List, Option, none, some, ℕ, eqb, leb}
+use Rattle.std.specs.Prelude.{◌≡◌, Bool, true, false, List, ℕ, eqb, leb}
+use Rattle.basis.specs.Kit.{sym, ap, ◌∙◌, Option, none, some}
 use Rattle.basis.proofs.Never.{never}
 use Rattle.reply.specs.declared.Refusal.{Refusal}
 use Rattle.field.specs.declared.Span.{Span}

@@ -1,6 +1,7 @@
 -- Identifiers on enums and scalar constants on fields, over any look-ups: the ways through `ident_on` and `scalar_on`.
 -- Assumes nothing.
-use Rattle.basis.specs.Kit.{◌≡◌, refl, sym, ap, ◌∙◌, Bool, List, Option, none, some, ℕ, ◌≤◌, length}
+use Rattle.std.specs.Prelude.{◌≡◌, refl, Bool, List, ℕ, ◌≤◌, length}
+use Rattle.basis.specs.Kit.{sym, ap, ◌∙◌, Option, none, some}
 use Rattle.basis.proofs.Kit.{eq-eqb, ne_eqb}
 use Rattle.basis.proofs.Never.{never}
 use mathlib.Core.Bool.{not}

@@ -1,6 +1,7 @@
 -- A constant that was read from a request is inside it: its span is that of its payload, and its float is no NaN.
 -- Assumes nothing.
-use Rattle.basis.specs.Kit.{◌≡◌, sym, ◌∙◌, Bool, true, false, List, ℕ, ◌-◌, ◌^◌, ◌≤◌, eqb, ltb, length, get_or}
+use Rattle.std.specs.Prelude.{◌≡◌, Bool, true, false, List, ℕ, ◌-◌, ◌^◌, ◌≤◌, eqb, ltb, length, get_or}
+use Rattle.basis.specs.Kit.{sym, ◌∙◌}
 use mathlib.Core.Path.{subst}
 use mathlib.Core.Bool.{not}
 use lib.Dec.{T}

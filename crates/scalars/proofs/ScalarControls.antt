@@ -1,6 +1,6 @@
 -- Closed cases of scalar constants on types, which the checker computes: of each rule one that fits, one at its border, one just past it.
 -- Assumes nothing.
-use Rattle.basis.specs.Kit.{◌≡◌, refl, true, false, List, [], ◌∷◌, map, ℕ}
+use Rattle.std.specs.Prelude.{◌≡◌, refl, true, false, List, [], ◌∷◌, map, ℕ}
 use lib.Ieee.{of_int, of_bits, to_bits, round, binary64}
 use Rattle.octets.specs.Octets.{same_bytes}
 use Rattle.reply.specs.declared.Refusal.TheVariants.{UnknownEnumValue}

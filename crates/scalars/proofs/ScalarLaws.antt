@@ -1,6 +1,6 @@
 -- Scalar constants on types: the ways through the functions of one constant each.
 -- Assumes nothing.
-use Rattle.basis.specs.Kit.{◌≡◌, refl, Bool, true, false, ◌||◌, List, ℕ, ◌+◌, ◌-◌, ◌≤◌, ◌<◌, eqb}
+use Rattle.std.specs.Prelude.{◌≡◌, refl, Bool, true, false, ◌||◌, List, ℕ, ◌+◌, ◌-◌, ◌≤◌, ◌<◌, eqb}
 use Rattle.basis.proofs.Kit.{arith, eq-eqb, ne_eqb, w64, Fits as FitsIn}
 use borrow.Author.Tests.{le-leb, lt-leb}
 use lib.Ieee.{binary32, binary64}

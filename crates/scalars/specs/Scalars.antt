@@ -11,7 +11,8 @@
 --   scalar_on unlisted h c ==  the constant c on a field of the shape h
 --
 -- Assumes nothing.
-use Rattle.basis.specs.Kit.{Bool, true, false, ◌||◌, List, Option, none, some, ℕ, ◌-◌, ◌%◌, ◌^◌, eqb, leb}
+use Rattle.std.specs.Prelude.{Bool, true, false, ◌||◌, List, ℕ, ◌-◌, ◌%◌, ◌^◌, eqb, leb}
+use Rattle.basis.specs.Kit.{Option, none, some}
 use Rattle.std.specs.Float.{binary32, binary64}
 use Rattle.std.specs.Float.Ieee.{to_bits}
 use Rattle.reply.specs.declared.Refusal.{Refusal}

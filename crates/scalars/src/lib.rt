@@ -1,7 +1,7 @@
 // A scalar constant on a field: the bits or the bytes of one record, or why it doesn't fit.
 #![tactic(auto)]
 
-ghost use Rattle.basis.specs.Kit.{◌≡◌};
+ghost use Rattle.std.specs.Prelude.{◌≡◌};
 ghost use Rattle.field.specs.Leaf.{Lies};
 ghost use Rattle.lookups.specs.Lookups.{walking};
 ghost use Rattle.scalars.specs.Scalars.{is_small, is_signed, is_integer, most_of, pattern_of, integer_on, float_on, string_on};

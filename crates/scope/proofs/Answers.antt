@@ -1,7 +1,8 @@
 -- The answers of the functions: what an answer tells of that which it stands for, the first of two that tells of something, and a
 -- declaration where it passes a test.
 -- Assumes nothing.
-use Rattle.basis.specs.Kit.{◌≡◌, refl, sym, ap, ◌∙◌, Bool, true, false, List, ◌++◌, Option, none, some}
+use Rattle.std.specs.Prelude.{◌≡◌, refl, Bool, true, false, List, ◌++◌}
+use Rattle.basis.specs.Kit.{sym, ap, ◌∙◌, Option, none, some}
 use Rattle.basis.proofs.Never.{never}
 use Rattle.sheet.specs.declared.declaration.Declaration.{Declaration}
 use Rattle.sheet.specs.declared.declaration.Declared.{Declared}

@@ -1,7 +1,8 @@
 -- Closed cases of the definitions, which the checker computes: of each rule one that finds, one that finds the first of two, and one that
 -- finds nothing.
 -- Assumes nothing.
-use Rattle.basis.specs.Kit.{◌≡◌, refl, List, [], ◌∷◌, map, Option, none, some, ℕ}
+use Rattle.std.specs.Prelude.{◌≡◌, refl, List, [], ◌∷◌, map, ℕ}
+use Rattle.basis.specs.Kit.{Option, none, some}
 use Rattle.basis.specs.First.{given}
 use Rattle.sheet.specs.Table.{message_tag, extension_tag, field_tag}
 use Rattle.sheet.specs.Members.{Enumeration}

@@ -5,7 +5,8 @@
 --          inner p a e == the place of a message of the scope p whose body is from a to e
 --
 -- Assumes nothing.
-use Rattle.basis.specs.Kit.{◌≡◌, refl, sym, ap, ◌∙◌, Bool, true, false, List, [], ◌∷◌, Option, some, ℕ, ◌-◌, eqb}
+use Rattle.std.specs.Prelude.{◌≡◌, refl, Bool, true, false, List, [], ◌∷◌, ℕ, ◌-◌, eqb}
+use Rattle.basis.specs.Kit.{sym, ap, ◌∙◌, Option, some}
 use Rattle.basis.proofs.Kit.{eq-eqb, ne_eqb, not-true, not-false}
 use mathlib.Core.Option as option
 use borrow.Author.Tests.{eqb-true, eqb-false}

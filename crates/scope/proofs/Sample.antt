@@ -1,6 +1,7 @@
 -- The sheet of the controls of scopes and of numbers, and how it is looked into.
 -- Assumes nothing.
-use Rattle.basis.specs.Kit.{false, List, [], ◌∷◌, ◌++◌, Option, none, some, ℕ, length}
+use Rattle.std.specs.Prelude.{false, List, [], ◌∷◌, ◌++◌, ℕ, length}
+use Rattle.basis.specs.Kit.{Option, none, some}
 use Rattle.octets.specs.Octets.{same_bytes, big_at}
 use Rattle.basis.specs.First.{given}
 use Rattle.field.specs.Field.{field_at}

@@ -12,7 +12,8 @@
 --          value_named s n vs ==  the first value of that name
 --
 -- Assumes nothing.
-use Rattle.basis.specs.Kit.{Bool, true, false, List, Option, some, ℕ, ◌-◌}
+use Rattle.std.specs.Prelude.{Bool, true, false, List, ℕ, ◌-◌}
+use Rattle.basis.specs.Kit.{Option, some}
 use Rattle.limits.specs.Figures.{most_messages}
 use Rattle.field.specs.Leaf.{is_text}
 use Rattle.field.specs.Walk.{walk}

@@ -1,5 +1,5 @@
 // A scope, and the way down from one to a message or an enum in it.
-ghost use Rattle.basis.specs.Kit.{◌≡◌, ◌≤◌, length};
+ghost use Rattle.std.specs.Prelude.{◌≡◌, ◌≤◌, length};
 ghost use Rattle.octets.specs.Octets.{same_bytes};
 ghost use Rattle.field.specs.Leaf.{leaf_at};
 ghost use Rattle.field.specs.Walk.{walk};

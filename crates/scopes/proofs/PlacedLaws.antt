@@ -3,7 +3,8 @@
 --   Placed s c <-> the scope c holds what stands at its place, which is one of the sheet
 --
 -- Assumes nothing.
-use Rattle.basis.specs.Kit.{◌≡◌, sym, ap, ◌∙◌, List, [], ◌∷◌, some, ℕ}
+use Rattle.std.specs.Prelude.{◌≡◌, List, [], ◌∷◌, ℕ}
+use Rattle.basis.specs.Kit.{sym, ap, ◌∙◌, some}
 use Rattle.path.specs.Path.{Path}
 use Rattle.scope.specs.Scope.{Scope, holding, down}
 use Rattle.scope.specs.inner.Answers.{InSheet}

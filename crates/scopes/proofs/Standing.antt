@@ -4,7 +4,8 @@
 --   Standing s c <-> the scope c is what stands at its place, its place is one of s, and its file is counted no further than s is long
 --
 -- Assumes nothing.
-use Rattle.basis.specs.Kit.{◌≡◌, ap, List, [], ◌∷◌, ◌++◌, some, ℕ, ◌+◌, ◌≤◌, length}
+use Rattle.std.specs.Prelude.{◌≡◌, List, [], ◌∷◌, ◌++◌, ℕ, ◌+◌, ◌≤◌, length}
+use Rattle.basis.specs.Kit.{ap, some}
 use Rattle.basis.proofs.Kit.{arith}
 use Rattle.path.specs.Path.{Path, spell}
 use Rattle.sheet.specs.Tree.{Items, File, tree_of}

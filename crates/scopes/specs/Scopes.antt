@@ -7,7 +7,8 @@
 --              scopes s p == the scopes at the path p, in order
 --
 -- Assumes nothing.
-use Rattle.basis.specs.Kit.{List, [], ◌∷◌, ◌++◌, Option, none, some, ℕ, ◌+◌}
+use Rattle.std.specs.Prelude.{List, [], ◌∷◌, ◌++◌, ℕ, ◌+◌}
+use Rattle.basis.specs.Kit.{Option, none, some}
 use Rattle.field.specs.Leaf.{is_text}
 use Rattle.path.specs.Path.{Path, spell}
 use Rattle.sheet.specs.Tree.{File, tree_of}

@@ -1,6 +1,6 @@
 -- The candidates of a name get shorter, and those of a name and a scope of the right form are paths of identifiers, not empty.
 -- Assumes nothing.
-use Rattle.basis.specs.Kit.{◌≡◌, refl, Bool, true, false, List, [], ◌∷◌, ◌++◌, map, ℕ, ◌≤◌, ◌<◌, leb, length}
+use Rattle.std.specs.Prelude.{◌≡◌, refl, Bool, true, false, List, [], ◌∷◌, ◌++◌, map, ℕ, ◌≤◌, ◌<◌, leb, length}
 use Rattle.basis.proofs.Kit.{arith}
 use mathlib.Core.Bool.{and-eq-true_iff}
 use lib.ListN.{length-append}

@@ -1,6 +1,6 @@
 -- 01's examples P2 to P7, as one table under one statement, which the checker computes.
 -- Assumes nothing.
-use Rattle.basis.specs.Kit.{◌≡◌, refl, List, [], ◌∷◌, ◌++◌, map, ℕ}
+use Rattle.std.specs.Prelude.{◌≡◌, refl, List, [], ◌∷◌, ◌++◌, map, ℕ}
 use Prim.Native.String.{String}
 use Rattle.octets.specs.Octets.{big_at, same_bytes}
 use Rattle.octets.specs.Ascii.{ascii}

@@ -5,7 +5,8 @@
 --   FoundLies s f <-> the places of the extension that was found are of s, and its file is counted no further than s is long
 --
 -- Assumes nothing.
-use Rattle.basis.specs.Kit.{◌≡◌, refl, sym, ap, ◌∙◌, List, [], ◌∷◌, some, ℕ, ◌≤◌, length}
+use Rattle.std.specs.Prelude.{◌≡◌, refl, List, [], ◌∷◌, ℕ, ◌≤◌, length}
+use Rattle.basis.specs.Kit.{sym, ap, ◌∙◌, some}
 use Rattle.basis.proofs.Never.{never}
 use Rattle.path.specs.Path.{Name, Path, parent, last}
 use Rattle.candidates.specs.Candidates.{candidates}

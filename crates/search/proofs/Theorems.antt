@@ -2,7 +2,8 @@
 -- Among.antt of `basis`; what they are about is defined in specs/Lookup.antt, in Scopes.antt of `scopes` and in Candidates.antt of
 -- `candidates`. `s` is the sheet, whatever its bytes.
 -- Assumes nothing.
-use Rattle.basis.specs.Kit.{◌≡◌, refl, sym, ap, ◌∙◌, true, false, List, [], ◌∷◌, ◌++◌, ℕ, suc, ◌-◌, ◌≤◌, ◌<◌, length, take}
+use Rattle.std.specs.Prelude.{◌≡◌, refl, true, false, List, [], ◌∷◌, ◌++◌, ℕ, suc, ◌-◌, ◌≤◌, ◌<◌, length, take}
+use Rattle.basis.specs.Kit.{sym, ap, ◌∙◌}
 use Rattle.reply.specs.declared.Refusal.{Refusal}
 use Rattle.reply.specs.declared.Refusal.TheVariants.{ExtensionNotFound}
 use Rattle.octets.specs.Octets.{same_bytes}

@@ -1,6 +1,7 @@
 -- What a look-up of an extension answers against what there is: back from the answer, and the search with its positions left out.
 -- Assumes nothing.
-use Rattle.basis.specs.Kit.{◌≡◌, refl, ap, ◌∙◌, Bool, true, false, List, [], ◌∷◌, Option, none, some, ℕ, ◌+◌}
+use Rattle.std.specs.Prelude.{◌≡◌, refl, Bool, true, false, List, [], ◌∷◌, ℕ, ◌+◌}
+use Rattle.basis.specs.Kit.{ap, ◌∙◌, Option, none, some}
 use Rattle.basis.proofs.Never.{never}
 use Rattle.basis.specs.First.{given, or_else, first_some}
 use Rattle.reply.specs.declared.Refusal.{Refusal}

@@ -12,7 +12,8 @@
 --              Earlier s c d <-> the package of c has fewer components than that of d; or as many, and its file stands before that of d
 --
 -- Assumes nothing.
-use Rattle.basis.specs.Kit.{◌≡◌, true, List, [], ◌++◌, map, some, ℕ, ◌<◌, length, get_or}
+use Rattle.std.specs.Prelude.{◌≡◌, true, List, [], ◌++◌, map, ℕ, ◌<◌, length, get_or}
+use Rattle.basis.specs.Kit.{some}
 use Rattle.std.proofs.Math.ListN.{get_elem?}
 use Rattle.field.specs.Leaf.{text, is_text}
 use Rattle.path.specs.Path.{Path, components, parent, last}

@@ -13,7 +13,8 @@
 --     ext_resolve_field s scope m name == the candidate that answers for a name in a scope, compared with the message m
 --
 -- Assumes nothing.
-use Rattle.basis.specs.Kit.{Bool, true, false, List, [], ◌∷◌, Option, none, some, ℕ, ◌+◌}
+use Rattle.std.specs.Prelude.{Bool, true, false, List, [], ◌∷◌, ℕ, ◌+◌}
+use Rattle.basis.specs.Kit.{Option, none, some}
 use Rattle.reply.specs.declared.Refusal.{Refusal}
 use Rattle.reply.specs.declared.Refusal.TheVariants.{ExtensionNotFound}
 use Rattle.path.specs.Path.{Name, Path, parent, last}

@@ -1,7 +1,7 @@
 -- Closed cases of the tree, which the checker computes: P1's sheet with every place, the empty sheet, a message that holds
 -- another, a field and an enum, cuts at the end of a sheet and of a file, what is no declaration, messages as deep as 01 allows and deeper.
 -- Assumes nothing.
-use Rattle.basis.specs.Kit.{◌≡◌, refl, List, [], ◌∷◌, ◌++◌, ℕ, zero, suc, ◌+◌, ◌*◌}
+use Rattle.std.specs.Prelude.{◌≡◌, refl, List, [], ◌∷◌, ◌++◌, ℕ, zero, suc, ◌+◌, ◌*◌}
 use Rattle.octets.specs.Octets.{big_at}
 use Rattle.field.specs.Field.{field_at}
 use Rattle.field.specs.Leaf.{span, leaf_at}

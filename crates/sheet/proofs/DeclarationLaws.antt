@@ -1,6 +1,6 @@
 -- The laws of declarations: the ways through `extension_at`, `message_field_at` and `value_at`.
 -- Assumes nothing.
-use Rattle.basis.specs.Kit.{◌≡◌, List, ℕ}
+use Rattle.std.specs.Prelude.{◌≡◌, List, ℕ}
 use Rattle.basis.proofs.Kit.{eq-eqb, ne_eqb}
 use Rattle.octets.specs.Octets.{big_at}
 use Rattle.field.specs.declared.Leaf.{Leaf}

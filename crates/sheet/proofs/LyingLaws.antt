@@ -5,7 +5,8 @@
 --   Filed s fs   <-> so do all of the files
 --
 -- Assumes nothing.
-use Rattle.basis.specs.Kit.{◌≡◌, refl, sym, List, [], ◌∷◌, ℕ, zero, suc, ◌-◌, ◌≤◌, length}
+use Rattle.std.specs.Prelude.{◌≡◌, refl, List, [], ◌∷◌, ℕ, zero, suc, ◌-◌, ◌≤◌, length}
+use Rattle.basis.specs.Kit.{sym}
 use Rattle.basis.proofs.Kit.{arith}
 use Rattle.limits.specs.Figures.{most_messages}
 use Rattle.field.specs.declared.Leaf.TheVariants.{At}

@@ -1,6 +1,7 @@
 -- The laws of type paths and of shapes: the ways through `has_type_path`, `type_path_at` and `shape_at`, and where a type path lies.
 -- Assumes nothing.
-use Rattle.basis.specs.Kit.{◌≡◌, refl, sym, ◌∙◌, Bool, true, false, ◌||◌, List, ℕ, ◌≤◌, eqb, length, get_or}
+use Rattle.std.specs.Prelude.{◌≡◌, refl, Bool, true, false, ◌||◌, List, ℕ, ◌≤◌, eqb, length, get_or}
+use Rattle.basis.specs.Kit.{sym, ◌∙◌}
 use Rattle.basis.proofs.Kit.{arith, eq-eqb, ne_eqb, not-true, not-false}
 use Rattle.basis.specs.First.{only_if}
 use Rattle.basis.proofs.Never.{never}

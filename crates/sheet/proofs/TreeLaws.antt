@@ -1,7 +1,8 @@
 -- The laws of a sheet's tree: what a list of fields holds opens at its first field, and what one field holds goes by its tag. They are for
 -- whoever walks over a sheet: the counts here, and the search to come.
 -- Assumes nothing.
-use Rattle.basis.specs.Kit.{◌≡◌, refl, ap, List, [], ◌∷◌, ℕ, zero, suc, ◌-◌, ◌≤◌, ◌<◌, length}
+use Rattle.std.specs.Prelude.{◌≡◌, refl, List, [], ◌∷◌, ℕ, zero, suc, ◌-◌, ◌≤◌, ◌<◌, length}
+use Rattle.basis.specs.Kit.{ap}
 use Rattle.basis.proofs.Kit.{arith, ne_eqb}
 use Rattle.limits.specs.Figures.{most_messages}
 use Rattle.field.specs.declared.Field.{Field}

@@ -12,7 +12,7 @@
 --          value_at s a e ==  the enum value whose payload is from a to e
 --
 -- Assumes nothing.
-use Rattle.basis.specs.Kit.{Bool, true, false, ◌||◌, List, ℕ, eqb, get_or}
+use Rattle.std.specs.Prelude.{Bool, true, false, ◌||◌, List, ℕ, eqb, get_or}
 use Rattle.basis.specs.First.{only_if}
 use Rattle.octets.specs.Octets.{big_at}
 use Rattle.field.specs.declared.Leaf.{Leaf}

@@ -11,7 +11,7 @@
 --   every_extension fs   == the extensions of the files, at every depth
 --
 -- Assumes nothing.
-use Rattle.basis.specs.Kit.{List, [], ◌∷◌, ◌++◌, ℕ, eqb}
+use Rattle.std.specs.Prelude.{List, [], ◌∷◌, ◌++◌, ℕ, eqb}
 use Rattle.basis.specs.First.{only_if}
 use Rattle.field.specs.declared.Span.{Span}
 use Rattle.sheet.specs.declared.declaration.Declaration.{Declaration}

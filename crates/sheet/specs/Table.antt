@@ -3,7 +3,7 @@
 --   file_tag .. signed_number_tag == the tag's number
 --
 -- Assumes nothing.
-use Rattle.basis.specs.Kit.{ℕ}
+use Rattle.std.specs.Prelude.{ℕ}
 
 abbrev pub file_tag : ℕ
 file_tag = 0x01

@@ -20,7 +20,7 @@
 --                     tree_of s == the files of a sheet, in order
 --
 -- Assumes nothing.
-use Rattle.basis.specs.Kit.{true, false, List, [], ◌∷◌, ℕ, zero, suc, eqb, length}
+use Rattle.std.specs.Prelude.{true, false, List, [], ◌∷◌, ℕ, zero, suc, eqb, length}
 use Rattle.limits.specs.Figures.{most_messages}
 use Rattle.field.specs.declared.Span.{Span}
 use Rattle.field.specs.Leaf.{span, any_bytes, on_leaf, leaf_at}

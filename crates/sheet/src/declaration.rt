@@ -1,5 +1,5 @@
 // Extensions, fields and enum values, as they are written: their leaves in order, each of its size, and nothing after them.
-ghost use Rattle.basis.specs.Kit.{◌≡◌, ◌≤◌, length};
+ghost use Rattle.std.specs.Prelude.{◌≡◌, ◌≤◌, length};
 ghost use Rattle.sheet.specs.Declaration.{has_type_path, type_path_at, shape_at, extension_at, message_field_at, value_at};
 
 use crate::table;

@@ -1,6 +1,6 @@
 -- Closed cases of the definitions, which the checker computes: of each rule one that holds, one at the limit and one refused just past it.
 -- Assumes nothing.
-use Rattle.basis.specs.Kit.{◌≡◌, refl, List, [], ◌∷◌, ◌++◌, map, ℕ, zero, suc, length}
+use Rattle.std.specs.Prelude.{◌≡◌, refl, List, [], ◌∷◌, ◌++◌, map, ℕ, zero, suc, length}
 use Rattle.octets.specs.Octets.{big_at}
 use Rattle.ident.specs.Ident.{is_letter, is_digit, all_word, is_ident}
 use Rattle.path.specs.Path.{on_first, split, components, all_ident, is_rel_path, is_rel_or_empty}

@@ -1,7 +1,8 @@
 -- What a fine sheet's tree is like: every leaf is what 01 allows, and nothing is left out. The final statements stand at the end;
 -- what they say of a file and of each message in it goes on in messageform/proofs/FineLaws.antt.
 -- Assumes nothing.
-use Rattle.basis.specs.Kit.{◌≡◌, refl, sym, ap, ◌∙◌, Bool, true, false, List, ℕ, suc, ◌+◌, ◌≤◌, ◌<◌, ltb, length}
+use Rattle.std.specs.Prelude.{◌≡◌, refl, Bool, true, false, List, ℕ, suc, ◌+◌, ◌≤◌, ◌<◌, ltb, length}
+use Rattle.basis.specs.Kit.{sym, ap, ◌∙◌}
 use Rattle.basis.proofs.Kit.{arith}
 use native.Mathlib.Decide.{ℕ_discrete}
 use Rattle.limits.specs.Figures.{most_files, most_messages}

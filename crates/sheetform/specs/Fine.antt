@@ -3,7 +3,7 @@
 --   good_files s fs <=> every name, path, number, type and label in the files is what 01 allows
 --
 -- Assumes nothing.
-use Rattle.basis.specs.Kit.{Bool, true, ◌&&◌, List, [], ◌∷◌, ℕ}
+use Rattle.std.specs.Prelude.{Bool, true, ◌&&◌, List, [], ◌∷◌, ℕ}
 use Rattle.path.specs.Path.{is_rel_or_empty}
 use Rattle.field.specs.Leaf.{text}
 use Rattle.sheet.specs.Tree.{File}

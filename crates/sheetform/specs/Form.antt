@@ -7,7 +7,7 @@
 --          judge_sheet s == a sheet
 --
 -- Assumes nothing.
-use Rattle.basis.specs.Kit.{true, false, List, ℕ, eqb, ltb, length}
+use Rattle.std.specs.Prelude.{true, false, List, ℕ, eqb, ltb, length}
 use Rattle.basis.specs.First.{only_if}
 use Rattle.limits.specs.Figures.{most_sheet, most_files, most_messages}
 use Rattle.path.specs.Path.{is_rel_or_empty}

@@ -1,7 +1,7 @@
 // The form of a sheet: every byte string is fine, or has a first fault from the front.
 #![tactic(auto)]
 
-ghost use Rattle.basis.specs.Kit.{◌≡◌, ◌≤◌, length};
+ghost use Rattle.std.specs.Prelude.{◌≡◌, ◌≤◌, length};
 ghost use Rattle.reply.specs.Verdicts.{Says};
 ghost use Rattle.sheetform.specs.Form.{judge_file, judge_files, judge_length, judge_sheet};
 

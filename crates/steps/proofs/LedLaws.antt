@@ -1,6 +1,7 @@
 -- Where that lies to which a part leads: further on in the request, and in the sheet.
 -- Assumes nothing.
-use Rattle.basis.specs.Kit.{◌≡◌, refl, sym, Bool, true, false, List, ℕ, eqb}
+use Rattle.std.specs.Prelude.{◌≡◌, refl, Bool, true, false, List, ℕ, eqb}
+use Rattle.basis.specs.Kit.{sym}
 use Rattle.basis.proofs.Kit.{arith}
 use mathlib.Core.Path.{subst}
 use Rattle.basis.proofs.Never.{never}

@@ -1,6 +1,7 @@
 -- What a part leads to: the ways through `left_on`, `behind`, `why_of`, `led` and `reach_of`, over any look-ups.
 -- Assumes nothing.
-use Rattle.basis.specs.Kit.{◌≡◌, sym, ap, ◌∙◌, List, ℕ}
+use Rattle.std.specs.Prelude.{◌≡◌, List, ℕ}
+use Rattle.basis.specs.Kit.{sym, ap, ◌∙◌}
 use Rattle.basis.proofs.Kit.{eq-eqb, ne_eqb}
 use Rattle.reply.specs.declared.Refusal.{Refusal}
 use Rattle.reply.specs.declared.Refusal.TheVariants.{WrongExtensionType, ExtensionIsNotMessage, UnknownFieldName}

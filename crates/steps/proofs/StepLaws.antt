@@ -1,7 +1,8 @@
 -- What a name part comes to: the ways through `step_extension` and `step_of`, over any look-ups, and where the type path of what was found
 -- lies.
 -- Assumes nothing.
-use Rattle.basis.specs.Kit.{◌≡◌, refl, sym, ap, ◌∙◌, Bool, true, false, List, Option, none, some, ℕ, ◌≤◌, length}
+use Rattle.std.specs.Prelude.{◌≡◌, refl, Bool, true, false, List, ℕ, ◌≤◌, length}
+use Rattle.basis.specs.Kit.{sym, ap, ◌∙◌, Option, none, some}
 use Rattle.basis.specs.First.{told}
 use mathlib.Core.Path.{subst}
 use Rattle.basis.proofs.Never.{never}

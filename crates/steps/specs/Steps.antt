@@ -7,7 +7,7 @@
 --        step_of m p == what the part p comes to in the message m
 --
 -- Assumes nothing.
-use Rattle.basis.specs.Kit.{true, false, List, ℕ}
+use Rattle.std.specs.Prelude.{true, false, List, ℕ}
 use Rattle.basis.specs.First.{told}
 use Rattle.reply.specs.declared.Refusal.{Refusal}
 use Rattle.reply.specs.declared.Refusal.TheVariants.{WrongExtensionType, UnknownFieldName}

@@ -2,7 +2,7 @@
 // message. Innermost path first, found first and tested second; nobody above makes a refusal of a "none".
 #![tactic(auto)]
 
-ghost use Rattle.basis.specs.Kit.{◌≡◌, true, ◌≤◌, length};
+ghost use Rattle.std.specs.Prelude.{◌≡◌, true, ◌≤◌, length};
 ghost use Rattle.path.specs.Path.{is_rel_or_empty};
 ghost use Rattle.field.specs.Leaf.{text, Lies};
 ghost use Rattle.scope.specs.inner.Answers.{InSheet};

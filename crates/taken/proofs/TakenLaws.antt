@@ -1,6 +1,7 @@
 -- The laws of what is taken of a record, one for each way through the code.
 -- Assumes nothing.
-use Rattle.basis.specs.Kit.{◌≡◌, sym, ◌∙◌, ℕ, ◌+◌, ◌≤◌}
+use Rattle.std.specs.Prelude.{◌≡◌, ℕ, ◌+◌, ◌≤◌}
+use Rattle.basis.specs.Kit.{sym, ◌∙◌}
 use Rattle.basis.proofs.Kit.{arith, eq-eqb, ne_eqb, w64, Fits}
 use mir.Syntax.{w32}
 use Rattle.limits.specs.Figures.{most_option_bytes}

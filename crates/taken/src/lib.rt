@@ -1,7 +1,7 @@
 // What is taken of a record behind its tag: of a number that nothing declares, which is passed over; of a known one, by its type.
 #![tactic(auto)]
 
-ghost use Rattle.basis.specs.Kit.{◌≡◌};
+ghost use Rattle.std.specs.Prelude.{◌≡◌};
 ghost use Rattle.limits.specs.Figures.{most_option_bytes};
 ghost use Rattle.taken.specs.inner.Taking.{PayloadIn, unknown_taken, known_taken};
 

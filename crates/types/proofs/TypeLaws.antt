@@ -1,7 +1,7 @@
 -- A table of all types whose entries all pass the test of `wire_of` gives each type its wire type; a number above them is none of those
 -- that `wire_of` lists.
 -- Assumes nothing.
-use Rattle.basis.specs.Kit.{◌≡◌, refl, Bool, true, false, ◌&&◌, List, [], ◌∷◌, ℕ, suc, ◌≤◌, ◌<◌, leb, length, get_or}
+use Rattle.std.specs.Prelude.{◌≡◌, refl, Bool, true, false, ◌&&◌, List, [], ◌∷◌, ℕ, suc, ◌≤◌, ◌<◌, leb, length, get_or}
 use Rattle.basis.proofs.Kit.{arith, ne_eqb}
 use lib.Dec.{T, leb→le}
 use mir.Facts.{and_yes}

@@ -6,7 +6,7 @@
 --                     wire_of t ==  the wire type of the type t, VARINT where t is no type's number
 --
 -- Assumes nothing.
-use Rattle.basis.specs.Kit.{Bool, true, false, ◌||◌, List, [], ◌∷◌, ℕ, eqb}
+use Rattle.std.specs.Prelude.{Bool, true, false, ◌||◌, List, [], ◌∷◌, ℕ, eqb}
 
 abbrev pub TYPE_DOUBLE : ℕ
 TYPE_DOUBLE = 1

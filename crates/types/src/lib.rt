@@ -1,7 +1,7 @@
 // The types of descriptor.proto and their wire types.
 #![tactic(auto)]
 
-ghost use Rattle.basis.specs.Kit.{◌≡◌};
+ghost use Rattle.std.specs.Prelude.{◌≡◌};
 ghost use Rattle.types.specs.Types.{wire_of};
 
 use limits::MOST_TYPE;

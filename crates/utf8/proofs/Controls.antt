@@ -1,6 +1,6 @@
 -- UTF-8: closed cases, of each rule one at the limit and one just past it.
 -- Assumes nothing.
-use Rattle.basis.specs.Kit.{◌≡◌, refl, true, false, List, [], ◌∷◌, map, ℕ}
+use Rattle.std.specs.Prelude.{◌≡◌, refl, true, false, List, [], ◌∷◌, map, ℕ}
 use lib.ListN.{replicate}
 use Rattle.octets.specs.Octets.{same_bytes}
 use Rattle.utf8.specs.Utf8.{is_scalar, utf8, point_of, stands, lead_of, utf8_from, is_utf8}

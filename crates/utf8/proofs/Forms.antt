@@ -1,7 +1,7 @@
 -- The four forms of RFC 3629, section 3, as facts on numbers: they are what `utf8` writes, and `point_of` reads the value back.
 -- Assumes nothing.
-use Rattle.basis.specs.Kit.{◌≡◌, refl, sym, ◌∙◌, Bool, true, false, ◌&&◌, ◌||◌, List, [], ◌∷◌, ◌++◌, ℕ, ◌+◌, ◌-◌, ◌*◌, ◌/◌, ◌%◌, ◌≤◌}
-use Rattle.basis.specs.Kit.{◌<◌, ltb, leb, get_or}
+use Rattle.std.specs.Prelude.{◌≡◌, refl, Bool, true, false, ◌&&◌, ◌||◌, List, [], ◌∷◌, ◌++◌, ℕ, ◌+◌, ◌-◌, ◌*◌, ◌/◌, ◌%◌, ◌≤◌, ◌<◌, ltb, leb, get_or}
+use Rattle.basis.specs.Kit.{sym, ◌∙◌}
 use Rattle.basis.proofs.Kit.{arith, lt-ltb, le-ltb}
 use mathlib.Core.Bool.{true≢false}
 use native.Mathlib.Nat.{div-div-eq-div-mul}

@@ -1,6 +1,7 @@
 -- The test that computes holds of the bytes of scalar values, one after the other, and of no others.
 -- Assumes nothing.
-use Rattle.basis.specs.Kit.{◌≡◌, refl, sym, ◌∙◌, true, false, List, [], ◌∷◌, ◌++◌, ℕ, zero, suc, ◌≤◌, ◌<◌, length, drop}
+use Rattle.std.specs.Prelude.{◌≡◌, refl, true, false, List, [], ◌∷◌, ◌++◌, ℕ, zero, suc, ◌≤◌, ◌<◌, length, drop}
+use Rattle.basis.specs.Kit.{sym, ◌∙◌}
 use Rattle.basis.proofs.Kit.{arith}
 use mathlib.Core.Bool.{true≢false}
 use lib.Seq.{drop-append_seam}

@@ -1,6 +1,7 @@
 -- The laws of `two`, `three`, `four` and `lead_at`: what the bytes of a value that stands at the front of a list are, by its lead byte.
 -- Assumes nothing.
-use Rattle.basis.specs.Kit.{◌≡◌, sym, List, [], ◌∷◌, ℕ, ◌-◌, ◌/◌, ◌≤◌, ◌<◌, length, get_or, take, drop}
+use Rattle.std.specs.Prelude.{◌≡◌, List, [], ◌∷◌, ℕ, ◌-◌, ◌/◌, ◌≤◌, ◌<◌, length, get_or, take, drop}
+use Rattle.basis.specs.Kit.{sym}
 use Rattle.basis.proofs.Kit.{arith}
 use lib.ListN.{take-append-drop, length-drop}
 use lib.Seq.{take-suc, take_all, length-take-le}

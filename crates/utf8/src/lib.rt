@@ -1,7 +1,7 @@
 // The strict test for UTF-8.
 #![tactic(auto)]
 
-ghost use Rattle.basis.specs.Kit.{◌≡◌, ◌≤◌, ◌<◌, length, get_or, drop};
+ghost use Rattle.std.specs.Prelude.{◌≡◌, ◌≤◌, ◌<◌, length, get_or, drop};
 ghost use Rattle.utf8.specs.Utf8.{is_utf8, lead_of};
 
 // How many bytes the scalar value at the front takes, 0 where none stands there, for a first byte of 80 to DF.

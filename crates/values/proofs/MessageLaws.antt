@@ -1,6 +1,6 @@
 -- A message constant on a field: the ways through `put_message` and `put_inside`.
 -- Assumes nothing.
-use Rattle.basis.specs.Kit.{◌≡◌, refl, List, ℕ}
+use Rattle.std.specs.Prelude.{◌≡◌, refl, List, ℕ}
 use Rattle.basis.proofs.Kit.{eq-eqb, ne_eqb}
 use mathlib.Core.Path.{subst}
 use Rattle.reply.specs.declared.Refusal.{Refusal}

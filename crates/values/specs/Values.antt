@@ -10,7 +10,7 @@
 --    records L s r k cs == the records of the constants cs, held by k
 --
 -- Assumes nothing.
-use Rattle.basis.specs.Kit.{true, false, List, ℕ, eqb}
+use Rattle.std.specs.Prelude.{true, false, List, ℕ, eqb}
 use Rattle.basis.specs.First.{told}
 use Rattle.reply.specs.declared.Refusal.{Refusal}
 use Rattle.reply.specs.declared.Refusal.TheVariants.{UnknownFieldName, UnknownEnumValue, MessageFieldRequiresMessageConstant}

@@ -1,7 +1,7 @@
 // Constants on fields, written: value, list and message writers call each other, the bytes of constant left falling at each call.
 #![tactic(auto)]
 
-ghost use Rattle.basis.specs.Kit.{◌≡◌, ◌+◌, ◌-◌, ◌^◌, ◌≤◌, ◌<◌, length};
+ghost use Rattle.std.specs.Prelude.{◌≡◌, ◌+◌, ◌-◌, ◌^◌, ◌≤◌, ◌<◌, length};
 ghost use Rattle.field.specs.Leaf.{Lies};
 ghost use Rattle.scope.specs.inner.Answers.{InSheet};
 ghost use Rattle.records.specs.Made.{holding};

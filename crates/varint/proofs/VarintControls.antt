@@ -1,6 +1,6 @@
 -- Closed cases of specs/: of each rule one that holds, one at the limit and one refused just past it.
 -- Assumes nothing.
-use Rattle.basis.specs.Kit.{◌≡◌, refl, List, [], ◌∷◌, ℕ, ◌-◌, ◌^◌, length}
+use Rattle.std.specs.Prelude.{◌≡◌, refl, List, [], ◌∷◌, ℕ, ◌-◌, ◌^◌, length}
 use Rattle.varint.specs.declared.Read.TheVariants.{Varint, Bad}
 use Rattle.varint.specs.Varint.{varint_within, varint, read_within, read_varint, at_place, varint_at}
 

@@ -1,7 +1,7 @@
 -- Varints: what was written is read back, the written form is the shortest that reads as its value, and what is read has its bounds.
 -- Assumes nothing.
-use Rattle.basis.specs.Kit.{◌≡◌, refl, sym, ◌∙◌, List, [], ◌∷◌, ◌++◌, ℕ, zero, suc, ◌+◌, ◌-◌, ◌*◌, ◌/◌, ◌%◌, ◌^◌, ◌≤◌, ◌<◌, length}
-use Rattle.basis.specs.Kit.{drop}
+use Rattle.std.specs.Prelude.{◌≡◌, refl, List, [], ◌∷◌, ◌++◌, ℕ, zero, suc, ◌+◌, ◌-◌, ◌*◌, ◌/◌, ◌%◌, ◌^◌, ◌≤◌, ◌<◌, length, drop}
+use Rattle.basis.specs.Kit.{sym, ◌∙◌}
 use Rattle.basis.proofs.Kit.{arith, lt-ltb, le-ltb}
 use mathlib.Core.Path.{subst}
 use native.Mathlib.Nat.{div-lt_iff_lt-mul, pow-suc, one-le-pow, le_trans, min-le_left}

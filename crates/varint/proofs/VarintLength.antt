@@ -1,7 +1,7 @@
 -- How many bytes a varint has, by the powers of 128 that its number lies between: one law, and its instances with the limits of
 -- `varint_len`.
 -- Assumes nothing.
-use Rattle.basis.specs.Kit.{◌≡◌, ℕ, zero, suc, ◌-◌, ◌/◌, ◌^◌, ◌≤◌, ◌<◌, length}
+use Rattle.std.specs.Prelude.{◌≡◌, ℕ, zero, suc, ◌-◌, ◌/◌, ◌^◌, ◌≤◌, ◌<◌, length}
 use Rattle.basis.proofs.Kit.{arith}
 use native.Mathlib.Nat.{pow-suc, one-le-pow, lt_of_lt_of_le}
 use Rattle.limits.specs.Figures.{most_varint}

@@ -1,6 +1,7 @@
 -- The loop of `put_varint`: what is known at its head, and its laws.
 -- Assumes nothing.
-use Rattle.basis.specs.Kit.{◌≡◌, ap, ◌∙◌, List, [], ◌∷◌, ℕ, ◌+◌, ◌-◌, ◌/◌, ◌%◌, ◌^◌, ◌≤◌, ◌<◌, length, sets}
+use Rattle.std.specs.Prelude.{◌≡◌, List, [], ◌∷◌, ℕ, ◌+◌, ◌-◌, ◌/◌, ◌%◌, ◌^◌, ◌≤◌, ◌<◌, length}
+use Rattle.basis.specs.Kit.{ap, ◌∙◌, sets}
 use Rattle.basis.proofs.Kit.{arith, w64, Fits}
 use lib.Seq.{length-sets}
 use Rattle.limits.specs.Figures.{most_varint}

@@ -1,6 +1,7 @@
 -- The loop of `varint_at`: what is known at its head, and its laws.
 -- Assumes nothing.
-use Rattle.basis.specs.Kit.{◌≡◌, refl, ap, ◌∙◌, List, ◌∷◌, ℕ, zero, suc, ◌+◌, ◌-◌, ◌*◌, ◌%◌, ◌^◌, ◌≤◌, ◌<◌, length, get_or}
+use Rattle.std.specs.Prelude.{◌≡◌, refl, List, ◌∷◌, ℕ, zero, suc, ◌+◌, ◌-◌, ◌*◌, ◌%◌, ◌^◌, ◌≤◌, ◌<◌, length, get_or}
+use Rattle.basis.specs.Kit.{ap, ◌∙◌}
 use Rattle.basis.proofs.Kit.{arith, add-one, w64, Fits}
 use mathlib.Core.Path.{ap₂}
 use native.Mathlib.Nat.{mul_assoc, mul_comm, mul-add, pow-suc, one-le-pow, le-mul_of_pos_right, sub_self}

@@ -10,7 +10,7 @@
 --   varint_at s at end == the varint of s between two places that starts at the first, with the place after it
 --
 -- Assumes nothing.
-use Rattle.basis.specs.Kit.{true, false, List, [], ◌∷◌, ℕ, zero, suc, ◌+◌, ◌-◌, ◌*◌, ◌/◌, ◌%◌, ltb}
+use Rattle.std.specs.Prelude.{true, false, List, [], ◌∷◌, ℕ, zero, suc, ◌+◌, ◌-◌, ◌*◌, ◌/◌, ◌%◌, ltb}
 use Rattle.limits.specs.Figures.{most_varint}
 use Rattle.octets.specs.Octets.{part}
 use Rattle.varint.specs.declared.Read.{Read}

@@ -1,7 +1,7 @@
 // Varints: their length, writing and reading.
 #![tactic(auto)]
 
-ghost use Rattle.basis.specs.Kit.{◌≡◌, ◌^◌, ◌≤◌, ◌<◌, length};
+ghost use Rattle.std.specs.Prelude.{◌≡◌, ◌^◌, ◌≤◌, ◌<◌, length};
 ghost use Rattle.limits.specs.Figures.{most_varint};
 ghost use Rattle.octets.specs.inner.Laid.{Laid};
 ghost use Rattle.varint.specs.Varint.{varint as varint_of, varint_at};

@@ -1,6 +1,6 @@
 -- What the program knows of an example: where its fields lie; no more examples hold than there are.
 -- Assumes nothing.
-use Rattle.basis.specs.Kit.{◌≡◌, Bool, List, ℕ, ◌+◌, ◌-◌, ◌≤◌, ◌<◌}
+use Rattle.std.specs.Prelude.{◌≡◌, Bool, List, ℕ, ◌+◌, ◌-◌, ◌≤◌, ◌<◌}
 use Rattle.basis.proofs.Kit.{arith}
 use Rattle.field.specs.declared.Leaf.{Leaf}
 use Rattle.field.specs.declared.Leaf.TheVariants.{At}

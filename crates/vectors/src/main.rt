@@ -8,7 +8,7 @@ mod encoding;
 mod names;
 mod replies;
 
-ghost use Rattle.basis.specs.Kit.{◌≤◌};
+ghost use Rattle.std.specs.Prelude.{◌≤◌};
 
 use candidates::protobuf_path::candidates;
 use case::{part, word_of};

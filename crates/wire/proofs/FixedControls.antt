@@ -1,6 +1,6 @@
 -- Numbers of a fixed width: closed cases.
 -- Assumes nothing.
-use Rattle.basis.specs.Kit.{◌≡◌, refl, [], ◌∷◌}
+use Rattle.std.specs.Prelude.{◌≡◌, refl, [], ◌∷◌}
 use Rattle.wire.specs.Fixed.{little_of, little}
 
 little-four : (little_of 4 0x01020304 ≡ 0x04 ∷ 0x03 ∷ 0x02 ∷ 0x01 ∷ []) × (little (0x04 ∷ 0x03 ∷ 0x02 ∷ 0x01 ∷ []) ≡ 0x01020304)

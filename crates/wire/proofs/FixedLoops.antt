@@ -1,6 +1,7 @@
 -- The loops of `put_little` and `little_at`: what is known at the head of each, and its laws.
 -- Assumes nothing.
-use Rattle.basis.specs.Kit.{◌≡◌, List, [], ◌∷◌, ℕ, suc, ◌+◌, ◌-◌, ◌*◌, ◌/◌, ◌%◌, ◌^◌, ◌≤◌, ◌<◌, length, get_or, sets}
+use Rattle.std.specs.Prelude.{◌≡◌, List, [], ◌∷◌, ℕ, suc, ◌+◌, ◌-◌, ◌*◌, ◌/◌, ◌%◌, ◌^◌, ◌≤◌, ◌<◌, length, get_or}
+use Rattle.basis.specs.Kit.{sets}
 use Rattle.basis.proofs.Kit.{arith, w64, Fits}
 use native.Mathlib.Nat.{add-zero, add_assoc, sub-zero, sub_self, sub-eq-zero_of_le, pow-suc, pow-le-pow_right}
 use Rattle.octets.specs.Octets.{part}

@@ -1,6 +1,6 @@
 -- Numbers: closed cases.
 -- Assumes nothing.
-use Rattle.basis.specs.Kit.{◌≡◌, refl, List, [], ◌∷◌, map, ℕ}
+use Rattle.std.specs.Prelude.{◌≡◌, refl, List, [], ◌∷◌, map, ℕ}
 use Rattle.basis.proofs.Kit.{w64}
 use lib.IntN.{ℤ, pos, negsuc}
 use mir.Val.{of_z}

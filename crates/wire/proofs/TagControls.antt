@@ -1,6 +1,6 @@
 -- Tags: closed cases.
 -- Assumes nothing.
-use Rattle.basis.specs.Kit.{◌≡◌, refl, true, false}
+use Rattle.std.specs.Prelude.{◌≡◌, refl, true, false}
 use Rattle.wire.specs.Tag.{tag_of, number_of, wire_type_of, tag_good}
 
 -- Encoding, "Message Structure": field 1 with wire type 0

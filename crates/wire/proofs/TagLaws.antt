@@ -1,6 +1,7 @@
 -- Tags: a number and a wire type are read back from their tag, and a good tag is one of a field number and a wire type that is read.
 -- Assumes nothing.
-use Rattle.basis.specs.Kit.{◌≡◌, sym, ◌∙◌, true, false, ◌&&◌, ℕ, ◌≤◌, ◌<◌, eqb, leb}
+use Rattle.std.specs.Prelude.{◌≡◌, true, false, ◌&&◌, ℕ, ◌≤◌, ◌<◌, eqb, leb}
+use Rattle.basis.specs.Kit.{sym, ◌∙◌}
 use Rattle.basis.proofs.Kit.{arith, ne_eqb}
 use mathlib.Core.Bool.{false≢true, and-eq-true_iff}
 use native.Mathlib.Decide.{dec_lt}

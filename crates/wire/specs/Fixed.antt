@@ -4,7 +4,7 @@
 --      little bs == the number that bytes are, the lowest first
 --
 -- Assumes nothing.
-use Rattle.basis.specs.Kit.{List, [], ◌∷◌, ℕ, zero, suc, ◌+◌, ◌*◌, ◌/◌, ◌%◌}
+use Rattle.std.specs.Prelude.{List, [], ◌∷◌, ℕ, zero, suc, ◌+◌, ◌*◌, ◌/◌, ◌%◌}
 
 unfoldable pub little_of : (width v : ℕ) → List ℕ
 little_of zero v = []

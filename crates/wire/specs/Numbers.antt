@@ -7,8 +7,7 @@
 --    widen32_of u == 32 bits widened by sign to 64
 --
 -- Assumes nothing.
-use Rattle.basis.specs.Kit.{true, false, ℕ, ◌+◌, ◌-◌, ◌*◌, ◌/◌, ◌%◌, ◌^◌, eqb, ltb}
-use Rattle.std.specs.Prelude.{ℤ, pos, negsuc}
+use Rattle.std.specs.Prelude.{true, false, ℕ, ◌+◌, ◌-◌, ◌*◌, ◌/◌, ◌%◌, ◌^◌, eqb, ltb, ℤ, pos, negsuc}
 
 -- Encoding, "Signed Integers": 0, -1, 1, -2 .. become 0, 1, 2, 3 ..: p becomes 2 * p, and -n becomes 2 * n - 1 [WIRE-8]
 abbrev pub zig : ℤ → ℕ

@@ -7,7 +7,7 @@
 --      tag_good t <=> a tag that 01 takes: a field number in its range, and a wire type that is read
 --
 -- Assumes nothing.
-use Rattle.basis.specs.Kit.{Bool, ◌&&◌, ◌||◌, ℕ, ◌+◌, ◌*◌, ◌/◌, ◌%◌, eqb, leb}
+use Rattle.std.specs.Prelude.{Bool, ◌&&◌, ◌||◌, ℕ, ◌+◌, ◌*◌, ◌/◌, ◌%◌, eqb, leb}
 use Rattle.limits.specs.Figures.{most_number}
 use Rattle.types.specs.Types.{VARINT, I64, LEN, I32}
 

@@ -1,5 +1,5 @@
 // Numbers of a fixed width, the lowest byte first.
-ghost use Rattle.basis.specs.Kit.{◌≡◌, ◌+◌, ◌^◌, ◌≤◌, ◌<◌, length};
+ghost use Rattle.std.specs.Prelude.{◌≡◌, ◌+◌, ◌^◌, ◌≤◌, ◌<◌, length};
 ghost use Rattle.octets.specs.Octets.{part};
 ghost use Rattle.octets.specs.inner.Laid.{Laid};
 ghost use Rattle.wire.specs.Fixed.{little_of, little};

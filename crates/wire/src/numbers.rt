@@ -1,5 +1,5 @@
 // Signed numbers as 64-bit patterns.
-ghost use Rattle.basis.specs.Kit.{◌≡◌, ◌^◌, ◌<◌};
+ghost use Rattle.std.specs.Prelude.{◌≡◌, ◌^◌, ◌<◌};
 ghost use Rattle.wire.specs.Numbers.{zigzag_of, unzigzag_of, low32_of, widen32_of};
 
 // The zigzag form of the number that the bits of u are.

@@ -1,5 +1,5 @@
 // Tags: a field number and a wire type.
-ghost use Rattle.basis.specs.Kit.{◌≡◌, ◌<◌};
+ghost use Rattle.std.specs.Prelude.{◌≡◌, ◌<◌};
 ghost use Rattle.wire.specs.Tag.{tag_of, number_of, wire_type_of, tag_good as tag_good_of};
 
 use limits::MOST_NUMBER;

@@ -3,7 +3,7 @@
 
 pub mod words;
 
-ghost use Rattle.basis.specs.Kit.{◌≤◌, length};
+ghost use Rattle.std.specs.Prelude.{◌≤◌, length};
 
 use console::output::text_at;
 use field::Span;

@@ -3,7 +3,7 @@
 --   InBuilt x r <-> the span that is held by what a builtin comes to, where one is, is one of r
 --
 -- Assumes nothing.
-use Rattle.basis.specs.Kit.{List, ℕ}
+use Rattle.std.specs.Prelude.{List, ℕ}
 use Rattle.records.specs.inner.Emits.{InBody}
 use Rattle.builtins.specs.declared.Built.{Built}
 use Rattle.builtins.specs.declared.Built.TheVariants.{Skipped, Sets, Wrong}

@@ -1,6 +1,6 @@
 -- `census::in_item` and `census::in_items` meet their contracts. Each call is nearer to the last level.
 -- Assumes nothing.
-use Rattle.basis.specs.Kit.{ℕ, ◌+◌, ◌-◌, ◌*◌, ◌<◌}
+use Rattle.std.specs.Prelude.{ℕ, ◌+◌, ◌-◌, ◌*◌, ◌<◌}
 use Rattle.basis.proofs.Kit.{rules}
 use Rattle.field.specs.Walk.{walk}
 use Rattle.field.proofs.Tally.{Tally, total}

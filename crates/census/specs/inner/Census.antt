@@ -17,7 +17,7 @@
 --       files_asked m x o s fs ==  how many the files have
 --
 -- Assumes nothing.
-use Rattle.basis.specs.Kit.{Bool, ◌&&◌, ◌||◌, List, [], ◌∷◌, ℕ, suc, ◌+◌, ◌≤◌, eqb, length, drop}
+use Rattle.std.specs.Prelude.{Bool, ◌&&◌, ◌||◌, List, [], ◌∷◌, ℕ, suc, ◌+◌, ◌≤◌, eqb, length, drop}
 use Rattle.basis.specs.First.{only_if}
 use Rattle.basis.specs.Count.{count}
 use Rattle.octets.specs.Octets.{same_bytes}

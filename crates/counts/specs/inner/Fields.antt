@@ -6,7 +6,7 @@
 --     file_count k s t a e == how many of the tag k a field of a sheet holds, itself counted
 --
 -- Assumes nothing.
-use Rattle.basis.specs.Kit.{List, [], ℕ, length}
+use Rattle.std.specs.Prelude.{List, [], ℕ, length}
 use Rattle.sheet.specs.declared.declaration.Declared.{Declared}
 use Rattle.sheet.specs.declared.declaration.Declared.TheVariants.{Declares, NoDeclaration}
 use Rattle.sheet.specs.Tree.{none, value_in, item_in, message_in, file_in}

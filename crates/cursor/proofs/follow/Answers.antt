@@ -1,6 +1,6 @@
 -- `cursor::follow` meets its contract.
 -- Assumes nothing.
-use Rattle.basis.specs.Kit.{suc, ◌-◌, length}
+use Rattle.std.specs.Prelude.{suc, ◌-◌, length}
 use Rattle.basis.proofs.Kit.{rules}
 use Rattle.path.specs.inner.Places.{names_from}
 use Rattle.scope.specs.Scope.{holding}

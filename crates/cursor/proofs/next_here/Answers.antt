@@ -1,6 +1,6 @@
 -- `cursor::next_here` meets its contract.
 -- Assumes nothing.
-use Rattle.basis.specs.Kit.{◌-◌}
+use Rattle.std.specs.Prelude.{◌-◌}
 use Rattle.basis.proofs.Kit.{rules}
 use Rattle.cursor.specs.inner.Cursor.{here}
 use Rattle.cursor.proofs.CursorLaws.{Onward, here-laws}

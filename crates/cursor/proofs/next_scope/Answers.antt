@@ -1,6 +1,6 @@
 -- `cursor::next_scope` meets its contract.
 -- Assumes nothing.
-use Rattle.basis.specs.Kit.{suc, ◌-◌, length}
+use Rattle.std.specs.Prelude.{suc, ◌-◌, length}
 use Rattle.basis.proofs.Kit.{rules}
 use Rattle.cursor.specs.inner.Cursor.{ahead}
 use Rattle.cursor.proofs.CursorLaws.{Onward, scopes-laws}

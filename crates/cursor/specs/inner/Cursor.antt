@@ -13,7 +13,8 @@
 --          Nexts L s t c r <-> r is the next of L, or that there is none
 --
 -- Assumes nothing.
-use Rattle.basis.specs.Kit.{◌≡◌, Bool, true, false, List, [], ◌∷◌, ◌++◌, Option, none, ℕ, suc, ◌-◌, ◌≤◌, ◌<◌, eqb, length, get_or, take}
+use Rattle.std.specs.Prelude.{◌≡◌, Bool, true, false, List, [], ◌∷◌, ◌++◌, ℕ, suc, ◌-◌, ◌≤◌, ◌<◌, eqb, length, get_or, take}
+use Rattle.basis.specs.Kit.{Option, none}
 use Rattle.limits.specs.Figures.{most_messages}
 use Rattle.field.specs.declared.Leaf.{Leaf}
 use Rattle.field.specs.declared.Leaf.TheVariants.{At as LeafAt, Not}

@@ -1,6 +1,6 @@
 -- `display::records` meets its contract, by its loop's invariant and laws.
 -- Assumes nothing.
-use Rattle.basis.specs.Kit.{◌-◌, ◌≤◌}
+use Rattle.std.specs.Prelude.{◌-◌, ◌≤◌}
 use Rattle.basis.proofs.Kit.{needs}
 use Rattle.display.proofs.records.Statement.{statement}
 use Rattle.display.proofs.records.Tie as tie

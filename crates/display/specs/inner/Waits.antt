@@ -4,7 +4,7 @@
 --        rest_of bs e ==  how many bytes are left after it, and one; 0 where e is no record
 --
 -- Assumes nothing.
-use Rattle.basis.specs.Kit.{◌≡◌, List, ℕ, suc, ◌-◌, length}
+use Rattle.std.specs.Prelude.{◌≡◌, List, ℕ, suc, ◌-◌, length}
 use Rattle.entries.specs.declared.Row.{Row}
 use Rattle.levels.specs.declared.Cursor.{Cursor}
 use Rattle.levels.specs.declared.Event.{Event}

@@ -1,6 +1,6 @@
 -- `emit::give_words` meets its contract, by its loop's invariant and laws.
 -- Assumes nothing.
-use Rattle.basis.specs.Kit.{◌-◌, length}
+use Rattle.std.specs.Prelude.{◌-◌, length}
 use Rattle.basis.proofs.Kit.{rules}
 use Rattle.emit.proofs.Copying.{Copying, copying-laws}
 use Rattle.emit.proofs.give_words.Goals as goal

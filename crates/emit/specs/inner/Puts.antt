@@ -3,7 +3,7 @@
 --   Puts o at l l' r <-> the writer of the outcome o, from the place `at` on, answered r, and what was l is l'
 --
 -- Assumes nothing.
-use Rattle.basis.specs.Kit.{List, ℕ}
+use Rattle.std.specs.Prelude.{List, ℕ}
 use Rattle.octets.specs.inner.Laid.{Laid}
 use Rattle.reply.specs.declared.Cause.{Cause}
 use Rattle.reply.specs.Outcome.{Outcome, refused, give}

@@ -14,7 +14,8 @@
 --          FrontLies s at end r <-> the record lies behind `at` and before `end`, a message's path and place in the sheet
 --
 -- Assumes nothing.
-use Rattle.basis.specs.Kit.{◌≡◌, true, false, List, [], ◌∷◌, Option, none, some as is, ℕ, ◌+◌, ◌≤◌, ◌<◌, eqb}
+use Rattle.std.specs.Prelude.{◌≡◌, true, false, List, [], ◌∷◌, ℕ, ◌+◌, ◌≤◌, ◌<◌, eqb}
+use Rattle.basis.specs.Kit.{Option, none, some as is}
 use Rattle.reply.specs.declared.Refusal.{Refusal}
 use Rattle.field.specs.declared.Span.{Span}
 use Rattle.field.specs.Leaf.{text, Lies}

@@ -19,7 +19,7 @@
 --               why_not q s t ==  that, of a sheet that is short enough
 --
 -- Assumes nothing.
-use Rattle.basis.specs.Kit.{List, ℕ, ltb, length}
+use Rattle.std.specs.Prelude.{List, ℕ, ltb, length}
 use Rattle.basis.specs.First.{only_if}
 use Rattle.limits.specs.Figures.{most_sheet}
 use Rattle.field.specs.declared.Span.{Span}

@@ -1,6 +1,6 @@
 -- `extensions::first_extension` meets its contract.
 -- Assumes nothing.
-use Rattle.basis.specs.Kit.{length}
+use Rattle.std.specs.Prelude.{length}
 use Rattle.cursor.specs.inner.Cursor.{ahead}
 use Rattle.cursor.proofs.Left.{Left}
 use Rattle.extensions.proofs.ExtensionLaws.{named_in, first-extension-laws}

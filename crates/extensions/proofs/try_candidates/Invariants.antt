@@ -1,6 +1,6 @@
 -- `extensions::try_candidates` meets its contract.
 -- Assumes nothing.
-use Rattle.basis.specs.Kit.{◌-◌}
+use Rattle.std.specs.Prelude.{◌-◌}
 use Rattle.basis.proofs.Kit.{rules}
 use Rattle.candidates.specs.Candidates.{candidates}
 use Rattle.search.specs.Lookup.{tried}

@@ -4,7 +4,7 @@
 --   stepped_by i x == what the writer of a constant answers, x, as what the step on the i-th part answers
 --
 -- Assumes nothing.
-use Rattle.basis.specs.Kit.{ℕ}
+use Rattle.std.specs.Prelude.{ℕ}
 use Rattle.records.specs.declared.Wrote.{Wrote}
 use Rattle.records.specs.declared.Wrote.TheVariants as wrote
 use Rattle.faults.specs.declared.Stepped.{Stepped}

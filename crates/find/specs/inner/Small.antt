@@ -5,7 +5,7 @@
 --       Small f <-> so do all spans of the extension, and its file's index is below that
 --
 -- Assumes nothing.
-use Rattle.basis.specs.Kit.{ℕ, ◌^◌, ◌≤◌, ◌<◌}
+use Rattle.std.specs.Prelude.{ℕ, ◌^◌, ◌≤◌, ◌<◌}
 use Rattle.field.specs.declared.Span.{Span}
 use Rattle.search.specs.declared.extension.Found.{Found}
 

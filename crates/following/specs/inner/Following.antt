@@ -10,7 +10,8 @@
 --          followed ks n f xs ==  what is followed after the rows xs
 --
 -- Assumes nothing.
-use Rattle.basis.specs.Kit.{Bool, true, false, List, [], ◌∷◌, Option, none, some, ℕ, ◌+◌, eqb, ltb}
+use Rattle.std.specs.Prelude.{Bool, true, false, List, [], ◌∷◌, ℕ, ◌+◌, eqb, ltb}
+use Rattle.basis.specs.Kit.{Option, none, some}
 use Rattle.basis.specs.First.{only_if}
 use Rattle.sheet.specs.declared.declaration.Declared.{Declared}
 use Rattle.sheet.specs.declared.declaration.Declared.TheVariants.{Declares, NoDeclaration}

@@ -8,8 +8,7 @@
 --       keys_at ws n == the first n keys
 --
 -- Assumes nothing.
-use Rattle.basis.specs.Kit.{Bool, List, [], ◌∷◌, ℕ, zero, suc, ◌+◌, ◌*◌, eqb, get_or}
-use Rattle.std.specs.Prelude.{not}
+use Rattle.std.specs.Prelude.{Bool, List, [], ◌∷◌, ℕ, zero, suc, ◌+◌, ◌*◌, eqb, get_or, not}
 use Rattle.sheet.specs.declared.declaration.Declaration.{Declaration}
 
 pub record Key : Type 0 where

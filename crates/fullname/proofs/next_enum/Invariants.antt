@@ -1,6 +1,6 @@
 -- `fullname::next_enum` meets its contract.
 -- Assumes nothing.
-use Rattle.basis.specs.Kit.{length}
+use Rattle.std.specs.Prelude.{length}
 use Rattle.basis.specs.First.{collect}
 use Rattle.cursor.specs.inner.Cursor.{ahead}
 use Rattle.fullname.specs.inner.Ahead.{kept, passing, declares_enum}

@@ -1,6 +1,6 @@
 -- `fullname::value_named` meets its contract.
 -- Assumes nothing.
-use Rattle.basis.specs.Kit.{◌-◌}
+use Rattle.std.specs.Prelude.{◌-◌}
 use Rattle.sheet.specs.declared.declaration.Valued.TheVariants.{NoValue}
 use Rattle.scope.specs.inner.Steps.{tells_valued, first_of, value_named_at}
 use Rattle.field.proofs.Seek.{Seeking}

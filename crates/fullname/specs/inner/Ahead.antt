@@ -6,7 +6,8 @@
 --   declares_enum s n c <=> the scope declares an enum of the name n
 --
 -- Assumes nothing.
-use Rattle.basis.specs.Kit.{Bool, true, false, List, Option, none, some, ℕ}
+use Rattle.std.specs.Prelude.{Bool, true, false, List, ℕ}
+use Rattle.basis.specs.Kit.{Option, none, some}
 use Rattle.path.specs.Path.{Name}
 use Rattle.basis.specs.First.{only_if, told, collect}
 use Rattle.scope.specs.Scope.{Scope, enum_named}

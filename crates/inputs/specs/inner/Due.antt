@@ -5,7 +5,7 @@
 --        due_leaf d ==  the leaf that was due, where it is there
 --
 -- Assumes nothing.
-use Rattle.basis.specs.Kit.{true, false, List, ℕ, eqb, length}
+use Rattle.std.specs.Prelude.{true, false, List, ℕ, eqb, length}
 use Rattle.field.specs.declared.Field.{Field}
 use Rattle.field.specs.declared.Field.TheVariants.{Whole, Cut}
 use Rattle.field.specs.declared.Leaf.{Leaf}

@@ -5,7 +5,7 @@
 --   answer_in room v ==  what is answered of the verdict v, where there is room for so many bytes
 --
 -- Assumes nothing.
-use Rattle.basis.specs.Kit.{true, false, List, ℕ, ltb, length}
+use Rattle.std.specs.Prelude.{true, false, List, ℕ, ltb, length}
 use Rattle.reply.specs.declared.Refusal.TheVariants.{NoRoom}
 use Rattle.reply.specs.declared.Cause.{Cause}
 use Rattle.reply.specs.declared.Answer.{Answer}

@@ -13,7 +13,8 @@
 --                          a fault
 --
 -- Assumes nothing.
-use Rattle.basis.specs.Kit.{◌≡◌, List, [], ◌∷◌, ℕ, zero, suc, ◌+◌, ◌-◌, ◌*◌, ◌≤◌, ◌<◌, length, sets}
+use Rattle.std.specs.Prelude.{◌≡◌, List, [], ◌∷◌, ℕ, zero, suc, ◌+◌, ◌-◌, ◌*◌, ◌≤◌, ◌<◌, length}
+use Rattle.basis.specs.Kit.{sets}
 use Rattle.limits.specs.Figures.{most_option_bytes, most_levels}
 use Rattle.octets.specs.Octets.{part}
 use Rattle.reply.specs.declared.Refusal.{Refusal}

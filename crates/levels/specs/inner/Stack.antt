@@ -7,8 +7,7 @@
 --   message_in s t l v == the message of the level v, which is the l-th: the outermost is the options type t
 --
 -- Assumes nothing.
-use Rattle.basis.specs.Kit.{List, [], ◌∷◌, ℕ, ◌+◌, ◌*◌, eqb, get_or}
-use Rattle.std.specs.Prelude.{not}
+use Rattle.std.specs.Prelude.{List, [], ◌∷◌, ℕ, ◌+◌, ◌*◌, eqb, get_or, not}
 use Rattle.basis.specs.First.{only_if}
 use Rattle.limits.specs.Figures.{most_levels}
 use Rattle.field.specs.Leaf.{span, text}

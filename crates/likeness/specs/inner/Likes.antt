@@ -7,7 +7,7 @@
 --          declared_likes f r ==  what f gives of the declaration that a reader answered, 0 where there is none
 --
 -- Assumes nothing.
-use Rattle.basis.specs.Kit.{Bool, ◌&&◌, List, ℕ, eqb}
+use Rattle.std.specs.Prelude.{Bool, ◌&&◌, List, ℕ, eqb}
 use Rattle.basis.specs.First.{only_if}
 use Rattle.field.specs.Leaf.{Lies}
 use Rattle.sheet.specs.declared.declaration.Declaration.{Declaration}

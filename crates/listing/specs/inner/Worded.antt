@@ -4,7 +4,7 @@
 --   WroteAtMost n r <-> where the writer that answered r wrote words, the place after them is at most n
 --
 -- Assumes nothing.
-use Rattle.basis.specs.Kit.{ℕ, ◌≤◌}
+use Rattle.std.specs.Prelude.{ℕ, ◌≤◌}
 use Rattle.reply.specs.Outcome.{Outcome, refused, nothing, give}
 use Rattle.emit.specs.declared.Put.{Put}
 use Rattle.emit.specs.declared.Put.TheVariants.{Wrote, Refused as Stopped}

@@ -1,6 +1,6 @@
 -- What these functions promise follows from their laws.
 -- Assumes nothing.
-use Rattle.basis.specs.Kit.{ℕ, ◌+◌, ◌-◌, ◌*◌, ◌<◌}
+use Rattle.std.specs.Prelude.{ℕ, ◌+◌, ◌-◌, ◌*◌, ◌<◌}
 use Rattle.basis.proofs.Kit.{rules}
 use Rattle.field.proofs.Rest.{Rest}
 use Rattle.messageform.specs.Form.{judge_items}

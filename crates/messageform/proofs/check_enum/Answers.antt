@@ -1,6 +1,6 @@
 -- `messageform::check_enum` meets its contract.
 -- Assumes nothing.
-use Rattle.basis.specs.Kit.{◌-◌}
+use Rattle.std.specs.Prelude.{◌-◌}
 use Rattle.field.proofs.Rest.{Rest}
 use Rattle.messageform.specs.Form.{judge_enum}
 use Rattle.messageform.proofs.MessageLaws.{values, enum_laws}

@@ -4,7 +4,7 @@
 --   leads_at t at n <=> it does so at a place
 --
 -- Assumes nothing.
-use Rattle.basis.specs.Kit.{Bool, true, false, List, [], ◌∷◌, ℕ, eqb, drop}
+use Rattle.std.specs.Prelude.{Bool, true, false, List, [], ◌∷◌, ℕ, eqb, drop}
 use Rattle.path.specs.Path.{dot}
 
 unfoldable pub leads : (name text : List ℕ) → Bool

@@ -2,7 +2,7 @@
 -- Assumes nothing.
 use Rattle.naming.proofs.NameLaws.{declare-laws, declare-behind-laws, declare-step-laws}
 use Rattle.basis.proofs.Kit.{needs}
-use Rattle.basis.specs.Kit.{ℕ, ◌+◌, ◌-◌, ◌*◌, ◌<◌, length}
+use Rattle.std.specs.Prelude.{ℕ, ◌+◌, ◌-◌, ◌*◌, ◌<◌, length}
 use borrow.Fn.Kinds.{In}
 use borrow.Fn.PlainCycle.{Measures, is, falls, and}
 use Rattle.naming.proofs.+declare_declare_behind_declare_step.{statement}

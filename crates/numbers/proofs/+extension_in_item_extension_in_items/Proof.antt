@@ -1,6 +1,6 @@
 -- `numbers::extension_in_item` and `numbers::extension_in_items` meet their contracts. Each call is nearer to the last level.
 -- Assumes nothing.
-use Rattle.basis.specs.Kit.{ℕ, ◌+◌, ◌-◌, ◌*◌, ◌<◌}
+use Rattle.std.specs.Prelude.{ℕ, ◌+◌, ◌-◌, ◌*◌, ◌<◌}
 use Rattle.basis.proofs.Kit.{needs}
 use Rattle.field.proofs.Seek.{Seeking}
 use Rattle.sheet.specs.declared.declaration.Declared.TheVariants.{NoDeclaration}

@@ -1,6 +1,6 @@
 -- `numbers::extension_numbered` meets its contract.
 -- Assumes nothing.
-use Rattle.basis.specs.Kit.{◌-◌}
+use Rattle.std.specs.Prelude.{◌-◌}
 use Rattle.field.proofs.Seek.{Seeking}
 use Rattle.sheet.specs.declared.declaration.Declared.TheVariants.{NoDeclaration}
 use Rattle.numbers.specs.Number.{is_extension_of}

@@ -1,6 +1,6 @@
 -- `numbers::field_numbered` meets its contract.
 -- Assumes nothing.
-use Rattle.basis.specs.Kit.{◌-◌}
+use Rattle.std.specs.Prelude.{◌-◌}
 use Rattle.sheet.specs.Table.{field_tag}
 use Rattle.field.proofs.Seek.{Seeking}
 use Rattle.sheet.specs.declared.declaration.Declared.TheVariants.{NoDeclaration}

@@ -6,7 +6,7 @@
 --       may_hold k s t a e <=> the field of the tag t is an extension that says k, or a message
 --
 -- Assumes nothing.
-use Rattle.basis.specs.Kit.{Bool, true, false, List, ℕ, eqb}
+use Rattle.std.specs.Prelude.{Bool, true, false, List, ℕ, eqb}
 use Rattle.octets.specs.Octets.{big_at}
 use Rattle.field.specs.Leaf.{any_bytes, of_size, on_leaf, leaf_at}
 use Rattle.sheet.specs.Table.{message_tag, extension_tag, name_tag, extendee_tag, number_tag}

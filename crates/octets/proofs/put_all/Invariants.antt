@@ -1,6 +1,6 @@
 -- `octets::put_all` meets its contract, by its loop's invariant and laws.
 -- Assumes nothing.
-use Rattle.basis.specs.Kit.{◌-◌}
+use Rattle.std.specs.Prelude.{◌-◌}
 use Rattle.basis.proofs.Kit.{rules}
 use Rattle.octets.proofs.Halfway.{Laying, laying-laws}
 use Rattle.octets.proofs.put_all.Given as goal

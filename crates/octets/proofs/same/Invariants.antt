@@ -1,6 +1,6 @@
 -- `octets::same` meets its contract, by its loop's invariant and laws.
 -- Assumes nothing.
-use Rattle.basis.specs.Kit.{◌-◌, length}
+use Rattle.std.specs.Prelude.{◌-◌, length}
 use Rattle.basis.proofs.Kit.{rules}
 use Rattle.octets.proofs.Alike.{Like}
 use Rattle.octets.proofs.Alike.{same-laws}

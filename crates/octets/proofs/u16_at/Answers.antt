@@ -1,6 +1,6 @@
 -- `octets::u16_at` meets its contract.
 -- Assumes nothing.
-use Rattle.basis.specs.Kit.{◌+◌}
+use Rattle.std.specs.Prelude.{◌+◌}
 use Rattle.basis.proofs.Kit.{rules}
 use Rattle.octets.proofs.Big.{big-laws}
 use Rattle.octets.proofs.u16_at.Goals as goal

@@ -1,6 +1,6 @@
 -- `oneofs::count_reals` meets its contract, by its loop's invariant and laws.
 -- Assumes nothing.
-use Rattle.basis.specs.Kit.{◌-◌, length}
+use Rattle.std.specs.Prelude.{◌-◌, length}
 use Rattle.basis.proofs.Kit.{rules}
 use Rattle.oneofs.proofs.CountingLaws.{Counting, counting-laws}
 use Rattle.oneofs.proofs.count_reals.Goals as goal

@@ -1,7 +1,7 @@
 -- `optevolve::compare_cases` meets its contract, by its loop's invariant and laws.
 -- Assumes nothing.
 use Rattle.basis.proofs.Kit.{needs}
-use Rattle.basis.specs.Kit.{◌-◌, ◌≤◌, length}
+use Rattle.std.specs.Prelude.{◌-◌, ◌≤◌, length}
 use Rattle.optevolve.proofs.compare_cases.Statement.{statement}
 use Rattle.optevolve.proofs.compare_cases.Tie as tie
 

@@ -1,6 +1,7 @@
 -- `optevolve::main` meets its contract. The buffer's length is a law and not computed: its bytes take antt seconds.
 -- Assumes nothing.
-use Rattle.basis.specs.Kit.{sym, ℕ}
+use Rattle.std.specs.Prelude.{ℕ}
+use Rattle.basis.specs.Kit.{sym}
 use lib.ListN.{length-replicate}
 use Rattle.optevolve.proofs.main.Statement.{statement}
 use Rattle.optevolve.proofs.main.Tie as tie

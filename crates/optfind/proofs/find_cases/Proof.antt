@@ -1,6 +1,6 @@
 -- `optfind::find_cases` meets its contract.
 -- Assumes nothing.
-use Rattle.basis.specs.Kit.{◌-◌, ◌≤◌, length}
+use Rattle.std.specs.Prelude.{◌-◌, ◌≤◌, length}
 use Rattle.basis.proofs.Kit.{needs}
 use Rattle.optfind.proofs.find_cases.Statement.{statement}
 use Rattle.optfind.proofs.find_cases.Tie as tie

@@ -1,6 +1,7 @@
 -- `optfind::main` meets its contract. The buffer's length is a law and not computed: its 131,076 bytes take antt seconds.
 -- Assumes nothing.
-use Rattle.basis.specs.Kit.{sym, ℕ}
+use Rattle.std.specs.Prelude.{ℕ}
+use Rattle.basis.specs.Kit.{sym}
 use lib.ListN.{length-replicate}
 use Rattle.optfind.proofs.main.Statement.{statement}
 use Rattle.optfind.proofs.main.Tie as tie

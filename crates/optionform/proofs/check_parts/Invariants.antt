@@ -1,6 +1,6 @@
 -- `optionform::check_parts` meets its contract.
 -- Assumes nothing.
-use Rattle.basis.specs.Kit.{◌-◌}
+use Rattle.std.specs.Prelude.{◌-◌}
 use Rattle.basis.proofs.Kit.{rules}
 use Rattle.field.specs.Walk.{walk}
 use Rattle.field.proofs.Rest.{Rest}

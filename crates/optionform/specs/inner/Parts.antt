@@ -6,7 +6,7 @@
 --         NameParts s at end <-> so it is, and the parts are followed by nothing
 --
 -- Assumes nothing.
-use Rattle.basis.specs.Kit.{◌≡◌, true, List, ℕ}
+use Rattle.std.specs.Prelude.{◌≡◌, true, List, ℕ}
 use Rattle.limits.specs.Figures.{most_constants}
 use Rattle.reply.specs.declared.Verdict.TheVariants.{Fine}
 use Rattle.field.specs.declared.Field.TheVariants.{Whole}

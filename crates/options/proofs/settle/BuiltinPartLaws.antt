@@ -1,6 +1,7 @@
 -- The whole name of a builtin, a single direct part: the ways through `builtin_part` and `built_at`.
 -- Assumes nothing.
-use Rattle.basis.specs.Kit.{◌≡◌, refl, sym, ap, ◌∙◌, true, false, List, [], ◌∷◌, none, ℕ}
+use Rattle.std.specs.Prelude.{◌≡◌, refl, true, false, List, [], ◌∷◌, ℕ}
+use Rattle.basis.specs.Kit.{sym, ap, ◌∙◌, none}
 use Rattle.basis.proofs.Never.{never}
 use Rattle.limits.specs.Figures.{most_constants}
 use Rattle.field.specs.declared.Field.{Field}

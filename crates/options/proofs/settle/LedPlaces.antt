@@ -1,6 +1,6 @@
 -- Where that lies to which a part leads, for the step that goes on there: what it asks for holds, and what is left falls.
 -- Assumes nothing.
-use Rattle.basis.specs.Kit.{◌≡◌, List, ℕ, ◌+◌, ◌-◌, ◌*◌, ◌≤◌, ◌<◌, length}
+use Rattle.std.specs.Prelude.{◌≡◌, List, ℕ, ◌+◌, ◌-◌, ◌*◌, ◌≤◌, ◌<◌, length}
 use Rattle.basis.proofs.Kit.{arith, Fits}
 use mir.Syntax.{w32}
 use Rattle.sheet.specs.declared.declaration.Shape.{Shape}

@@ -1,6 +1,7 @@
 -- One option: the ways through `settled_built`, `settle_named`, `settle` and `put_set`, over any look-ups.
 -- Assumes nothing.
-use Rattle.basis.specs.Kit.{◌≡◌, refl, sym, ap, ◌∙◌, Bool, true, false, List, [], ◌∷◌, Option, none, some, ℕ, ◌+◌, ◌-◌, ◌≤◌, length, sets}
+use Rattle.std.specs.Prelude.{◌≡◌, refl, Bool, true, false, List, [], ◌∷◌, ℕ, ◌+◌, ◌-◌, ◌≤◌, length}
+use Rattle.basis.specs.Kit.{sym, ap, ◌∙◌, Option, none, some, sets}
 use Rattle.basis.specs.First.{only_if}
 use Rattle.basis.proofs.Kit.{arith}
 use mathlib.Core.Path.{subst}

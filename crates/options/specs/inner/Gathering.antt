@@ -12,7 +12,7 @@
 --                                    l, from `at` on, the notes ns are those of the known builtins, and all have at most k bytes
 --
 -- Assumes nothing.
-use Rattle.basis.specs.Kit.{◌≡◌, List, [], ◌∷◌, ℕ, ◌+◌, ◌≤◌, eqb, length, get_or}
+use Rattle.std.specs.Prelude.{◌≡◌, List, [], ◌∷◌, ℕ, ◌+◌, ◌≤◌, eqb, length, get_or}
 use Rattle.std.proofs.Math.ListN.{get_elem?}
 use Rattle.basis.specs.First.{only_if, told}
 use Rattle.limits.specs.Figures.{most_options}

@@ -9,7 +9,7 @@
 --   Measures s r o ns v <-> v was answered of what the request comes to, o
 --
 -- Assumes nothing.
-use Rattle.basis.specs.Kit.{◌≡◌, List, ℕ, ◌≤◌, length}
+use Rattle.std.specs.Prelude.{◌≡◌, List, ℕ, ◌≤◌, length}
 use Rattle.limits.specs.Figures.{most_options}
 use Rattle.records.specs.Records.{Recs, nil, append, encode}
 use Rattle.records.specs.inner.Emits.{bytes_most}

@@ -8,7 +8,7 @@
 --                                   is a path or empty, and the place p of the message reached lies in the sheet s
 --
 -- Assumes nothing.
-use Rattle.basis.specs.Kit.{◌≡◌, true, List, ℕ, ◌+◌, ◌-◌, ◌^◌, ◌≤◌, ◌<◌, length}
+use Rattle.std.specs.Prelude.{◌≡◌, true, List, ℕ, ◌+◌, ◌-◌, ◌^◌, ◌≤◌, ◌<◌, length}
 use Rattle.reply.specs.declared.Refusal.{Refusal}
 use Rattle.path.specs.Path.{is_rel_or_empty}
 use Rattle.field.specs.Field.{field_at}

@@ -1,6 +1,6 @@
 -- `optlist::list_cases` meets its contract, by its loop's invariant and laws.
 -- Assumes nothing.
-use Rattle.basis.specs.Kit.{◌≡◌, ◌-◌, ◌≤◌, length}
+use Rattle.std.specs.Prelude.{◌≡◌, ◌-◌, ◌≤◌, length}
 use Rattle.basis.proofs.Kit.{needs}
 use Rattle.optlist.proofs.list_cases.Statement.{statement}
 use Rattle.optlist.proofs.list_cases.Tie as tie

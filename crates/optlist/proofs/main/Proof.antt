@@ -1,6 +1,7 @@
 -- `optlist::main` meets its contract. The buffers' lengths are laws and not computed: their bytes take antt seconds.
 -- Assumes nothing.
-use Rattle.basis.specs.Kit.{sym, ℕ}
+use Rattle.std.specs.Prelude.{ℕ}
+use Rattle.basis.specs.Kit.{sym}
 use lib.ListN.{length-replicate}
 use Rattle.optlist.proofs.main.Statement.{statement}
 use Rattle.optlist.proofs.main.Tie as tie

@@ -1,6 +1,7 @@
 -- `optlower::main` meets its contract. The buffers' lengths are laws and not computed: their bytes take antt seconds.
 -- Assumes nothing.
-use Rattle.basis.specs.Kit.{sym, ℕ}
+use Rattle.std.specs.Prelude.{ℕ}
+use Rattle.basis.specs.Kit.{sym}
 use lib.ListN.{length-replicate}
 use Rattle.optlower.proofs.main.Statement.{statement}
 use Rattle.optlower.proofs.main.Tie as tie

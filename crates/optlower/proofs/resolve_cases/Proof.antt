@@ -1,6 +1,6 @@
 -- `optlower::resolve_cases` meets its contract.
 -- Assumes nothing.
-use Rattle.basis.specs.Kit.{◌≡◌, ◌-◌, ◌≤◌, length}
+use Rattle.std.specs.Prelude.{◌≡◌, ◌-◌, ◌≤◌, length}
 use Rattle.basis.proofs.Kit.{needs}
 use Rattle.optlower.proofs.resolve_cases.Statement.{statement}
 use Rattle.optlower.proofs.resolve_cases.Tie as tie

@@ -1,6 +1,7 @@
 -- `optoneofs::main` meets its contract. The buffer's length is a law and not computed: its 131,076 bytes take antt seconds.
 -- Assumes nothing.
-use Rattle.basis.specs.Kit.{sym, ℕ}
+use Rattle.std.specs.Prelude.{ℕ}
+use Rattle.basis.specs.Kit.{sym}
 use lib.ListN.{length-replicate}
 use Rattle.optoneofs.proofs.main.Goals as goal
 

@@ -5,7 +5,7 @@
 --      pair_at s at e == the pair at a place
 --
 -- Assumes nothing.
-use Rattle.basis.specs.Kit.{true, false, List, ℕ}
+use Rattle.std.specs.Prelude.{true, false, List, ℕ}
 use Rattle.field.specs.declared.Field.{Field}
 use Rattle.field.specs.declared.Field.TheVariants.{Whole, Cut}
 use Rattle.field.specs.Field.{field_at}

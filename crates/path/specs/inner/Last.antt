@@ -3,7 +3,7 @@
 --   LastStarts t r <-> the last component of t starts at r, and the components before it are those of the text up to the dot before r
 --
 -- Assumes nothing.
-use Rattle.basis.specs.Kit.{◌≡◌, List, ℕ, ◌-◌, ◌≤◌, length, take, drop}
+use Rattle.std.specs.Prelude.{◌≡◌, List, ℕ, ◌-◌, ◌≤◌, length, take, drop}
 use Rattle.path.specs.Path.{components, parent, last}
 use Rattle.path.specs.inner.Places.{names_from}
 

@@ -4,7 +4,7 @@
 --   names_from t at == the pieces of t from the place `at` on; none where that is past the end
 --
 -- Assumes nothing.
-use Rattle.basis.specs.Kit.{true, false, List, [], ◌∷◌, ℕ, eqb, leb, length, drop}
+use Rattle.std.specs.Prelude.{true, false, List, [], ◌∷◌, ℕ, eqb, leb, length, drop}
 use Rattle.path.specs.Path.{Name, Path, dot, split}
 
 unfoldable pub until_dot : (text : List ℕ) → Name

@@ -4,7 +4,8 @@
 --   payload_in w s at end == the payload of the wire type w between two places of s
 --
 -- Assumes nothing.
-use Rattle.basis.specs.Kit.{List, Option, none, some, ℕ, ◌+◌, take, drop}
+use Rattle.std.specs.Prelude.{List, ℕ, ◌+◌, take, drop}
+use Rattle.basis.specs.Kit.{Option, none, some}
 use Rattle.octets.specs.Octets.{part}
 use Rattle.payloads.specs.declared.Payload.{Payload}
 use Rattle.payloads.specs.declared.Payload.TheVariants.{Whole, Cut}

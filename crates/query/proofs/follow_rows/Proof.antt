@@ -1,6 +1,6 @@
 -- `query::follow_rows` meets its contract, by its loop's invariant and laws.
 -- Assumes nothing.
-use Rattle.basis.specs.Kit.{◌-◌, length}
+use Rattle.std.specs.Prelude.{◌-◌, length}
 use Rattle.lookups.specs.Lookups.{walking}
 use Rattle.levels.specs.inner.Left.{left}
 use Rattle.query.proofs.SeenLaws.{Seeing, seeing-laws}

@@ -10,7 +10,7 @@
 --   admitted v s type q bs ==  the message that the options type is, or the first fault of the inputs, of which the sheet is judged v
 --
 -- Assumes nothing.
-use Rattle.basis.specs.Kit.{List, ℕ, length}
+use Rattle.std.specs.Prelude.{List, ℕ, length}
 use Rattle.limits.specs.Figures.{most_levels}
 use Rattle.reply.specs.declared.Verdict.{Verdict}
 use Rattle.reply.specs.Reply.{bare}

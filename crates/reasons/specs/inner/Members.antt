@@ -7,7 +7,7 @@
 --   member_flaw s w k ns l == what is amiss with a member of the name l, where there is one, among the names ns
 --
 -- Assumes nothing.
-use Rattle.basis.specs.Kit.{true, false, List, [], ◌∷◌, ℕ, eqb}
+use Rattle.std.specs.Prelude.{true, false, List, [], ◌∷◌, ℕ, eqb}
 use Rattle.basis.specs.First.{only_if}
 use Rattle.basis.specs.Count.{once}
 use Rattle.field.specs.declared.Leaf.{Leaf}

@@ -5,7 +5,8 @@
 --                              the record of these bytes laid there, and r is the place after it
 --
 -- Assumes nothing.
-use Rattle.basis.specs.Kit.{◌≡◌, List, ◌++◌, ℕ, suc, ◌+◌, length, sets}
+use Rattle.std.specs.Prelude.{◌≡◌, List, ◌++◌, ℕ, suc, ◌+◌, length}
+use Rattle.basis.specs.Kit.{sets}
 use Rattle.types.specs.Types.{LEN}
 use Rattle.varint.specs.Varint.{varint}
 use Rattle.wire.specs.Tag.{tag_of}

@@ -1,6 +1,6 @@
 -- `reply::spelled` meets its contract, by its loop's invariant and laws.
 -- Assumes nothing.
-use Rattle.basis.specs.Kit.{◌-◌, length}
+use Rattle.std.specs.Prelude.{◌-◌, length}
 use Rattle.basis.proofs.Kit.{rules}
 use Rattle.reply.proofs.Names.{Spelling, spelling-laws}
 use Rattle.reply.proofs.spelled.Goals as goal

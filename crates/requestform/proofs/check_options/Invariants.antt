@@ -1,6 +1,6 @@
 -- `requestform::check_options` meets its contract.
 -- Assumes nothing.
-use Rattle.basis.specs.Kit.{◌-◌, ◌≤◌}
+use Rattle.std.specs.Prelude.{◌-◌, ◌≤◌}
 use Rattle.basis.proofs.Kit.{rules}
 use Rattle.reply.specs.declared.Refusal.TheVariants.{BadRequest}
 use Rattle.form.specs.Each.{each_from}

@@ -1,6 +1,6 @@
 -- What these functions promise follows from their laws.
 -- Assumes nothing.
-use Rattle.basis.specs.Kit.{ℕ, ◌+◌, ◌-◌, ◌*◌, ◌<◌, take}
+use Rattle.std.specs.Prelude.{ℕ, ◌+◌, ◌-◌, ◌*◌, ◌<◌, take}
 use Rattle.field.proofs.LeafLaws.{leaf-inside}
 use Rattle.roster.proofs.Finding.{Finding}
 use Rattle.roster.proofs.RosterLaws.{in_item, item-laws, items-laws, message-laws, leaf-laws}

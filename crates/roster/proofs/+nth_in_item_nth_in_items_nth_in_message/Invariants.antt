@@ -1,7 +1,7 @@
 -- `roster::nth_in_item`, `roster::nth_in_items` and `roster::nth_in_message` meet their contracts. Each call is nearer to
 -- the last level.
 -- Assumes nothing.
-use Rattle.basis.specs.Kit.{ℕ, ◌+◌, ◌-◌, ◌*◌, ◌<◌, take}
+use Rattle.std.specs.Prelude.{ℕ, ◌+◌, ◌-◌, ◌*◌, ◌<◌, take}
 use Rattle.field.proofs.LeafLaws.{leaf-inside}
 use Rattle.roster.proofs.Finding.{Finding}
 use Rattle.roster.proofs.RosterLaws.{in_item, item-laws, items-laws, message-laws, leaf-laws}

@@ -1,6 +1,6 @@
 -- `roster::nth_declared` meets its contract, by its loop's invariant and laws.
 -- Assumes nothing.
-use Rattle.basis.specs.Kit.{◌-◌}
+use Rattle.std.specs.Prelude.{◌-◌}
 use Rattle.roster.proofs.Finding.{Finding}
 use Rattle.roster.proofs.RosterLaws.{in_file, declared-laws}
 use Rattle.basis.proofs.Kit.{rules}

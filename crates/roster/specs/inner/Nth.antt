@@ -10,7 +10,7 @@
 --                                    first `at` bytes of the room stay as they were before
 --
 -- Assumes nothing.
-use Rattle.basis.specs.Kit.{◌≡◌, false, List, [], ◌∷◌, ◌++◌, ℕ, zero, suc, length, take}
+use Rattle.std.specs.Prelude.{◌≡◌, false, List, [], ◌∷◌, ◌++◌, ℕ, zero, suc, length, take}
 use Rattle.field.specs.Leaf.{span}
 use Rattle.sheet.specs.Tree as tree
 use Rattle.scope.specs.Scope.{Scope}

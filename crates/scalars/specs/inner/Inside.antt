@@ -3,8 +3,7 @@
 --   Inside c r <-> the span that the constant c holds is one of r, and the float that it holds is no NaN
 --
 -- Assumes nothing.
-use Rattle.basis.specs.Kit.{List, ℕ}
-use Rattle.std.specs.Prelude.{not, T}
+use Rattle.std.specs.Prelude.{List, ℕ, not, T}
 use Rattle.std.specs.Float.Ieee.{is_nan}
 use Rattle.field.specs.Leaf.{Lies}
 use Rattle.request.specs.declared.constant.Constant.{Constant}

@@ -5,7 +5,8 @@
 --   placed, declared, valued, bodied == the code's answer of a scope, a declaration, a value, an enum, or of none
 --
 -- Assumes nothing.
-use Rattle.basis.specs.Kit.{List, Option, ℕ, ◌≤◌, length}
+use Rattle.std.specs.Prelude.{List, ℕ, ◌≤◌, length}
+use Rattle.basis.specs.Kit.{Option}
 use Rattle.basis.specs.First.{told}
 use Rattle.field.specs.declared.Leaf.{Leaf}
 use Rattle.field.specs.declared.Leaf.TheVariants.{At, Not}

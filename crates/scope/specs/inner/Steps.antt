@@ -12,7 +12,8 @@
 --                          file_at s t a e == the file that a field of a sheet is
 --
 -- Assumes nothing.
-use Rattle.basis.specs.Kit.{Bool, true, false, List, [], Option, some, ℕ, eqb}
+use Rattle.std.specs.Prelude.{Bool, true, false, List, [], ℕ, eqb}
+use Rattle.basis.specs.Kit.{Option, some}
 use Rattle.std.proofs.Math.Option as option
 use Rattle.basis.specs.First.{only_if, told}
 use Rattle.octets.specs.Octets.{same_bytes}

@@ -1,6 +1,6 @@
 -- `sheetform::check_files` meets its contract.
 -- Assumes nothing.
-use Rattle.basis.specs.Kit.{◌-◌}
+use Rattle.std.specs.Prelude.{◌-◌}
 use Rattle.basis.proofs.Kit.{rules}
 use Rattle.field.proofs.Rest.{Rest}
 use Rattle.sheetform.specs.Form.{judge_files}

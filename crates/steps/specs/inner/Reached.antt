@@ -9,7 +9,7 @@
 --   Led s r a e v <-> what the part at a place leads to, v, stands further on, and lies in the sheet s and the request r
 --
 -- Assumes nothing.
-use Rattle.basis.specs.Kit.{◌≡◌, true, false, List, ℕ, ◌+◌, ◌≤◌, eqb}
+use Rattle.std.specs.Prelude.{◌≡◌, true, false, List, ℕ, ◌+◌, ◌≤◌, eqb}
 use Rattle.reply.specs.declared.Refusal.TheVariants.{ExtensionIsNotMessage}
 use Rattle.field.specs.Leaf.{text, Lies}
 use Rattle.types.specs.Types.{TYPE_GROUP, TYPE_MESSAGE}

@@ -6,7 +6,7 @@
 --   known_taken t w p ==  of a number that is declared by the type t, on the wire type w
 --
 -- Assumes nothing.
-use Rattle.basis.specs.Kit.{true, false, ℕ, ◌+◌, ◌≤◌, eqb}
+use Rattle.std.specs.Prelude.{true, false, ℕ, ◌+◌, ◌≤◌, eqb}
 use Rattle.reply.specs.declared.Refusal.TheVariants.{BadBytes, WireMismatch}
 use Rattle.types.specs.Types.{wire_of}
 use Rattle.payloads.specs.declared.Payload.{Payload}

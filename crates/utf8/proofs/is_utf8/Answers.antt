@@ -1,6 +1,6 @@
 -- `utf8::is_utf8` meets its contract, by its loop's invariant and laws.
 -- Assumes nothing.
-use Rattle.basis.specs.Kit.{◌-◌, length}
+use Rattle.std.specs.Prelude.{◌-◌, length}
 use Rattle.basis.proofs.Kit.{rules}
 use Rattle.utf8.proofs.Scan.{Scanned, scan-laws}
 use Rattle.utf8.proofs.is_utf8.Goals as goal

@@ -1,7 +1,7 @@
 -- The six writers of constants, which call each other, meet their contracts. The measure is four times the bytes of constant, and up
 -- to four more, so that it falls where the same bytes are handed on.
 -- Assumes nothing.
-use Rattle.basis.specs.Kit.{ℕ, ◌+◌, ◌-◌, ◌*◌, ◌<◌}
+use Rattle.std.specs.Prelude.{ℕ, ◌+◌, ◌-◌, ◌*◌, ◌<◌}
 use Rattle.basis.proofs.Kit.{needs}
 use borrow.Fn.Kinds.{In}
 use borrow.Fn.PlainCycle.{Measures, is, falls, and}

@@ -11,7 +11,7 @@
 --    message_made h d a e == a message constant on a field of the shape h
 --
 -- Assumes nothing.
-use Rattle.basis.specs.Kit.{true, false, List, ℕ, zero, suc, ◌+◌, ◌-◌, eqb}
+use Rattle.std.specs.Prelude.{true, false, List, ℕ, zero, suc, ◌+◌, ◌-◌, eqb}
 use Rattle.basis.specs.First.{told}
 use Rattle.limits.specs.Figures.{most_varint}
 use Rattle.reply.specs.declared.Refusal.{Refusal}

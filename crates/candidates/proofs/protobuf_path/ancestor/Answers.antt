@@ -1,6 +1,6 @@
 -- `candidates::protobuf_path::ancestor` meets its contract.
 -- Assumes nothing.
-use Rattle.basis.specs.Kit.{◌-◌}
+use Rattle.std.specs.Prelude.{◌-◌}
 use Rattle.basis.proofs.Kit.{rules}
 use Rattle.candidates.proofs.CandidateLaws.{Climbed, climbed-laws}
 use Rattle.candidates.proofs.protobuf_path.ancestor.Goals as goal

@@ -1,6 +1,7 @@
 -- `console::input::read` meets its contract. The buffer's length is a law and not computed: its half a million bytes take antt seconds.
 -- Assumes nothing.
-use Rattle.basis.specs.Kit.{sym, ℕ}
+use Rattle.std.specs.Prelude.{ℕ}
+use Rattle.basis.specs.Kit.{sym}
 use lib.ListN.{length-replicate}
 use Rattle.console.proofs.input.read.Goals as goal
 

@@ -1,6 +1,6 @@
 -- `count_item`, `count_items` and `count_message` of `counts::declarations` end: each call is nearer to the last level. The loop's invariant.
 -- Assumes nothing.
-use Rattle.basis.specs.Kit.{◌+◌, ◌-◌, ◌*◌}
+use Rattle.std.specs.Prelude.{◌+◌, ◌-◌, ◌*◌}
 use Rattle.field.specs.Walk.{walk}
 use Rattle.sheet.specs.Tree.{items_in}
 use Rattle.counts.specs.Declarations.{items_hold}

@@ -1,6 +1,6 @@
 -- `counts::declarations::count` meets its contract.
 -- Assumes nothing.
-use Rattle.basis.specs.Kit.{◌-◌}
+use Rattle.std.specs.Prelude.{◌-◌}
 use Rattle.sheet.specs.Tree.{tree_of}
 use Rattle.counts.specs.Declarations.{files_hold}
 use Rattle.counts.specs.inner.Fields.{file_count}

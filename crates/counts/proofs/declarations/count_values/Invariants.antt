@@ -1,6 +1,6 @@
 -- `counts::declarations::count_values` meets its contract.
 -- Assumes nothing.
-use Rattle.basis.specs.Kit.{◌-◌, length}
+use Rattle.std.specs.Prelude.{◌-◌, length}
 use Rattle.basis.proofs.Kit.{rules}
 use Rattle.field.specs.Walk.{walk}
 use Rattle.sheet.specs.Tree.{values_in}

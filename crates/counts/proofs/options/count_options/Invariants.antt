@@ -1,6 +1,6 @@
 -- `counts::options::count_options` meets its contract.
 -- Assumes nothing.
-use Rattle.basis.specs.Kit.{◌-◌, length}
+use Rattle.std.specs.Prelude.{◌-◌, length}
 use Rattle.basis.proofs.Kit.{rules}
 use Rattle.request.specs.Request.{request_of}
 use Rattle.field.proofs.Tally.{Tally}

@@ -1,6 +1,6 @@
 -- `counts::options::count_parts` meets its contract.
 -- Assumes nothing.
-use Rattle.basis.specs.Kit.{◌-◌}
+use Rattle.std.specs.Prelude.{◌-◌}
 use Rattle.request.specs.Request.{request_of}
 use Rattle.counts.specs.Options.{parts_of}
 use Rattle.field.proofs.Tally.{Tally}

@@ -1,6 +1,6 @@
 -- `display::enums::show_enumerator` meets its contract, by its loop's invariant and laws.
 -- Assumes nothing.
-use Rattle.basis.specs.Kit.{◌-◌, ◌≤◌, length}
+use Rattle.std.specs.Prelude.{◌-◌, ◌≤◌, length}
 use Rattle.display.proofs.PlaceLaws.{place-laws}
 use Rattle.display.proofs.enums.show_enumerator.Statement.{statement}
 use Rattle.display.proofs.enums.show_enumerator.Tie as tie

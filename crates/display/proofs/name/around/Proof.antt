@@ -1,6 +1,6 @@
 -- `display::name::around` meets its contract, by its loop's invariant and laws.
 -- Assumes nothing.
-use Rattle.basis.specs.Kit.{◌-◌, ◌≤◌}
+use Rattle.std.specs.Prelude.{◌-◌, ◌≤◌}
 use Rattle.display.proofs.PlaceLaws.{place-laws}
 use Rattle.basis.proofs.Kit.{needs}
 use Rattle.display.proofs.name.around.Statement.{statement}

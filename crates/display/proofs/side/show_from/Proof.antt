@@ -2,7 +2,7 @@
 -- Assumes nothing.
 use Rattle.display.proofs.WaitsLaws.{waits-laws}
 use Rattle.basis.proofs.Kit.{needs}
-use Rattle.basis.specs.Kit.{◌≡◌, length}
+use Rattle.std.specs.Prelude.{◌≡◌, length}
 use Rattle.display.specs.inner.Waits.{Waits, rest_of}
 use Rattle.display.proofs.side.show_from.Statement.{statement}
 use Rattle.display.proofs.side.show_from.Tie as tie

@@ -1,6 +1,6 @@
 -- `display::value::show_string` meets its contract, by its loop's invariant and laws.
 -- Assumes nothing.
-use Rattle.basis.specs.Kit.{◌-◌, length}
+use Rattle.std.specs.Prelude.{◌-◌, length}
 use Rattle.basis.proofs.Kit.{needs}
 use Rattle.display.proofs.value.show_string.Statement.{statement}
 use Rattle.display.proofs.value.show_string.Tie as tie

@@ -1,6 +1,6 @@
 -- `hex::digits::decode` meets its contract, by its loop's invariant and laws.
 -- Assumes nothing.
-use Rattle.basis.specs.Kit.{◌-◌, length}
+use Rattle.std.specs.Prelude.{◌-◌, length}
 use Rattle.basis.proofs.Kit.{rules}
 use Rattle.hexadecimal.proofs.SpellingLaws.{Spelling, spelling-laws}
 use Rattle.hexadecimal.proofs.digits.decode.Goals as goal

@@ -1,6 +1,6 @@
 -- `inputs::words::signed_words_of` meets its contract, by its loop's invariant and laws.
 -- Assumes nothing.
-use Rattle.basis.specs.Kit.{ℕ, ◌-◌, ◌*◌, length}
+use Rattle.std.specs.Prelude.{ℕ, ◌-◌, ◌*◌, length}
 use Rattle.basis.proofs.Kit.{rules}
 use lib.IntN.{pos}
 use mir.Syntax.{w32}

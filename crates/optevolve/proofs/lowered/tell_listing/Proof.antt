@@ -1,6 +1,7 @@
 -- `optevolve::lowered::tell_listing` meets its contract. The room's length is a law and not computed: its elements take antt seconds.
 -- Assumes nothing.
-use Rattle.basis.specs.Kit.{sym, ℕ}
+use Rattle.std.specs.Prelude.{ℕ}
+use Rattle.basis.specs.Kit.{sym}
 use lib.ListN.{length-replicate}
 use Rattle.optevolve.proofs.lowered.tell_listing.Statement.{statement}
 use Rattle.optevolve.proofs.lowered.tell_listing.Tie as tie

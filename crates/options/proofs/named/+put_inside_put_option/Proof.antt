@@ -2,7 +2,7 @@
 -- Assumes nothing.
 use Rattle.options.proofs.settle.PutLaws.{put-inside-laws, put-option-laws}
 use Rattle.basis.proofs.Kit.{needs}
-use Rattle.basis.specs.Kit.{ℕ, ◌+◌, ◌-◌, ◌*◌, ◌<◌}
+use Rattle.std.specs.Prelude.{ℕ, ◌+◌, ◌-◌, ◌*◌, ◌<◌}
 use borrow.Fn.Kinds.{In}
 use borrow.Fn.PlainCycle.{Measures, is, falls, and}
 use Rattle.options.proofs.named.+put_inside_put_option.{statement}

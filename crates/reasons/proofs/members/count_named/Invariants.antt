@@ -1,7 +1,7 @@
 -- `reasons::members::count_named` meets its contract, by its loop's invariant and laws.
 -- Assumes nothing.
 use Rattle.reasons.proofs.MemberLaws.{count-named-laws}
-use Rattle.basis.specs.Kit.{◌-◌}
+use Rattle.std.specs.Prelude.{◌-◌}
 use Rattle.basis.specs.Count.{count}
 use Rattle.basis.proofs.Kit.{rules}
 use Rattle.field.specs.Leaf.{is_text}

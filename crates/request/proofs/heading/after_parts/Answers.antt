@@ -1,6 +1,6 @@
 -- `request::heading::after_parts` meets its contract.
 -- Assumes nothing.
-use Rattle.basis.specs.Kit.{◌-◌}
+use Rattle.std.specs.Prelude.{◌-◌}
 use Rattle.field.specs.Walk.{walk}
 use Rattle.field.proofs.Rest.{Rest}
 use Rattle.request.specs.Name.{after_parts}

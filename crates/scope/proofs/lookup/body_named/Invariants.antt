@@ -1,6 +1,6 @@
 -- `scope::lookup::body_named` meets its contract.
 -- Assumes nothing.
-use Rattle.basis.specs.Kit.{◌-◌}
+use Rattle.std.specs.Prelude.{◌-◌}
 use Rattle.field.specs.declared.Leaf.TheVariants.{Not}
 use Rattle.scope.specs.inner.Steps.{tells_leaf, first_of, body_at}
 use Rattle.field.proofs.Seek.{Seeking}

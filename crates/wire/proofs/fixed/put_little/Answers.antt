@@ -1,6 +1,6 @@
 -- `wire::fixed::put_little` meets its contract, by its loop's invariant and laws.
 -- Assumes nothing.
-use Rattle.basis.specs.Kit.{◌-◌}
+use Rattle.std.specs.Prelude.{◌-◌}
 use Rattle.basis.proofs.Kit.{rules}
 use Rattle.wire.proofs.FixedLoops.{Filling, filling-laws}
 use Rattle.wire.proofs.fixed.put_little.Goals as goal
