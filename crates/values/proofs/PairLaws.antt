@@ -241,6 +241,7 @@ module _ (L : Lookups) (s r : List ℕ) (c : LookupScope) (d from to : ℕ) wher
       x.constant.to
 
   pairless-none : (w : Walk) → Pairless w → pairs_of L s r c d w ≡ made nil
+  pairless-none done x' = elim x' [ ]
   pairless-none cut broken = refl
   pairless-none (step t a e done) alone = refl
   pairless-none (step t a e cut) cut_short = refl

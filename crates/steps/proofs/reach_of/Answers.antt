@@ -12,3 +12,9 @@ led-requires c = search reach-laws
 
 pub returns : goal.returns
 returns c = search reach-laws
+
+pub step_of-step-requires-clause-lies_2 : goal.step_of-step-requires-clause-lies_2
+step_of-step-requires-clause-lies_2 c = search (rules, reach-laws)
+
+pub step_of-step-requires-clause-name_value : goal.step_of-step-requires-clause-name_value
+step_of-step-requires-clause-name_value c = search (rules, reach-laws)

@@ -1,0 +1,13 @@
+-- `entries::front_at` meets its contract.
+-- Assumes nothing.
+use Rattle.entries.proofs.LiesLaws.{front-at-laws}
+use Rattle.entries.proofs.front_at.Goals as goal
+
+pub returns-in_default : goal.returns-in_default
+returns-in_default c = search front-at-laws
+
+pub returns-then-not-tag_good : goal.returns-then-not-tag_good
+returns-then-not-tag_good c = search front-at-laws
+
+pub returns : goal.returns
+returns c = search front-at-laws
