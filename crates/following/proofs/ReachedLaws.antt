@@ -101,10 +101,10 @@ module _ (joins : Declaration → Bool) where
   after-append : (b : Best) (l : ℕ) (d : Declaration) (ds : List Declaration) (t u : Tree)
       → best_after b l d ds (append t u) ≡ best_after (best_after b l d ds t) l d ds u
   after-append b l d ds end u = refl
-  after-append b l d [] (one e t) u = after-append _ l d [] t u
-  after-append b l d [] (held e i t) u = after-append _ l d [] t u
-  after-append b l d (o ∷ ds) (one e t) u = after-append _ l d (o ∷ ds) t u
-  after-append b l d (o ∷ ds) (held e i t) u = after-append _ l d (o ∷ ds) t u
+  after-append b l d [] (one e t) u = after-append (only_if (is_by d e.by) (Found (row l e)) b) l d [] t u
+  after-append b l d [] (held e i t) u = after-append (only_if (is_by d e.by) (Found (row l e)) b) l d [] t u
+  after-append b l d (o ∷ ds) (one e t) u = after-append (only_if (is_by d e.by) (kept d b) b) l d (o ∷ ds) t u
+  after-append b l d (o ∷ ds) (held e i t) u = after-append (only_if (is_by d e.by) (best_after (kept d b) (suc l) o ds i) b) l d (o ∷ ds) t u
 
   -- of the last declaration the last record
   module _ (l : ℕ) (d : Declaration) where

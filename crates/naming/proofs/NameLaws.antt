@@ -223,7 +223,8 @@ module _ (joins : Declaration → Bool) (d : Declaration) (k : ℕ) (ws ws' : Li
       → Declares joins (also d n) k ws us' r
   declares-more (declares {ds} {k = i} {n} {ws = us} {ws' = us'} c m b) e y =
       let j : i ≡ suc k = e ∙ add-one k in
-      let same : keys_at us' (suc k) ≡ keys_at ws' (suc k) = rw (j, y) at b in
+      let moved : keys_at us' (suc k) ≡ keys_at us (suc k) = rw j at b in
+      let same : keys_at us' (suc k) ≡ keys_at ws' (suc k) = moved ∙ ap (λ xs. keys_at xs (suc k)) y in
       let tail : keys_from us' (suc k) (length ds) ≡ map (key_of joins) ds = rw j at m in
       let head : key_at us' k ≡ key_of joins d = keys-last us' ws' 0 k k (omega arith) same ∙ here-noted in
       let count : n ≡ k + length (d ∷ ds) = omega arith in

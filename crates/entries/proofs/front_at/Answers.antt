@@ -1,6 +1,7 @@
 -- `entries::front_at` meets its contract.
 -- Assumes nothing.
 use Rattle.entries.proofs.LiesLaws.{front-at-laws}
+use Rattle.basis.proofs.Kit.{rules}
 use Rattle.entries.proofs.front_at.Goals as goal
 
 pub returns-in_default : goal.returns-in_default
@@ -11,3 +12,6 @@ returns-then-not-tag_good c = search front-at-laws
 
 pub returns : goal.returns
 returns c = search front-at-laws
+
+pub behind_tag-requires-clause-at_le_end : goal.behind_tag-requires-clause-at_le_end
+behind_tag-requires-clause-at_le_end c = search (rules, front-at-laws)

@@ -1,0 +1,15 @@
+-- `display::rows_over` meets its contract, by its loop's invariant and laws.
+-- Assumes nothing.
+use Rattle.std.specs.Prelude.{◌≡◌, length}
+use Rattle.display.specs.inner.Waits.{Waits, rest_of}
+use Rattle.display.proofs.WaitsLaws.{waits-laws}
+use Rattle.display.proofs.rows_over.Goals as goal
+
+pub next-event-requires : goal.next-event-requires
+next-event-requires c = search waits-laws
+
+pub loop-event-smaller : goal.loop-event-smaller
+loop-event-smaller c = search waits-laws
+
+pub loop-event-preserved : goal.loop-event-preserved
+loop-event-preserved c = search waits-laws

@@ -1,0 +1,8 @@
+-- `levels::put_level` meets its contract.
+-- Assumes nothing.
+use Rattle.levels.proofs.StackLaws.{level-written}
+use Rattle.basis.proofs.Kit.{rules}
+use Rattle.levels.proofs.put_level.Goals as goal
+
+pub returns : goal.returns
+returns c = search level-written

@@ -1,0 +1,14 @@
+-- `levels::still_open` meets its contract, by its loop's invariant and laws.
+-- Assumes nothing.
+use Rattle.levels.proofs.OpenLaws.{Closing, closing-laws}
+use Rattle.basis.proofs.Kit.{rules}
+use Rattle.levels.proofs.still_open.Goals as goal
+
+pub returns-then-at-stack : goal.returns-then-at-stack
+returns-then-at-stack c = search closing-laws
+
+pub loop-depth-preserved : goal.loop-depth-preserved
+loop-depth-preserved c = search closing-laws
+
+pub returns : goal.returns
+returns c = search closing-laws

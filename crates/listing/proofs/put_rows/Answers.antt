@@ -1,0 +1,29 @@
+-- `listing::put_rows` meets its contract, by its loop's invariant and laws.
+-- Assumes nothing.
+use Rattle.std.specs.Prelude.{◌-◌, length}
+use Rattle.basis.proofs.Kit.{rules}
+use Rattle.lookups.specs.Lookups.{walking}
+use Rattle.levels.specs.inner.Left.{left}
+use Rattle.listing.proofs.RowLaws.{Rowing, rowing-laws}
+use Rattle.listing.proofs.put_rows.Goals as goal
+
+pub loop-why-init : goal.loop-why-init
+loop-why-init c = search rowing-laws
+
+pub shape_of-out-in-End : goal.shape_of-out-in-End
+shape_of-out-in-End c = search rowing-laws
+
+pub returns-in-End : goal.returns-in-End
+returns-in-End c = search rowing-laws
+
+pub shape_of-out-in-Wrong : goal.shape_of-out-in-Wrong
+shape_of-out-in-Wrong c = search rowing-laws
+
+pub returns-in-Wrong : goal.returns-in-Wrong
+returns-in-Wrong c = search rowing-laws
+
+pub loop-why-smaller : goal.loop-why-smaller
+loop-why-smaller c = search rowing-laws
+
+pub loop-why-preserved : goal.loop-why-preserved
+loop-why-preserved c = search rowing-laws

@@ -1,0 +1,15 @@
+-- `listing::put_rows` meets its contract, by its loop's invariant and laws.
+-- Assumes nothing.
+use Rattle.std.specs.Prelude.{◌-◌, length}
+use Rattle.basis.proofs.Kit.{rules}
+use Rattle.lookups.specs.Lookups.{walking}
+use Rattle.levels.specs.inner.Left.{left}
+use Rattle.listing.proofs.RowLaws.{Rowing, rowing-laws}
+use Rattle.listing.proofs.put_rows.Given as goal
+
+abbrev pub invariant-loop-why : goal.invariant-loop-why
+invariant-loop-why l =
+    Rowing l.sheet l.options_type l.bytes (left (walking l.sheet) l.sheet l.options_type l.bytes l.initial.stack l.initial.cursor.depth l.initial.cursor.at) l.stack l.cursor l.initial.out l.out l.n
+
+abbrev pub decreases-loop-why : goal.decreases-loop-why
+decreases-loop-why l = length l.bytes - l.cursor.at
