@@ -46,7 +46,7 @@ module _ (L : Lookups) (s : List ℕ) (L' : Lookups) (s' : List ℕ) (Same : Mes
     held-told none e f t x g later first rest inside = ap₂ ◌∷◌ first rest
     held-told {l} (some d) e f t x g later first rest inside =
         let k = inside d refl in
-        rw (k.found, map-append) (ap₂ ◌∷◌ first (ap₂ ◌++◌ k.inside rest))
+        rw (k.found, map-append (content_of all)) (ap₂ ◌∷◌ first (ap₂ ◌++◌ k.inside rest))
 
     rows_told : {rs : Recs} → Proper rs → (m m' : Message) → Same m m' → (l place : ℕ) (rest : List ℕ) → Typed L' s' m' rs
         → drop place all ≡ encode rs ++ rest → map (content_of all) (rows l (seen L s m rs place)) ≡ told L s m l rs

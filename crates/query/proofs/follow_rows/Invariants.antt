@@ -1,0 +1,17 @@
+-- `query::follow_rows` meets its contract, by its loop's invariant and laws.
+-- Assumes nothing.
+use Rattle.std.specs.Prelude.{◌-◌, length}
+use Rattle.lookups.specs.Lookups.{walking}
+use Rattle.levels.specs.inner.Left.{left}
+use Rattle.query.proofs.SeenLaws.{Seeing, seeing-laws}
+use Rattle.basis.proofs.Kit.{rules}
+use Rattle.query.proofs.follow_rows.Given as goal
+
+abbrev pub invariant-loop-why : goal.invariant-loop-why
+invariant-loop-why l =
+    Seeing l.sheet l.options_type l.bytes l.keys l.count (left (walking l.sheet) l.sheet l.options_type l.bytes l.initial.stack l.initial.cursor.depth l.initial.cursor.at)
+    l.stack l.cursor l.matched l.counts l.best
+
+abbrev pub decreases-loop-why : goal.decreases-loop-why
+decreases-loop-why l =
+    length l.bytes - l.cursor.at

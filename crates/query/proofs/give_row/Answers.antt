@@ -1,0 +1,11 @@
+-- `query::give_row` meets its contract.
+-- Assumes nothing.
+use Rattle.query.proofs.CallLaws.{give-row-laws}
+use Rattle.basis.proofs.Kit.{rules}
+use Rattle.query.proofs.give_row.Goals as goal
+
+pub returns-then-out-lt8 : goal.returns-then-out-lt8
+returns-then-out-lt8 c = search give-row-laws
+
+pub returns : goal.returns
+returns c = search give-row-laws
