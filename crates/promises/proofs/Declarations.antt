@@ -59,6 +59,7 @@ pub record Steady (L : Lookups) (s : List ℕ) : Type 0 where
   pub value : (n : List ℕ) (vs : Span) (v : Value) → value_in s n vs ≡ some v → v.number < 2 ^ 32
 
 every-among : {A : Type 0} {P : A → Type 0} {x : A} {xs : List A} → Every P xs → Among x xs → P x
+every-among {A = A} {P = P} none_of x4 = elim x4 [ ]
 every-among (one_of h t) here = h
 every-among (one_of h t) (there m) = every-among t m
 

@@ -1,0 +1,20 @@
+-- `optevolve::answer_case` meets its contract.
+-- Assumes nothing.
+use Rattle.optevolve.proofs.CaseLaws.{case-laws}
+use Rattle.basis.proofs.Kit.{rules}
+use Rattle.optevolve.proofs.answer_case.Goals as goal
+
+pub slice_bounds-tell_request-count : goal.slice_bounds-tell_request-count
+slice_bounds-tell_request-count c = search case-laws
+
+pub slice_bounds-tell_request-start : goal.slice_bounds-tell_request-start
+slice_bounds-tell_request-start c = search case-laws
+
+pub slice_bounds-tell_request-end : goal.slice_bounds-tell_request-end
+slice_bounds-tell_request-end c = search case-laws
+
+pub returns-then-told : goal.returns-then-told
+returns-then-told c = search case-laws
+
+pub returns-else-told : goal.returns-else-told
+returns-else-told c = search case-laws

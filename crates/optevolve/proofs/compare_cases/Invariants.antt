@@ -1,0 +1,11 @@
+-- `optevolve::compare_cases` meets its contract, by its loop's invariant and laws.
+-- Assumes nothing.
+use Rattle.basis.proofs.Kit.{rules}
+use Rattle.std.specs.Prelude.{◌-◌, ◌≤◌, length}
+use Rattle.optevolve.proofs.compare_cases.Given as goal
+
+abbrev pub invariant-loop-at : goal.invariant-loop-at
+invariant-loop-at l = l.at ≤ length l.s
+
+abbrev pub decreases-loop-at : goal.decreases-loop-at
+decreases-loop-at l = length l.s - l.at

@@ -1,0 +1,11 @@
+-- `optlower::resolve_cases` meets its contract.
+-- Assumes nothing.
+use Rattle.std.specs.Prelude.{◌≡◌, ◌-◌, ◌≤◌, length}
+use Rattle.basis.proofs.Kit.{rules}
+use Rattle.optlower.proofs.resolve_cases.Given as goal
+
+abbrev pub invariant-loop-at : goal.invariant-loop-at
+invariant-loop-at l = (length l.out ≡ length l.initial.out) × (l.at ≤ length l.s)
+
+abbrev pub decreases-loop-at : goal.decreases-loop-at
+decreases-loop-at l = length l.s - l.at
