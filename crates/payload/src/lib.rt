@@ -1,6 +1,5 @@
 // Option bytes as an input: whether they are too long, and the call `payload`, a part of them by its place and length with the answer
-// beside it. The two stand in a struct that holds a reference, so whoever keeps one is proved by hand; `payload_part` and `payload_answer`
-// say the same and ask for no such proof.
+// beside it. `payload_part` and `payload_answer` give each of the two alone.
 #![tactic(auto)]
 
 ghost use Rattle.std.specs.Prelude.{◌≡◌};

@@ -5,7 +5,7 @@ use Rattle.reply.specs.declared.Refusal.TheVariants.{BadRequest, NoRoom, Builtin
 use Rattle.reply.specs.declared.Refusal.TheVariants.{BuiltinOptionPointsToNonSingularField}
 use Rattle.reply.specs.declared.Where.{Where}
 use Rattle.reply.specs.declared.Where.TheVariants.{Nowhere, Part, Option}
-use Rattle.reply.specs.Reply.{refused_for, refused_by, done_with, absent_answer, second, name}
+use Rattle.reply.specs.Reply.{refused_for, refused_by, done_with, absent_answer, name}
 use Rattle.reply.specs.Outcome.{Outcome, refuse, nothing, give, push, within, answer_of, left_of}
 
 -- two elements in room for one, two and three

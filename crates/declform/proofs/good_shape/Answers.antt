@@ -1,6 +1,5 @@
 -- `declform::good_shape` meets its contract.
 -- Assumes nothing.
-use Rattle.basis.proofs.Kit.{rules}
 use Rattle.declform.proofs.DeclarationLaws.{shape_is}
 use Rattle.declform.proofs.good_shape.Goals as goal
 

@@ -1,6 +1,5 @@
 -- `declform::good_type_path` meets its contract.
 -- Assumes nothing.
-use Rattle.basis.proofs.Kit.{rules}
 use Rattle.declform.proofs.DeclarationLaws.{type-path-laws}
 use Rattle.declform.proofs.good_type_path.Goals as goal
 

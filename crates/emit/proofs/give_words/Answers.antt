@@ -1,8 +1,6 @@
 -- `emit::give_words` meets its contract, by its loop's invariant and laws.
 -- Assumes nothing.
-use Rattle.std.specs.Prelude.{◌-◌, length}
-use Rattle.basis.proofs.Kit.{rules}
-use Rattle.emit.proofs.Copying.{Copying, copying-laws}
+use Rattle.emit.proofs.Copying.{copying-laws}
 use Rattle.emit.proofs.give_words.Goals as goal
 
 pub returns-then-out-words : goal.returns-then-out-words

@@ -1,8 +1,7 @@
 -- `emit::give_words` meets its contract, by its loop's invariant and laws.
 -- Assumes nothing.
 use Rattle.std.specs.Prelude.{◌-◌, length}
-use Rattle.basis.proofs.Kit.{rules}
-use Rattle.emit.proofs.Copying.{Copying, copying-laws}
+use Rattle.emit.proofs.Copying.{Copying}
 use Rattle.emit.proofs.give_words.Given as goal
 
 abbrev pub invariant-loop-i : goal.invariant-loop-i

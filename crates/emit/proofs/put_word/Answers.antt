@@ -1,6 +1,5 @@
 -- `emit::put_word` meets its contract.
 -- Assumes nothing.
-use Rattle.basis.proofs.Kit.{rules}
 use Rattle.octets.proofs.Overlay.{put-out}
 use Rattle.emit.proofs.put_word.Goals as goal
 

@@ -1,7 +1,6 @@
 -- `emit::put_words` meets its contract, by its loop's invariant and laws.
 -- Assumes nothing.
-use Rattle.emit.proofs.Filling.{Filling, filling-laws}
-use Rattle.std.specs.Prelude.{◌-◌, length}
+use Rattle.emit.proofs.Filling.{filling-laws}
 use Rattle.basis.proofs.Kit.{rules}
 use Rattle.emit.proofs.put_words.Goals as goal
 

@@ -1,8 +1,7 @@
 -- `emit::put_words` meets its contract, by its loop's invariant and laws.
 -- Assumes nothing.
-use Rattle.emit.proofs.Filling.{Filling, filling-laws}
+use Rattle.emit.proofs.Filling.{Filling}
 use Rattle.std.specs.Prelude.{◌-◌, length}
-use Rattle.basis.proofs.Kit.{rules}
 use Rattle.emit.proofs.put_words.Given as goal
 
 abbrev pub invariant-loop-i : goal.invariant-loop-i

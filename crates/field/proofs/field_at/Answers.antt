@@ -1,6 +1,5 @@
 -- `field::field_at` meets its contract.
 -- Assumes nothing.
-use Rattle.basis.proofs.Kit.{rules}
 use Rattle.field.proofs.FieldLaws.{field_laws}
 use Rattle.field.proofs.field_at.Goals as goal
 

@@ -1,10 +1,7 @@
 -- What these functions promise follows from their laws.
 -- Assumes nothing.
-use Rattle.std.specs.Prelude.{ℕ, ◌+◌, ◌-◌, ◌*◌, ◌<◌}
 use Rattle.basis.proofs.Kit.{rules}
-use Rattle.field.proofs.Rest.{Rest}
-use Rattle.messageform.specs.Form.{judge_items}
-use Rattle.messageform.proofs.MessageLaws.{item-laws, items, items-laws, message-laws}
+use Rattle.messageform.proofs.MessageLaws.{item-laws, items-laws, message-laws}
 use Rattle.messageform.proofs.+check_item_check_items_check_message.Goals as goal
 
 pub check_item-returns-then-tag-eq-MESSAGE : goal.check_item-returns-then-tag-eq-MESSAGE

@@ -1,10 +1,9 @@
 -- `messageform::check_item`, `messageform::check_items` and `messageform::check_message`, a cycle of calls, meet their contracts.
 -- Assumes nothing.
-use Rattle.std.specs.Prelude.{ℕ, ◌+◌, ◌-◌, ◌*◌, ◌<◌}
-use Rattle.basis.proofs.Kit.{rules}
+use Rattle.std.specs.Prelude.{◌+◌, ◌-◌, ◌*◌}
 use Rattle.field.proofs.Rest.{Rest}
 use Rattle.messageform.specs.Form.{judge_items}
-use Rattle.messageform.proofs.MessageLaws.{item-laws, items, items-laws, message-laws}
+use Rattle.messageform.proofs.MessageLaws.{items}
 use Rattle.messageform.proofs.+check_item_check_items_check_message.Given as goal
 
 abbrev pub decreases-check_item : goal.decreases-check_item

@@ -1,9 +1,6 @@
 -- `messageform::check_enum` meets its contract.
 -- Assumes nothing.
-use Rattle.std.specs.Prelude.{◌-◌}
-use Rattle.field.proofs.Rest.{Rest}
-use Rattle.messageform.specs.Form.{judge_enum}
-use Rattle.messageform.proofs.MessageLaws.{values, enum_laws}
+use Rattle.messageform.proofs.MessageLaws.{enum_laws}
 use Rattle.messageform.proofs.check_enum.Goals as goal
 
 pub returns-in_default : goal.returns-in_default

@@ -3,7 +3,7 @@
 use Rattle.std.specs.Prelude.{◌-◌}
 use Rattle.field.proofs.Rest.{Rest}
 use Rattle.messageform.specs.Form.{judge_enum}
-use Rattle.messageform.proofs.MessageLaws.{values, enum_laws}
+use Rattle.messageform.proofs.MessageLaws.{values}
 use Rattle.messageform.proofs.check_enum.Given as goal
 
 abbrev pub invariant-loop-at : goal.invariant-loop-at

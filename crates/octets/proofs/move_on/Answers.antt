@@ -1,7 +1,7 @@
 -- `octets::move_on` meets its contract, by its loop's invariant and laws.
 -- Assumes nothing.
 use Rattle.basis.proofs.Kit.{rules}
-use Rattle.octets.proofs.Moving.{Moving, moving-laws}
+use Rattle.octets.proofs.Moving.{moving-laws}
 use Rattle.octets.proofs.move_on.Goals as goal
 
 pub returns-then-from-to : goal.returns-then-from-to

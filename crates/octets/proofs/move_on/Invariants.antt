@@ -1,7 +1,6 @@
 -- `octets::move_on` meets its contract, by its loop's invariant and laws.
 -- Assumes nothing.
-use Rattle.basis.proofs.Kit.{rules}
-use Rattle.octets.proofs.Moving.{Moving, moving-laws}
+use Rattle.octets.proofs.Moving.{Moving}
 use Rattle.octets.proofs.move_on.Given as goal
 
 abbrev pub invariant-loop-i : goal.invariant-loop-i

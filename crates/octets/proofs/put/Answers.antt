@@ -1,6 +1,5 @@
 -- `octets::put` meets its contract.
 -- Assumes nothing.
-use Rattle.basis.proofs.Kit.{rules}
 use Rattle.octets.proofs.Overlay.{put-out}
 use Rattle.octets.proofs.put.Goals as goal
 

@@ -1,8 +1,6 @@
 -- `octets::put_all` meets its contract, by its loop's invariant and laws.
 -- Assumes nothing.
-use Rattle.std.specs.Prelude.{◌-◌}
-use Rattle.basis.proofs.Kit.{rules}
-use Rattle.octets.proofs.Halfway.{Laying, laying-laws}
+use Rattle.octets.proofs.Halfway.{laying-laws}
 use Rattle.octets.proofs.put_all.Goals as goal
 
 pub loop-i-init : goal.loop-i-init

@@ -1,8 +1,7 @@
 -- `octets::put_all` meets its contract, by its loop's invariant and laws.
 -- Assumes nothing.
 use Rattle.std.specs.Prelude.{◌-◌}
-use Rattle.basis.proofs.Kit.{rules}
-use Rattle.octets.proofs.Halfway.{Laying, laying-laws}
+use Rattle.octets.proofs.Halfway.{Laying}
 use Rattle.octets.proofs.put_all.Given as goal
 
 abbrev pub invariant-loop-i : goal.invariant-loop-i

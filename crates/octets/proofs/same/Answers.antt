@@ -1,8 +1,5 @@
 -- `octets::same` meets its contract, by its loop's invariant and laws.
 -- Assumes nothing.
-use Rattle.std.specs.Prelude.{◌-◌, length}
-use Rattle.basis.proofs.Kit.{rules}
-use Rattle.octets.proofs.Alike.{Like}
 use Rattle.octets.proofs.Alike.{same-laws}
 use Rattle.octets.proofs.same.Goals as goal
 

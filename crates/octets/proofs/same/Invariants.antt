@@ -1,9 +1,7 @@
 -- `octets::same` meets its contract, by its loop's invariant and laws.
 -- Assumes nothing.
 use Rattle.std.specs.Prelude.{◌-◌, length}
-use Rattle.basis.proofs.Kit.{rules}
 use Rattle.octets.proofs.Alike.{Like}
-use Rattle.octets.proofs.Alike.{same-laws}
 use Rattle.octets.proofs.same.Given as goal
 
 abbrev pub invariant-loop-i : goal.invariant-loop-i

@@ -1,6 +1,5 @@
 -- `octets::signed32` meets its contract.
 -- Assumes nothing.
-use Rattle.basis.proofs.Kit.{rules}
 use Rattle.octets.proofs.Signs.{sign-laws}
 use Rattle.octets.proofs.signed32.Goals as goal
 

@@ -1,6 +1,5 @@
 -- `octets::u16_at` meets its contract.
 -- Assumes nothing.
-use Rattle.std.specs.Prelude.{◌+◌}
 use Rattle.basis.proofs.Kit.{rules}
 use Rattle.octets.proofs.Big.{big-laws}
 use Rattle.octets.proofs.u16_at.Goals as goal

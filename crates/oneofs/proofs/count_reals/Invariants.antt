@@ -1,8 +1,7 @@
 -- `oneofs::count_reals` meets its contract, by its loop's invariant and laws.
 -- Assumes nothing.
 use Rattle.std.specs.Prelude.{◌-◌, length}
-use Rattle.basis.proofs.Kit.{rules}
-use Rattle.oneofs.proofs.CountingLaws.{Counting, counting-laws}
+use Rattle.oneofs.proofs.CountingLaws.{Counting}
 use Rattle.oneofs.proofs.count_reals.Given as goal
 
 abbrev pub invariant-loop-i : goal.invariant-loop-i

@@ -1,6 +1,5 @@
 -- `oneofs::lower_fields_by` meets its contract.
 -- Assumes nothing.
-use Rattle.basis.proofs.Kit.{rules}
 use Rattle.oneofs.proofs.FieldLaws.{fields-laws}
 use Rattle.oneofs.proofs.lower_fields_by.Goals as goal
 

@@ -1,9 +1,8 @@
 -- `oneofs::put_fields` meets its contract, by its loop's invariant and laws.
 -- Assumes nothing.
 -- the turn of an optional field is searched for by its own law alone: beside `numbering-plain`, which fits too, the search finds no way
-use Rattle.std.specs.Prelude.{◌-◌, length}
 use Rattle.basis.proofs.Kit.{rules}
-use Rattle.oneofs.proofs.WritingLaws.{Numbering, numbering-laws, numbering-optional}
+use Rattle.oneofs.proofs.WritingLaws.{numbering-laws, numbering-optional}
 use Rattle.oneofs.proofs.put_fields.Goals as goal
 
 pub shared_step-step-requires : goal.shared_step-step-requires

@@ -2,8 +2,7 @@
 -- Assumes nothing.
 -- the turn of an optional field is searched for by its own law alone: beside `numbering-plain`, which fits too, the search finds no way
 use Rattle.std.specs.Prelude.{◌-◌, length}
-use Rattle.basis.proofs.Kit.{rules}
-use Rattle.oneofs.proofs.WritingLaws.{Numbering, numbering-laws, numbering-optional}
+use Rattle.oneofs.proofs.WritingLaws.{Numbering}
 use Rattle.oneofs.proofs.put_fields.Given as goal
 
 abbrev pub invariant-loop-i : goal.invariant-loop-i

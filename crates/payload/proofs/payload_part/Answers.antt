@@ -1,6 +1,5 @@
 -- `payload::payload_part` meets its contract.
 -- Assumes nothing.
-use Rattle.basis.proofs.Kit.{rules}
 use Rattle.payload.proofs.PayloadLaws.{payload-laws}
 use Rattle.payload.proofs.payload_part.Goals as goal
 

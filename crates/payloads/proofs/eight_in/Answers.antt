@@ -1,7 +1,6 @@
 -- `payloads::eight_in` meets its contract.
 -- Assumes nothing.
 use Rattle.payloads.proofs.PayloadLaws.{payload-laws}
-use Rattle.basis.proofs.Kit.{rules}
 use Rattle.payloads.proofs.eight_in.Goals as goal
 
 pub returns-then-end-at-lt8 : goal.returns-then-end-at-lt8

@@ -1,6 +1,5 @@
 -- `ranges::lower_ranges` meets its contract.
 -- Assumes nothing.
-use Rattle.basis.proofs.Kit.{rules}
 use Rattle.ranges.proofs.RangeLaws.{ranges-laws}
 use Rattle.ranges.proofs.lower_ranges.Goals as goal
 

@@ -1,6 +1,5 @@
 -- `ranges::put` meets its contract.
 -- Assumes nothing.
-use Rattle.basis.proofs.Kit.{rules}
 use Rattle.octets.proofs.Overlay.{put-out}
 use Rattle.ranges.proofs.put.Goals as goal
 

@@ -1,6 +1,5 @@
 -- `ranges::put_range` meets its contract.
 -- Assumes nothing.
-use Rattle.basis.proofs.Kit.{rules}
 use Rattle.ranges.proofs.RangeLaws.{range-put}
 use Rattle.ranges.proofs.put_range.Goals as goal
 

@@ -1,8 +1,6 @@
 -- `ranges::put_ranges` meets its contract, by its loop's invariant and laws.
 -- Assumes nothing.
-use Rattle.std.specs.Prelude.{◌-◌, length}
-use Rattle.basis.proofs.Kit.{rules}
-use Rattle.ranges.proofs.RangeLaws.{Ranging, ranging-laws}
+use Rattle.ranges.proofs.RangeLaws.{ranging-laws}
 use Rattle.ranges.proofs.put_ranges.Goals as goal
 
 pub loop-i-init : goal.loop-i-init

@@ -1,8 +1,7 @@
 -- `ranges::put_ranges` meets its contract, by its loop's invariant and laws.
 -- Assumes nothing.
 use Rattle.std.specs.Prelude.{◌-◌, length}
-use Rattle.basis.proofs.Kit.{rules}
-use Rattle.ranges.proofs.RangeLaws.{Ranging, ranging-laws}
+use Rattle.ranges.proofs.RangeLaws.{Ranging}
 use Rattle.ranges.proofs.put_ranges.Given as goal
 
 abbrev pub invariant-loop-i : goal.invariant-loop-i

@@ -1,8 +1,6 @@
 -- `reply::look_up` meets its contract, by its loop's invariant and laws.
 -- Assumes nothing.
-use Rattle.std.specs.Prelude.{◌-◌, length}
-use Rattle.basis.proofs.Kit.{rules}
-use Rattle.reply.proofs.Names.{Passed, look-up-laws}
+use Rattle.reply.proofs.Names.{look-up-laws}
 use Rattle.reply.proofs.look_up.Goals as goal
 
 pub loop-at-init : goal.loop-at-init

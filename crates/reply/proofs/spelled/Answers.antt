@@ -1,8 +1,7 @@
 -- `reply::spelled` meets its contract, by its loop's invariant and laws.
 -- Assumes nothing.
-use Rattle.std.specs.Prelude.{◌-◌, length}
 use Rattle.basis.proofs.Kit.{rules}
-use Rattle.reply.proofs.Names.{Spelling, spelling-laws}
+use Rattle.reply.proofs.Names.{spelling-laws}
 use Rattle.reply.proofs.spelled.Goals as goal
 
 pub loop-i-preserved : goal.loop-i-preserved

@@ -1,5 +1,4 @@
 -- `round::f64_bits_to_f32_bits` meets its contract, by laws of `Narrowing`. Assumes nothing.
-use Rattle.basis.proofs.Kit.{rules}
 use Rattle.round.proofs.Narrowing.{narrow-laws}
 use Rattle.round.proofs.f64_bits_to_f32_bits.Goals as goal
 

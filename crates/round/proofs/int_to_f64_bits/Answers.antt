@@ -1,5 +1,4 @@
 -- `round::int_to_f64_bits` meets its contract, by laws of `Integers` over the format. Assumes nothing.
-use Rattle.basis.proofs.Kit.{rules}
 use Rattle.round.proofs.Integers.{sign-laws}
 use Rattle.round.proofs.int_to_f64_bits.Goals as goal
 

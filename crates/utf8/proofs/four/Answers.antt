@@ -1,6 +1,5 @@
 -- `utf8::four` meets its contract.
 -- Assumes nothing.
-use Rattle.basis.proofs.Kit.{rules}
 use Rattle.utf8.proofs.Lead.{four-laws}
 use Rattle.utf8.proofs.four.Goals as goal
 

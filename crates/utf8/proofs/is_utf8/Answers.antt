@@ -1,8 +1,6 @@
 -- `utf8::is_utf8` meets its contract, by its loop's invariant and laws.
 -- Assumes nothing.
-use Rattle.std.specs.Prelude.{◌-◌, length}
-use Rattle.basis.proofs.Kit.{rules}
-use Rattle.utf8.proofs.Scan.{Scanned, scan-laws}
+use Rattle.utf8.proofs.Scan.{scan-laws}
 use Rattle.utf8.proofs.is_utf8.Goals as goal
 
 pub loop-i-init : goal.loop-i-init

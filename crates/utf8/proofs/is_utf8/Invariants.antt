@@ -1,8 +1,7 @@
 -- `utf8::is_utf8` meets its contract, by its loop's invariant and laws.
 -- Assumes nothing.
 use Rattle.std.specs.Prelude.{◌-◌, length}
-use Rattle.basis.proofs.Kit.{rules}
-use Rattle.utf8.proofs.Scan.{Scanned, scan-laws}
+use Rattle.utf8.proofs.Scan.{Scanned}
 use Rattle.utf8.proofs.is_utf8.Given as goal
 
 abbrev pub invariant-loop-i : goal.invariant-loop-i

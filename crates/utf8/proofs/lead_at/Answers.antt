@@ -1,6 +1,5 @@
 -- `utf8::lead_at` meets its contract.
 -- Assumes nothing.
-use Rattle.basis.proofs.Kit.{rules}
 use Rattle.utf8.proofs.Lead.{lead-laws}
 use Rattle.utf8.proofs.lead_at.Goals as goal
 

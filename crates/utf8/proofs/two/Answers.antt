@@ -1,6 +1,5 @@
 -- `utf8::two` meets its contract.
 -- Assumes nothing.
-use Rattle.basis.proofs.Kit.{rules}
 use Rattle.utf8.proofs.Lead.{two-laws}
 use Rattle.utf8.proofs.two.Goals as goal
 

@@ -1,7 +1,6 @@
 -- `varint::put_varint` meets its contract, by its loop's invariant and laws.
 -- Assumes nothing.
-use Rattle.basis.proofs.Kit.{rules}
-use Rattle.varint.proofs.VarintLoops.{Writing, writing-laws}
+use Rattle.varint.proofs.VarintLoops.{writing-laws}
 use Rattle.varint.proofs.put_varint.Goals as goal
 
 pub loop-x-init : goal.loop-x-init

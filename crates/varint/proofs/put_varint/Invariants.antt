@@ -1,7 +1,6 @@
 -- `varint::put_varint` meets its contract, by its loop's invariant and laws.
 -- Assumes nothing.
-use Rattle.basis.proofs.Kit.{rules}
-use Rattle.varint.proofs.VarintLoops.{Writing, writing-laws}
+use Rattle.varint.proofs.VarintLoops.{Writing}
 use Rattle.varint.proofs.put_varint.Given as goal
 
 abbrev pub invariant-loop-x : goal.invariant-loop-x

@@ -1,9 +1,7 @@
 -- `varint::varint_at` meets its contract, by its loop's invariant and laws.
 -- Assumes nothing.
--- the ninth need, a product, is searched for without `needs`: its law of scaled places would take the search past its steps
-use Rattle.std.specs.Prelude.{◌-◌}
-use Rattle.basis.proofs.Kit.{rules}
-use Rattle.varint.proofs.VarintReading.{Reading, reading-laws}
+-- The product that a byte is shifted by is searched for without `rules`: with them the search passes its steps.
+use Rattle.varint.proofs.VarintReading.{reading-laws}
 use Rattle.varint.proofs.varint_at.Goals as goal
 
 pub loop-i-init : goal.loop-i-init

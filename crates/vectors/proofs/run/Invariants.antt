@@ -1,8 +1,6 @@
 -- `vectors::run` meets its contract, by its loop's invariant and laws.
 -- Assumes nothing.
 use Rattle.std.specs.Prelude.{◌-◌, ◌≤◌, length}
-use Rattle.basis.proofs.Kit.{rules}
-use Rattle.vectors.proofs.CaseLaws.{run-laws}
 use Rattle.vectors.proofs.run.Given as goal
 
 abbrev pub invariant-loop-at : goal.invariant-loop-at

@@ -1,8 +1,6 @@
 -- `candidates::protobuf_path::ancestor` meets its contract.
 -- Assumes nothing.
-use Rattle.std.specs.Prelude.{◌-◌}
-use Rattle.basis.proofs.Kit.{rules}
-use Rattle.candidates.proofs.CandidateLaws.{Climbed, climbed-laws}
+use Rattle.candidates.proofs.CandidateLaws.{climbed-laws}
 use Rattle.candidates.proofs.protobuf_path.ancestor.Goals as goal
 
 pub loop-k-init : goal.loop-k-init

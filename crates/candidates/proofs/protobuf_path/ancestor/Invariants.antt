@@ -1,8 +1,7 @@
 -- `candidates::protobuf_path::ancestor` meets its contract.
 -- Assumes nothing.
 use Rattle.std.specs.Prelude.{◌-◌}
-use Rattle.basis.proofs.Kit.{rules}
-use Rattle.candidates.proofs.CandidateLaws.{Climbed, climbed-laws}
+use Rattle.candidates.proofs.CandidateLaws.{Climbed}
 use Rattle.candidates.proofs.protobuf_path.ancestor.Given as goal
 
 abbrev pub invariant-loop-k : goal.invariant-loop-k

@@ -1,7 +1,6 @@
 -- `console::output::hex` meets its contract, by its loop's invariant and laws.
 -- Assumes nothing.
 use Rattle.std.specs.Prelude.{◌-◌, length}
-use Rattle.basis.proofs.Kit.{rules}
 use Rattle.console.proofs.output.hex.Given as goal
 
 abbrev pub invariant-loop-i : goal.invariant-loop-i

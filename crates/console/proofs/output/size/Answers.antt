@@ -1,6 +1,5 @@
 -- `console::output::size` meets its contract.
 -- Assumes nothing.
-use Rattle.basis.proofs.Kit.{rules}
 use Rattle.console.proofs.OutputLaws.{size-laws}
 use Rattle.console.proofs.output.size.Goals as goal
 

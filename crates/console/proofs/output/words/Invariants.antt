@@ -1,7 +1,6 @@
 -- `console::output::words` meets its contract, by its loop's invariant and laws.
 -- Assumes nothing.
 use Rattle.std.specs.Prelude.{◌-◌}
-use Rattle.basis.proofs.Kit.{rules}
 use Rattle.console.proofs.output.words.Given as goal
 
 abbrev pub invariant-loop-i : goal.invariant-loop-i

@@ -1,10 +1,5 @@
 -- `counts::declarations::count` meets its contract.
 -- Assumes nothing.
-use Rattle.std.specs.Prelude.{◌-◌}
-use Rattle.sheet.specs.Tree.{tree_of}
-use Rattle.counts.specs.Declarations.{files_hold}
-use Rattle.counts.specs.inner.Fields.{file_count}
-use Rattle.field.proofs.Tally.{Tally, total}
 use Rattle.counts.proofs.DeclarationLaws.{files-count-laws}
 use Rattle.counts.proofs.declarations.count.Goals as goal
 

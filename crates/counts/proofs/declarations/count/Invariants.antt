@@ -5,7 +5,6 @@ use Rattle.sheet.specs.Tree.{tree_of}
 use Rattle.counts.specs.Declarations.{files_hold}
 use Rattle.counts.specs.inner.Fields.{file_count}
 use Rattle.field.proofs.Tally.{Tally, total}
-use Rattle.counts.proofs.DeclarationLaws.{files-count-laws}
 use Rattle.counts.proofs.declarations.count.Given as goal
 
 abbrev pub invariant-loop-at : goal.invariant-loop-at

@@ -1,6 +1,5 @@
 -- `counts::declarations::count_declared` meets its contract.
 -- Assumes nothing.
-use Rattle.basis.proofs.Kit.{rules}
 use Rattle.counts.proofs.DeclarationLaws.{declared-count-laws}
 use Rattle.counts.proofs.declarations.count_declared.Goals as goal
 

@@ -1,11 +1,5 @@
 -- `counts::declarations::count_values` meets its contract.
 -- Assumes nothing.
-use Rattle.std.specs.Prelude.{◌-◌, length}
-use Rattle.basis.proofs.Kit.{rules}
-use Rattle.field.specs.Walk.{walk}
-use Rattle.sheet.specs.Tree.{values_in}
-use Rattle.field.proofs.Tally.{Tally, total}
-use Rattle.counts.specs.inner.Fields.{value_count}
 use Rattle.counts.proofs.DeclarationLaws.{values-count-laws}
 use Rattle.counts.proofs.declarations.count_values.Goals as goal
 

@@ -1,10 +1,6 @@
 -- `counts::options::count_options` meets its contract.
 -- Assumes nothing.
-use Rattle.std.specs.Prelude.{◌-◌, length}
-use Rattle.basis.proofs.Kit.{rules}
-use Rattle.request.specs.Request.{request_of}
-use Rattle.field.proofs.Tally.{Tally}
-use Rattle.counts.proofs.OptionLaws.{option_count, options-laws}
+use Rattle.counts.proofs.OptionLaws.{options-laws}
 use Rattle.counts.proofs.options.count_options.Goals as goal
 
 pub returns-in_default : goal.returns-in_default

@@ -1,10 +1,9 @@
 -- `counts::options::count_options` meets its contract.
 -- Assumes nothing.
 use Rattle.std.specs.Prelude.{◌-◌, length}
-use Rattle.basis.proofs.Kit.{rules}
 use Rattle.request.specs.Request.{request_of}
 use Rattle.field.proofs.Tally.{Tally}
-use Rattle.counts.proofs.OptionLaws.{option_count, options-laws}
+use Rattle.counts.proofs.OptionLaws.{option_count}
 use Rattle.counts.proofs.options.count_options.Given as goal
 
 abbrev pub invariant-loop-at : goal.invariant-loop-at

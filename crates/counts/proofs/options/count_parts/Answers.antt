@@ -1,10 +1,6 @@
 -- `counts::options::count_parts` meets its contract.
 -- Assumes nothing.
-use Rattle.std.specs.Prelude.{◌-◌}
-use Rattle.request.specs.Request.{request_of}
-use Rattle.counts.specs.Options.{parts_of}
-use Rattle.field.proofs.Tally.{Tally}
-use Rattle.counts.proofs.OptionLaws.{name_count, names-laws}
+use Rattle.counts.proofs.OptionLaws.{names-laws}
 use Rattle.counts.proofs.options.count_parts.Goals as goal
 
 pub returns-in_default : goal.returns-in_default

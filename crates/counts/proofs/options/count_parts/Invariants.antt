@@ -4,7 +4,7 @@ use Rattle.std.specs.Prelude.{◌-◌}
 use Rattle.request.specs.Request.{request_of}
 use Rattle.counts.specs.Options.{parts_of}
 use Rattle.field.proofs.Tally.{Tally}
-use Rattle.counts.proofs.OptionLaws.{name_count, names-laws}
+use Rattle.counts.proofs.OptionLaws.{name_count}
 use Rattle.counts.proofs.options.count_parts.Given as goal
 
 abbrev pub invariant-loop-at : goal.invariant-loop-at

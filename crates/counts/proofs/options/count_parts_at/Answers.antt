@@ -1,10 +1,6 @@
 -- `counts::options::count_parts_at` meets its contract.
 -- Assumes nothing.
-use Rattle.std.specs.Prelude.{◌-◌}
-use Rattle.basis.proofs.Kit.{rules}
-use Rattle.field.specs.Walk.{walk}
-use Rattle.field.proofs.Tally.{Tally}
-use Rattle.counts.proofs.OptionLaws.{part_count, parts_laws}
+use Rattle.counts.proofs.OptionLaws.{parts_laws}
 use Rattle.counts.proofs.options.count_parts_at.Goals as goal
 
 pub loop-at-init : goal.loop-at-init

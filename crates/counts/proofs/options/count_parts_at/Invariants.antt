@@ -1,10 +1,9 @@
 -- `counts::options::count_parts_at` meets its contract.
 -- Assumes nothing.
 use Rattle.std.specs.Prelude.{◌-◌}
-use Rattle.basis.proofs.Kit.{rules}
 use Rattle.field.specs.Walk.{walk}
 use Rattle.field.proofs.Tally.{Tally}
-use Rattle.counts.proofs.OptionLaws.{part_count, parts_laws}
+use Rattle.counts.proofs.OptionLaws.{part_count}
 use Rattle.counts.proofs.options.count_parts_at.Given as goal
 
 abbrev pub invariant-loop-at : goal.invariant-loop-at

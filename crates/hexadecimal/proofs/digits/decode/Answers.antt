@@ -1,8 +1,7 @@
 -- `hex::digits::decode` meets its contract, by its loop's invariant and laws.
 -- Assumes nothing.
-use Rattle.std.specs.Prelude.{◌-◌, length}
 use Rattle.basis.proofs.Kit.{rules}
-use Rattle.hexadecimal.proofs.SpellingLaws.{Spelling, spelling-laws}
+use Rattle.hexadecimal.proofs.SpellingLaws.{spelling-laws}
 use Rattle.hexadecimal.proofs.digits.decode.Goals as goal
 
 pub loop-i-init : goal.loop-i-init

@@ -1,6 +1,5 @@
 -- `hex::digits::glyph` meets its contract.
 -- Assumes nothing.
-use Rattle.basis.proofs.Kit.{rules}
 use Rattle.hexadecimal.proofs.GlyphLaws.{glyph-laws}
 use Rattle.hexadecimal.proofs.digits.glyph.Goals as goal
 

@@ -1,8 +1,6 @@
 -- `ident::protobuf_ident::all_word` meets its contract.
 -- Assumes nothing.
-use Rattle.std.specs.Prelude.{◌-◌, length}
-use Rattle.basis.proofs.Kit.{rules}
-use Rattle.ident.proofs.IdentLaws.{Words, words-laws}
+use Rattle.ident.proofs.IdentLaws.{words-laws}
 use Rattle.ident.proofs.protobuf_ident.all_word.Goals as goal
 
 pub returns-then-not-is_word : goal.returns-then-not-is_word

@@ -1,8 +1,7 @@
 -- `ident::protobuf_ident::all_word` meets its contract.
 -- Assumes nothing.
 use Rattle.std.specs.Prelude.{◌-◌, length}
-use Rattle.basis.proofs.Kit.{rules}
-use Rattle.ident.proofs.IdentLaws.{Words, words-laws}
+use Rattle.ident.proofs.IdentLaws.{Words}
 use Rattle.ident.proofs.protobuf_ident.all_word.Given as goal
 
 abbrev pub invariant-loop-i : goal.invariant-loop-i

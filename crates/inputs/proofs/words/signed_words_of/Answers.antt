@@ -1,12 +1,6 @@
 -- `inputs::words::signed_words_of` meets its contract, by its loop's invariant and laws.
 -- Assumes nothing.
-use Rattle.std.specs.Prelude.{ℕ, ◌-◌, ◌*◌, length}
-use Rattle.basis.proofs.Kit.{rules}
-use lib.IntN.{pos}
-use mir.Syntax.{w32}
-use mir.Val.{to_z}
-use Rattle.octets.specs.Octets.{big_at}
-use Rattle.inputs.proofs.WordLaws.{Filling, filling-laws}
+use Rattle.inputs.proofs.WordLaws.{filling-laws}
 use Rattle.inputs.proofs.words.signed_words_of.Goals as goal
 
 pub loop-i-init : goal.loop-i-init

@@ -1,9 +1,6 @@
 -- `inputs::words::words_of` meets its contract, by its loop's invariant and laws.
 -- Assumes nothing.
-use Rattle.std.specs.Prelude.{ℕ, ◌-◌, ◌*◌, length}
-use Rattle.basis.proofs.Kit.{rules}
-use Rattle.octets.specs.Octets.{big_at}
-use Rattle.inputs.proofs.WordLaws.{Filling, filling-laws}
+use Rattle.inputs.proofs.WordLaws.{filling-laws}
 use Rattle.inputs.proofs.words.words_of.Goals as goal
 
 pub loop-i-preserved : goal.loop-i-preserved

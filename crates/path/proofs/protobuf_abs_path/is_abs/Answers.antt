@@ -1,6 +1,5 @@
 -- `path::protobuf_abs_path::is_abs` meets its contract.
 -- Assumes nothing.
-use Rattle.basis.proofs.Kit.{rules}
 use Rattle.path.proofs.AbsLaws.{abs-laws}
 use Rattle.path.proofs.protobuf_abs_path.is_abs.Goals as goal
 

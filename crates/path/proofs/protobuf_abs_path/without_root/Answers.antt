@@ -1,6 +1,5 @@
 -- `path::protobuf_abs_path::without_root` meets its contract.
 -- Assumes nothing.
-use Rattle.basis.proofs.Kit.{rules}
 use Rattle.path.proofs.AbsLaws.{abs-laws}
 use Rattle.path.proofs.protobuf_abs_path.without_root.Goals as goal
 

@@ -1,6 +1,5 @@
 -- `path::protobuf_path::is_path` meets its contract.
 -- Assumes nothing.
-use Rattle.basis.proofs.Kit.{rules}
 use Rattle.path.proofs.FormLaws.{form-laws}
 use Rattle.path.proofs.protobuf_path.is_path.Goals as goal
 

@@ -1,8 +1,6 @@
 -- `path::protobuf_rel_path::all_ident` meets its contract.
 -- Assumes nothing.
-use Rattle.std.specs.Prelude.{◌-◌, length}
-use Rattle.basis.proofs.Kit.{rules}
-use Rattle.path.proofs.Scans.{Checked, checked-laws}
+use Rattle.path.proofs.Scans.{checked-laws}
 use Rattle.path.proofs.protobuf_rel_path.all_ident.Goals as goal
 
 pub slice_bounds-is_ident-end : goal.slice_bounds-is_ident-end

@@ -1,8 +1,7 @@
 -- `path::protobuf_rel_path::all_ident` meets its contract.
 -- Assumes nothing.
 use Rattle.std.specs.Prelude.{◌-◌, length}
-use Rattle.basis.proofs.Kit.{rules}
-use Rattle.path.proofs.Scans.{Checked, checked-laws}
+use Rattle.path.proofs.Scans.{Checked}
 use Rattle.path.proofs.protobuf_rel_path.all_ident.Given as goal
 
 abbrev pub invariant-loop-from : goal.invariant-loop-from

@@ -1,6 +1,5 @@
 -- `path::protobuf_rel_path::before` meets its contract.
 -- Assumes nothing.
-use Rattle.basis.proofs.Kit.{rules}
 use Rattle.path.proofs.Scans.{before-laws}
 use Rattle.path.proofs.protobuf_rel_path.before.Goals as goal
 

@@ -1,8 +1,6 @@
 -- `path::protobuf_rel_path::component_end` meets its contract.
 -- Assumes nothing.
-use Rattle.std.specs.Prelude.{◌-◌, length}
-use Rattle.basis.proofs.Kit.{rules}
-use Rattle.path.proofs.Scans.{Ending, ending-laws}
+use Rattle.path.proofs.Scans.{ending-laws}
 use Rattle.path.proofs.protobuf_rel_path.component_end.Goals as goal
 
 pub returns-then-s-i-eq46 : goal.returns-then-s-i-eq46

@@ -1,8 +1,7 @@
 -- `path::protobuf_rel_path::component_end` meets its contract.
 -- Assumes nothing.
 use Rattle.std.specs.Prelude.{◌-◌, length}
-use Rattle.basis.proofs.Kit.{rules}
-use Rattle.path.proofs.Scans.{Ending, ending-laws}
+use Rattle.path.proofs.Scans.{Ending}
 use Rattle.path.proofs.protobuf_rel_path.component_end.Given as goal
 
 abbrev pub invariant-loop-i : goal.invariant-loop-i

@@ -1,8 +1,6 @@
 -- `path::protobuf_rel_path::count` meets its contract.
 -- Assumes nothing.
-use Rattle.std.specs.Prelude.{◌-◌, length}
-use Rattle.basis.proofs.Kit.{rules}
-use Rattle.path.proofs.Scans.{Counted, counted-laws}
+use Rattle.path.proofs.Scans.{counted-laws}
 use Rattle.path.proofs.protobuf_rel_path.count.Goals as goal
 
 pub returns-then-s-eq0 : goal.returns-then-s-eq0

@@ -1,8 +1,7 @@
 -- `path::protobuf_rel_path::count` meets its contract.
 -- Assumes nothing.
 use Rattle.std.specs.Prelude.{◌-◌, length}
-use Rattle.basis.proofs.Kit.{rules}
-use Rattle.path.proofs.Scans.{Counted, counted-laws}
+use Rattle.path.proofs.Scans.{Counted}
 use Rattle.path.proofs.protobuf_rel_path.count.Given as goal
 
 abbrev pub invariant-loop-n : goal.invariant-loop-n

@@ -1,6 +1,5 @@
 -- `path::protobuf_rel_path::is_rel_path` meets its contract.
 -- Assumes nothing.
-use Rattle.basis.proofs.Kit.{rules}
 use Rattle.path.proofs.FormLaws.{form-laws}
 use Rattle.path.proofs.protobuf_rel_path.is_rel_path.Goals as goal
 

@@ -1,6 +1,5 @@
 -- `path::protobuf_rel_path::join` meets its contract.
 -- Assumes nothing.
-use Rattle.basis.proofs.Kit.{rules}
 use Rattle.path.proofs.JoinLaws.{join-laws}
 use Rattle.path.proofs.JoinLaws.{join-laws}
 use Rattle.path.proofs.protobuf_rel_path.join.Goals as goal

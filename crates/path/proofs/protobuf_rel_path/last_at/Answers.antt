@@ -1,7 +1,6 @@
 -- `path::protobuf_rel_path::last_at` meets its contract.
 -- Assumes nothing.
-use Rattle.basis.proofs.Kit.{rules}
-use Rattle.path.proofs.Scans.{Tail, tail-laws}
+use Rattle.path.proofs.Scans.{tail-laws}
 use Rattle.path.proofs.protobuf_rel_path.last_at.Goals as goal
 
 pub loop-i-init : goal.loop-i-init

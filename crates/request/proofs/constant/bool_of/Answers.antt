@@ -1,6 +1,5 @@
 -- `request::constant::bool_of` meets its contract.
 -- Assumes nothing.
-use Rattle.basis.proofs.Kit.{rules}
 use Rattle.request.proofs.ConstantLaws.{bool-laws}
 use Rattle.request.proofs.constant.bool_of.Goals as goal
 

@@ -1,6 +1,5 @@
 -- `request::constant::integer_of` meets its contract.
 -- Assumes nothing.
-use Rattle.basis.proofs.Kit.{rules}
 use Rattle.request.proofs.ConstantLaws.{signed-laws}
 use Rattle.request.proofs.constant.integer_of.Goals as goal
 

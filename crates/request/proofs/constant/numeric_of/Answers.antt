@@ -1,6 +1,5 @@
 -- `request::constant::numeric_of` meets its contract.
 -- Assumes nothing.
-use Rattle.basis.proofs.Kit.{rules}
 use Rattle.request.proofs.ConstantLaws.{number-laws}
 use Rattle.request.proofs.constant.numeric_of.Goals as goal
 

@@ -1,9 +1,5 @@
 -- `request::heading::after_parts` meets its contract.
 -- Assumes nothing.
-use Rattle.std.specs.Prelude.{◌-◌}
-use Rattle.field.specs.Walk.{walk}
-use Rattle.field.proofs.Rest.{Rest}
-use Rattle.request.specs.Name.{after_parts}
 use Rattle.request.proofs.RequestLaws.{after-laws}
 use Rattle.request.proofs.heading.after_parts.Goals as goal
 

@@ -4,7 +4,6 @@ use Rattle.std.specs.Prelude.{◌-◌}
 use Rattle.field.specs.Walk.{walk}
 use Rattle.field.proofs.Rest.{Rest}
 use Rattle.request.specs.Name.{after_parts}
-use Rattle.request.proofs.RequestLaws.{after-laws}
 use Rattle.request.proofs.heading.after_parts.Given as goal
 
 abbrev pub invariant-loop-at : goal.invariant-loop-at

@@ -1,9 +1,5 @@
 -- `scope::lookup::body_named` meets its contract.
 -- Assumes nothing.
-use Rattle.std.specs.Prelude.{◌-◌}
-use Rattle.field.specs.declared.Leaf.TheVariants.{Not}
-use Rattle.scope.specs.inner.Steps.{tells_leaf, first_of, body_at}
-use Rattle.field.proofs.Seek.{Seeking}
 use Rattle.scope.proofs.LookupLaws.{body-named-laws}
 use Rattle.scope.proofs.lookup.body_named.Goals as goal
 

@@ -4,7 +4,6 @@ use Rattle.std.specs.Prelude.{◌-◌}
 use Rattle.field.specs.declared.Leaf.TheVariants.{Not}
 use Rattle.scope.specs.inner.Steps.{tells_leaf, first_of, body_at}
 use Rattle.field.proofs.Seek.{Seeking}
-use Rattle.scope.proofs.LookupLaws.{body-named-laws}
 use Rattle.scope.proofs.lookup.body_named.Given as goal
 
 abbrev pub invariant-loop-at : goal.invariant-loop-at

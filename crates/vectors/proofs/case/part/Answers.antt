@@ -1,6 +1,5 @@
 -- `vectors::case::part` meets its contract, by its loop's invariant and laws.
 -- Assumes nothing.
-use Rattle.std.specs.Prelude.{◌-◌, ◌≤◌, length}
 use Rattle.basis.proofs.Kit.{rules}
 use Rattle.vectors.proofs.CaseLaws.{case-laws}
 use Rattle.vectors.proofs.case.part.Goals as goal

@@ -1,8 +1,6 @@
 -- `vectors::case::part` meets its contract, by its loop's invariant and laws.
 -- Assumes nothing.
 use Rattle.std.specs.Prelude.{◌-◌, ◌≤◌, length}
-use Rattle.basis.proofs.Kit.{rules}
-use Rattle.vectors.proofs.CaseLaws.{case-laws}
 use Rattle.vectors.proofs.case.part.Given as goal
 
 abbrev pub invariant-loop-at : goal.invariant-loop-at

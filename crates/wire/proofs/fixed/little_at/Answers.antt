@@ -1,7 +1,6 @@
 -- `wire::fixed::little_at` meets its contract, by its loop's invariant and laws.
 -- Assumes nothing.
-use Rattle.basis.proofs.Kit.{rules}
-use Rattle.wire.proofs.FixedLoops.{Summing, summing-laws}
+use Rattle.wire.proofs.FixedLoops.{summing-laws}
 use Rattle.wire.proofs.fixed.little_at.Goals as goal
 
 pub loop-i-init : goal.loop-i-init

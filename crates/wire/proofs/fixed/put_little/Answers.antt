@@ -1,8 +1,6 @@
 -- `wire::fixed::put_little` meets its contract, by its loop's invariant and laws.
 -- Assumes nothing.
-use Rattle.std.specs.Prelude.{◌-◌}
-use Rattle.basis.proofs.Kit.{rules}
-use Rattle.wire.proofs.FixedLoops.{Filling, filling-laws}
+use Rattle.wire.proofs.FixedLoops.{filling-laws}
 use Rattle.wire.proofs.fixed.put_little.Goals as goal
 
 pub loop-i-init : goal.loop-i-init

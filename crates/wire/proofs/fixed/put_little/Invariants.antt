@@ -1,8 +1,7 @@
 -- `wire::fixed::put_little` meets its contract, by its loop's invariant and laws.
 -- Assumes nothing.
 use Rattle.std.specs.Prelude.{◌-◌}
-use Rattle.basis.proofs.Kit.{rules}
-use Rattle.wire.proofs.FixedLoops.{Filling, filling-laws}
+use Rattle.wire.proofs.FixedLoops.{Filling}
 use Rattle.wire.proofs.fixed.put_little.Given as goal
 
 abbrev pub invariant-loop-i : goal.invariant-loop-i

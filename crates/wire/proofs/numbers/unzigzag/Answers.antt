@@ -1,6 +1,5 @@
 -- `wire::numbers::unzigzag` meets its contract.
 -- Assumes nothing.
-use Rattle.basis.proofs.Kit.{rules}
 use Rattle.wire.proofs.NumberLaws.{number-laws}
 use Rattle.wire.proofs.numbers.unzigzag.Goals as goal
 

@@ -1,6 +1,5 @@
 -- `wire::numbers::zigzag` meets its contract.
 -- Assumes nothing.
-use Rattle.basis.proofs.Kit.{rules}
 use Rattle.wire.proofs.NumberLaws.{number-laws}
 use Rattle.wire.proofs.numbers.zigzag.Goals as goal
 
