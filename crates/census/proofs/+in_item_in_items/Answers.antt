@@ -1,12 +1,7 @@
 -- What these functions promise follows from their laws.
 -- Assumes nothing.
-use Rattle.std.specs.Prelude.{ℕ, ◌+◌, ◌-◌, ◌*◌, ◌<◌}
 use Rattle.basis.proofs.Kit.{rules}
-use Rattle.field.specs.Walk.{walk}
-use Rattle.field.proofs.Tally.{Tally, total}
-use Rattle.sheet.specs.Tree.{items_in}
-use Rattle.census.specs.inner.Census.{items_asked}
-use Rattle.census.proofs.ItemLaws.{item_asked, in-item-laws, in-items-laws}
+use Rattle.census.proofs.ItemLaws.{in-item-laws, in-items-laws}
 use Rattle.census.proofs.+in_item_in_items.Goals as goal
 
 pub in_item-returns-then-not-tag-left : goal.in_item-returns-then-not-tag-left

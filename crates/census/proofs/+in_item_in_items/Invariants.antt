@@ -1,12 +1,11 @@
 -- `census::in_item` and `census::in_items` meet their contracts. Each call is nearer to the last level.
 -- Assumes nothing.
-use Rattle.std.specs.Prelude.{ℕ, ◌+◌, ◌-◌, ◌*◌, ◌<◌}
-use Rattle.basis.proofs.Kit.{rules}
+use Rattle.std.specs.Prelude.{◌+◌, ◌-◌, ◌*◌}
 use Rattle.field.specs.Walk.{walk}
 use Rattle.field.proofs.Tally.{Tally, total}
 use Rattle.sheet.specs.Tree.{items_in}
 use Rattle.census.specs.inner.Census.{items_asked}
-use Rattle.census.proofs.ItemLaws.{item_asked, in-item-laws, in-items-laws}
+use Rattle.census.proofs.ItemLaws.{item_asked}
 use Rattle.census.proofs.+in_item_in_items.Given as goal
 
 abbrev pub decreases-in_item : goal.decreases-in_item

@@ -1,7 +1,6 @@
 -- `census::file_way` meets its contract.
 -- Assumes nothing.
 use Rattle.census.proofs.OnwardLaws.{file-way-laws}
-use Rattle.basis.proofs.Kit.{rules}
 use Rattle.census.proofs.file_way.Goals as goal
 
 pub returns-then-name-eq0 : goal.returns-then-name-eq0

@@ -1,6 +1,6 @@
 -- `census::in_files` meets its contract, by its loop's invariant and laws.
 -- Assumes nothing.
-use Rattle.census.proofs.ItemLaws.{file_asked, in-files-laws}
+use Rattle.census.proofs.ItemLaws.{file_asked}
 use Rattle.std.specs.Prelude.{◌-◌}
 use Rattle.field.proofs.Tally.{Tally, total}
 use Rattle.sheet.specs.Tree.{tree_of}

@@ -1,7 +1,6 @@
 -- `census::onward` meets its contract.
 -- Assumes nothing.
 use Rattle.census.proofs.OnwardLaws.{onward-laws}
-use Rattle.basis.proofs.Kit.{rules}
 use Rattle.census.proofs.onward.Goals as goal
 
 pub slice_bounds-same-count : goal.slice_bounds-same-count

@@ -1,12 +1,7 @@
 -- What these functions promise follows from their laws.
 -- Assumes nothing.
-use Rattle.std.specs.Prelude.{ℕ, ◌+◌, ◌-◌, ◌*◌, ◌<◌}
 use Rattle.basis.proofs.Kit.{rules}
 use Rattle.constantform.proofs.ConstantLaws.{constant-laws, element-laws, pairs-laws}
-use Rattle.reply.specs.declared.Refusal.TheVariants.{BadRequest}
-use Rattle.form.specs.Each.{each}
-use Rattle.field.proofs.Rest.{Rest}
-use Rattle.constantform.specs.Form.{judge_constant, judge_elements, judge_pairs, pairs_of}
 use Rattle.constantform.proofs.+check_constant_check_elements_check_pairs.Goals as goal
 
 pub check_constant-returns-then-tag-eq-MESSAGE_CONSTANT : goal.check_constant-returns-then-tag-eq-MESSAGE_CONSTANT

@@ -1,8 +1,6 @@
 -- `constantform::check_constant`, `constantform::check_elements` and `constantform::check_pairs` meet their contracts.
 -- Assumes nothing.
-use Rattle.std.specs.Prelude.{ℕ, ◌+◌, ◌-◌, ◌*◌, ◌<◌}
-use Rattle.basis.proofs.Kit.{rules}
-use Rattle.constantform.proofs.ConstantLaws.{constant-laws, element-laws, pairs-laws}
+use Rattle.std.specs.Prelude.{◌+◌, ◌-◌, ◌*◌}
 use Rattle.reply.specs.declared.Refusal.TheVariants.{BadRequest}
 use Rattle.form.specs.Each.{each}
 use Rattle.field.proofs.Rest.{Rest}

@@ -1,11 +1,6 @@
 -- `cursor::follow` meets its contract.
 -- Assumes nothing.
-use Rattle.std.specs.Prelude.{suc, ◌-◌, length}
-use Rattle.basis.proofs.Kit.{rules}
-use Rattle.path.specs.inner.Places.{names_from}
-use Rattle.scope.specs.Scope.{holding}
-use Rattle.scopes.specs.Scopes.{follow}
-use Rattle.cursor.proofs.ScopesLaws.{Following, follow-laws}
+use Rattle.cursor.proofs.ScopesLaws.{follow-laws}
 use Rattle.cursor.proofs.follow.Goals as goal
 
 pub slice_bounds-down-end : goal.slice_bounds-down-end

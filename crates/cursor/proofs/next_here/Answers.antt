@@ -1,9 +1,7 @@
 -- `cursor::next_here` meets its contract.
 -- Assumes nothing.
-use Rattle.std.specs.Prelude.{◌-◌}
 use Rattle.basis.proofs.Kit.{rules}
-use Rattle.cursor.specs.inner.Cursor.{here}
-use Rattle.cursor.proofs.CursorLaws.{Onward, here-laws}
+use Rattle.cursor.proofs.CursorLaws.{here-laws}
 use Rattle.cursor.proofs.next_here.Goals as goal
 
 pub returns-in_default : goal.returns-in_default

@@ -1,9 +1,8 @@
 -- `cursor::next_here` meets its contract.
 -- Assumes nothing.
 use Rattle.std.specs.Prelude.{◌-◌}
-use Rattle.basis.proofs.Kit.{rules}
 use Rattle.cursor.specs.inner.Cursor.{here}
-use Rattle.cursor.proofs.CursorLaws.{Onward, here-laws}
+use Rattle.cursor.proofs.CursorLaws.{Onward}
 use Rattle.cursor.proofs.next_here.Given as goal
 
 abbrev pub invariant-loop-at : goal.invariant-loop-at

@@ -1,9 +1,6 @@
 -- `cursor::next_scope` meets its contract.
 -- Assumes nothing.
-use Rattle.std.specs.Prelude.{suc, ◌-◌, length}
-use Rattle.basis.proofs.Kit.{rules}
-use Rattle.cursor.specs.inner.Cursor.{ahead}
-use Rattle.cursor.proofs.CursorLaws.{Onward, scopes-laws}
+use Rattle.cursor.proofs.CursorLaws.{scopes-laws}
 use Rattle.cursor.proofs.next_scope.Goals as goal
 
 pub returns-in-At : goal.returns-in-At

@@ -1,7 +1,6 @@
 -- `display::records` meets its contract, by its loop's invariant and laws.
 -- Assumes nothing.
 use Rattle.std.specs.Prelude.{◌-◌, ◌≤◌}
-use Rattle.basis.proofs.Kit.{rules}
 use Rattle.display.proofs.records.Given as goal
 
 abbrev pub invariant-loop-at : goal.invariant-loop-at

@@ -1,7 +1,5 @@
 -- `display::rows_over` meets its contract, by its loop's invariant and laws.
 -- Assumes nothing.
-use Rattle.std.specs.Prelude.{◌≡◌, length}
-use Rattle.display.specs.inner.Waits.{Waits, rest_of}
 use Rattle.display.proofs.WaitsLaws.{waits-laws}
 use Rattle.display.proofs.rows_over.Goals as goal
 

@@ -2,7 +2,6 @@
 -- Assumes nothing.
 use Rattle.std.specs.Prelude.{◌≡◌, length}
 use Rattle.display.specs.inner.Waits.{Waits, rest_of}
-use Rattle.display.proofs.WaitsLaws.{waits-laws}
 use Rattle.display.proofs.rows_over.Given as goal
 
 abbrev pub invariant-loop-event : goal.invariant-loop-event

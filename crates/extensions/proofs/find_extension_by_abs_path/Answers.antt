@@ -1,6 +1,5 @@
 -- `extensions::find_extension_by_abs_path` meets its contract.
 -- Assumes nothing.
-use Rattle.basis.proofs.Kit.{rules}
 use Rattle.extensions.proofs.ExtensionLaws.{abs-extension-laws}
 use Rattle.extensions.proofs.find_extension_by_abs_path.Goals as goal
 

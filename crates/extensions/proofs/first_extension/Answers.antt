@@ -1,9 +1,6 @@
 -- `extensions::first_extension` meets its contract.
 -- Assumes nothing.
-use Rattle.std.specs.Prelude.{length}
-use Rattle.cursor.specs.inner.Cursor.{ahead}
-use Rattle.cursor.proofs.Left.{Left}
-use Rattle.extensions.proofs.ExtensionLaws.{named_in, first-extension-laws}
+use Rattle.extensions.proofs.ExtensionLaws.{first-extension-laws}
 use Rattle.extensions.proofs.first_extension.Goals as goal
 
 pub returns-in_default : goal.returns-in_default

@@ -3,7 +3,7 @@
 use Rattle.std.specs.Prelude.{length}
 use Rattle.cursor.specs.inner.Cursor.{ahead}
 use Rattle.cursor.proofs.Left.{Left}
-use Rattle.extensions.proofs.ExtensionLaws.{named_in, first-extension-laws}
+use Rattle.extensions.proofs.ExtensionLaws.{named_in}
 use Rattle.extensions.proofs.first_extension.Given as goal
 
 abbrev pub invariant-loop-scope : goal.invariant-loop-scope

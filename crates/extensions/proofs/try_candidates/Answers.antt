@@ -1,10 +1,7 @@
 -- `extensions::try_candidates` meets its contract.
 -- Assumes nothing.
-use Rattle.std.specs.Prelude.{◌-◌}
 use Rattle.basis.proofs.Kit.{rules}
-use Rattle.candidates.specs.Candidates.{candidates}
-use Rattle.search.specs.Lookup.{tried}
-use Rattle.extensions.proofs.ExtensionLaws.{Trying, try-candidates-laws}
+use Rattle.extensions.proofs.ExtensionLaws.{try-candidates-laws}
 use Rattle.extensions.proofs.try_candidates.Goals as goal
 
 pub candidates-count-requires : goal.candidates-count-requires

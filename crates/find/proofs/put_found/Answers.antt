@@ -1,6 +1,5 @@
 -- `find::put_found` meets its contract.
 -- Assumes nothing.
-use Rattle.basis.proofs.Kit.{rules}
 use Rattle.find.proofs.FindLaws.{put-found-laws}
 use Rattle.find.proofs.put_found.Goals as goal
 

@@ -1,6 +1,5 @@
 -- `fullname::find_enum_by_abs_name` meets its contract.
 -- Assumes nothing.
-use Rattle.basis.proofs.Kit.{rules}
 use Rattle.fullname.proofs.FullNameLaws.{enum-by_name-laws}
 use Rattle.fullname.proofs.find_enum_by_abs_name.Goals as goal
 

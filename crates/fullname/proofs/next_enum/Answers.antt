@@ -1,10 +1,5 @@
 -- `fullname::next_enum` meets its contract.
 -- Assumes nothing.
-use Rattle.std.specs.Prelude.{length}
-use Rattle.basis.specs.First.{collect}
-use Rattle.cursor.specs.inner.Cursor.{ahead}
-use Rattle.fullname.specs.inner.Ahead.{kept, passing, declares_enum}
-use Rattle.cursor.proofs.Left.{Left}
 use Rattle.fullname.proofs.FullNameLaws.{next-enum-laws}
 use Rattle.fullname.proofs.next_enum.Goals as goal
 

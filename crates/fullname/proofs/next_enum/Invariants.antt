@@ -5,7 +5,6 @@ use Rattle.basis.specs.First.{collect}
 use Rattle.cursor.specs.inner.Cursor.{ahead}
 use Rattle.fullname.specs.inner.Ahead.{kept, passing, declares_enum}
 use Rattle.cursor.proofs.Left.{Left}
-use Rattle.fullname.proofs.FullNameLaws.{next-enum-laws}
 use Rattle.fullname.proofs.next_enum.Given as goal
 
 abbrev pub invariant-loop-scope : goal.invariant-loop-scope

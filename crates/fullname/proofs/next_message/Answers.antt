@@ -1,10 +1,5 @@
 -- `fullname::next_message` meets its contract.
 -- Assumes nothing.
-use Rattle.std.specs.Prelude.{length}
-use Rattle.basis.specs.First.{collect}
-use Rattle.cursor.specs.inner.Cursor.{ahead}
-use Rattle.fullname.specs.inner.Ahead.{kept, passing, is_message}
-use Rattle.cursor.proofs.Left.{Left}
 use Rattle.fullname.proofs.FullNameLaws.{next-message-laws}
 use Rattle.fullname.proofs.next_message.Goals as goal
 

@@ -5,7 +5,6 @@ use Rattle.basis.specs.First.{collect}
 use Rattle.cursor.specs.inner.Cursor.{ahead}
 use Rattle.fullname.specs.inner.Ahead.{kept, passing, is_message}
 use Rattle.cursor.proofs.Left.{Left}
-use Rattle.fullname.proofs.FullNameLaws.{next-message-laws}
 use Rattle.fullname.proofs.next_message.Given as goal
 
 abbrev pub invariant-loop-scope : goal.invariant-loop-scope

@@ -1,9 +1,5 @@
 -- `fullname::value_named` meets its contract.
 -- Assumes nothing.
-use Rattle.std.specs.Prelude.{◌-◌}
-use Rattle.sheet.specs.declared.declaration.Valued.TheVariants.{NoValue}
-use Rattle.scope.specs.inner.Steps.{tells_valued, first_of, value_named_at}
-use Rattle.field.proofs.Seek.{Seeking}
 use Rattle.fullname.proofs.ValueLaws.{value-named-laws}
 use Rattle.fullname.proofs.value_named.Goals as goal
 

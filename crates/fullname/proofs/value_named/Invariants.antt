@@ -4,7 +4,6 @@ use Rattle.std.specs.Prelude.{◌-◌}
 use Rattle.sheet.specs.declared.declaration.Valued.TheVariants.{NoValue}
 use Rattle.scope.specs.inner.Steps.{tells_valued, first_of, value_named_at}
 use Rattle.field.proofs.Seek.{Seeking}
-use Rattle.fullname.proofs.ValueLaws.{value-named-laws}
 use Rattle.fullname.proofs.value_named.Given as goal
 
 abbrev pub invariant-loop-at : goal.invariant-loop-at

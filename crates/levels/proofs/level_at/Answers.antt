@@ -1,7 +1,6 @@
 -- `levels::level_at` meets its contract.
 -- Assumes nothing.
 use Rattle.levels.proofs.StackLaws.{level-said}
-use Rattle.basis.proofs.Kit.{rules}
 use Rattle.levels.proofs.level_at.Goals as goal
 
 pub returns : goal.returns

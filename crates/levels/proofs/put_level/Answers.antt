@@ -1,7 +1,6 @@
 -- `levels::put_level` meets its contract.
 -- Assumes nothing.
 use Rattle.levels.proofs.StackLaws.{level-written}
-use Rattle.basis.proofs.Kit.{rules}
 use Rattle.levels.proofs.put_level.Goals as goal
 
 pub returns : goal.returns

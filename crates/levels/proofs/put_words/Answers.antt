@@ -1,9 +1,6 @@
 -- `levels::put_words` meets its contract, by its loop's invariant and laws.
 -- Assumes nothing.
-use Rattle.std.specs.Prelude.{◌-◌, length}
-use Rattle.octets.proofs.Halfway.{Laying}
 use Rattle.levels.proofs.StackLaws.{words-laws}
-use Rattle.basis.proofs.Kit.{rules}
 use Rattle.levels.proofs.put_words.Goals as goal
 
 pub loop-i-init : goal.loop-i-init

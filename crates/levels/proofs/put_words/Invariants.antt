@@ -2,8 +2,6 @@
 -- Assumes nothing.
 use Rattle.std.specs.Prelude.{◌-◌, length}
 use Rattle.octets.proofs.Halfway.{Laying}
-use Rattle.levels.proofs.StackLaws.{words-laws}
-use Rattle.basis.proofs.Kit.{rules}
 use Rattle.levels.proofs.put_words.Given as goal
 
 abbrev pub invariant-loop-i : goal.invariant-loop-i

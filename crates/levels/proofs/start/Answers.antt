@@ -1,7 +1,6 @@
 -- `levels::start` meets its contract.
 -- Assumes nothing.
 use Rattle.levels.proofs.StartLaws.{start-laws}
-use Rattle.basis.proofs.Kit.{rules}
 use Rattle.levels.proofs.start.Goals as goal
 
 pub returns : goal.returns

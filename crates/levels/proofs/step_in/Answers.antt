@@ -1,7 +1,6 @@
 -- `levels::step_in` meets its contract.
 -- Assumes nothing.
 use Rattle.levels.proofs.NextLaws.{step-laws}
-use Rattle.basis.proofs.Kit.{rules}
 use Rattle.levels.proofs.step_in.Goals as goal
 
 pub returns-then-depth-ge-MOST_LEVELS : goal.returns-then-depth-ge-MOST_LEVELS

@@ -1,7 +1,6 @@
 -- `levels::still_open` meets its contract, by its loop's invariant and laws.
 -- Assumes nothing.
-use Rattle.levels.proofs.OpenLaws.{Closing, closing-laws}
-use Rattle.basis.proofs.Kit.{rules}
+use Rattle.levels.proofs.OpenLaws.{closing-laws}
 use Rattle.levels.proofs.still_open.Goals as goal
 
 pub returns-then-at-stack : goal.returns-then-at-stack

@@ -1,7 +1,6 @@
 -- `levels::still_open` meets its contract, by its loop's invariant and laws.
 -- Assumes nothing.
-use Rattle.levels.proofs.OpenLaws.{Closing, closing-laws}
-use Rattle.basis.proofs.Kit.{rules}
+use Rattle.levels.proofs.OpenLaws.{Closing}
 use Rattle.levels.proofs.still_open.Given as goal
 
 abbrev pub invariant-loop-depth : goal.invariant-loop-depth

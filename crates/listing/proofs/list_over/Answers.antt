@@ -1,6 +1,5 @@
 -- `listing::list_over` meets its contract.
 -- Assumes nothing.
-use Rattle.basis.proofs.Kit.{rules}
 use Rattle.listing.proofs.CountLaws.{over-laws}
 use Rattle.listing.proofs.list_over.Goals as goal
 

@@ -1,10 +1,9 @@
 -- `listing::put_rows` meets its contract, by its loop's invariant and laws.
 -- Assumes nothing.
 use Rattle.std.specs.Prelude.{◌-◌, length}
-use Rattle.basis.proofs.Kit.{rules}
 use Rattle.lookups.specs.Lookups.{walking}
 use Rattle.levels.specs.inner.Left.{left}
-use Rattle.listing.proofs.RowLaws.{Rowing, rowing-laws}
+use Rattle.listing.proofs.RowLaws.{Rowing}
 use Rattle.listing.proofs.put_rows.Given as goal
 
 abbrev pub invariant-loop-why : goal.invariant-loop-why

@@ -1,12 +1,11 @@
 -- `named::declaration_named` meets its contract.
 -- Assumes nothing.
 use Rattle.std.specs.Prelude.{◌-◌}
-use Rattle.basis.proofs.Kit.{rules}
 use Rattle.sheet.specs.declared.declaration.Declared.TheVariants.{NoDeclaration}
 use Rattle.field.proofs.Seek.{Seeking}
 use Rattle.field.specs.Leaf.{is_text}
 use Rattle.scope.specs.inner.Steps.{tells_declared, first_of}
-use Rattle.named.proofs.NamedLaws.{declaration_where, declaration-named-laws}
+use Rattle.named.proofs.NamedLaws.{declaration_where}
 use Rattle.named.proofs.declaration_named.Given as goal
 
 abbrev pub invariant-loop-at : goal.invariant-loop-at

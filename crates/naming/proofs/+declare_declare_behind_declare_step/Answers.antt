@@ -2,7 +2,6 @@
 -- Assumes nothing.
 use Rattle.naming.proofs.NameLaws.{declare-laws, declare-behind-laws, declare-step-laws}
 use Rattle.basis.proofs.Kit.{rules}
-use Rattle.std.specs.Prelude.{ℕ, ◌+◌, ◌-◌, ◌*◌, ◌<◌, length}
 use Rattle.naming.proofs.+declare_declare_behind_declare_step.Goals as goal
 
 pub declare-returns-in_default : goal.declare-returns-in_default

@@ -1,8 +1,6 @@
 -- `naming::declare`, `naming::declare_behind` and `naming::declare_step` meet their contracts.
 -- Assumes nothing.
-use Rattle.naming.proofs.NameLaws.{declare-laws, declare-behind-laws, declare-step-laws}
-use Rattle.basis.proofs.Kit.{rules}
-use Rattle.std.specs.Prelude.{ℕ, ◌+◌, ◌-◌, ◌*◌, ◌<◌, length}
+use Rattle.std.specs.Prelude.{◌+◌, ◌-◌, ◌*◌, length}
 use Rattle.naming.proofs.+declare_declare_behind_declare_step.Given as goal
 
 abbrev pub decreases-declare : goal.decreases-declare

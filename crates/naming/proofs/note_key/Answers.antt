@@ -1,7 +1,6 @@
 -- `naming::note_key` meets its contract.
 -- Assumes nothing.
 use Rattle.naming.proofs.KeyLaws.{note-laws}
-use Rattle.basis.proofs.Kit.{rules}
 use Rattle.naming.proofs.note_key.Goals as goal
 
 pub bounds-keys-index-2 : goal.bounds-keys-index-2

@@ -1,12 +1,7 @@
 -- What these functions promise follows from their laws.
 -- Assumes nothing.
-use Rattle.std.specs.Prelude.{ℕ, ◌+◌, ◌-◌, ◌*◌, ◌<◌}
 use Rattle.basis.proofs.Kit.{rules}
-use Rattle.field.proofs.Seek.{Seeking}
-use Rattle.sheet.specs.declared.declaration.Declared.TheVariants.{NoDeclaration}
-use Rattle.scope.specs.inner.Steps.{tells_declared, first_of}
-use Rattle.numbers.specs.Number.{is_extension_of}
-use Rattle.numbers.proofs.NumberLaws.{item_where, in-item-laws, in-items-laws}
+use Rattle.numbers.proofs.NumberLaws.{in-item-laws, in-items-laws}
 use Rattle.numbers.proofs.+extension_in_item_extension_in_items.Goals as goal
 
 pub extension_in_item-returns-then-tag-ne-MESSAGE : goal.extension_in_item-returns-then-tag-ne-MESSAGE

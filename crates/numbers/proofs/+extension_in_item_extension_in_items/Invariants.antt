@@ -1,12 +1,11 @@
 -- `numbers::extension_in_item` and `numbers::extension_in_items` meet their contracts. Each call is nearer to the last level.
 -- Assumes nothing.
-use Rattle.std.specs.Prelude.{ℕ, ◌+◌, ◌-◌, ◌*◌, ◌<◌}
-use Rattle.basis.proofs.Kit.{rules}
+use Rattle.std.specs.Prelude.{◌+◌, ◌-◌, ◌*◌}
 use Rattle.field.proofs.Seek.{Seeking}
 use Rattle.sheet.specs.declared.declaration.Declared.TheVariants.{NoDeclaration}
 use Rattle.scope.specs.inner.Steps.{tells_declared, first_of}
 use Rattle.numbers.specs.Number.{is_extension_of}
-use Rattle.numbers.proofs.NumberLaws.{item_where, in-item-laws, in-items-laws}
+use Rattle.numbers.proofs.NumberLaws.{item_where}
 use Rattle.numbers.proofs.+extension_in_item_extension_in_items.Given as goal
 
 abbrev pub decreases-extension_in_item : goal.decreases-extension_in_item

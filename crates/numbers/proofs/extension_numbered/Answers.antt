@@ -1,11 +1,6 @@
 -- `numbers::extension_numbered` meets its contract.
 -- Assumes nothing.
-use Rattle.std.specs.Prelude.{◌-◌}
-use Rattle.field.proofs.Seek.{Seeking}
-use Rattle.sheet.specs.declared.declaration.Declared.TheVariants.{NoDeclaration}
-use Rattle.numbers.specs.Number.{is_extension_of}
-use Rattle.scope.specs.inner.Steps.{tells_declared, first_of}
-use Rattle.numbers.proofs.NumberLaws.{file_where, extension-numbered-laws}
+use Rattle.numbers.proofs.NumberLaws.{extension-numbered-laws}
 use Rattle.numbers.proofs.extension_numbered.Goals as goal
 
 pub loop-at-init : goal.loop-at-init

@@ -5,7 +5,7 @@ use Rattle.field.proofs.Seek.{Seeking}
 use Rattle.sheet.specs.declared.declaration.Declared.TheVariants.{NoDeclaration}
 use Rattle.numbers.specs.Number.{is_extension_of}
 use Rattle.scope.specs.inner.Steps.{tells_declared, first_of}
-use Rattle.numbers.proofs.NumberLaws.{file_where, extension-numbered-laws}
+use Rattle.numbers.proofs.NumberLaws.{file_where}
 use Rattle.numbers.proofs.extension_numbered.Given as goal
 
 abbrev pub invariant-loop-at : goal.invariant-loop-at

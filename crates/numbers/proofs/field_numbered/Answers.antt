@@ -1,12 +1,5 @@
 -- `numbers::field_numbered` meets its contract.
 -- Assumes nothing.
-use Rattle.std.specs.Prelude.{◌-◌}
-use Rattle.sheet.specs.Table.{field_tag}
-use Rattle.field.proofs.Seek.{Seeking}
-use Rattle.sheet.specs.declared.declaration.Declared.TheVariants.{NoDeclaration}
-use Rattle.numbers.specs.Number.{has_number}
-use Rattle.scope.specs.inner.Steps.{tells_declared, first_of}
-use Rattle.named.proofs.NamedLaws.{declaration_where}
 use Rattle.numbers.proofs.NumberLaws.{field-numbered-laws}
 use Rattle.numbers.proofs.field_numbered.Goals as goal
 

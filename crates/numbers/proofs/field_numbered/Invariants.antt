@@ -7,7 +7,6 @@ use Rattle.sheet.specs.declared.declaration.Declared.TheVariants.{NoDeclaration}
 use Rattle.numbers.specs.Number.{has_number}
 use Rattle.scope.specs.inner.Steps.{tells_declared, first_of}
 use Rattle.named.proofs.NamedLaws.{declaration_where}
-use Rattle.numbers.proofs.NumberLaws.{field-numbered-laws}
 use Rattle.numbers.proofs.field_numbered.Given as goal
 
 abbrev pub invariant-loop-at : goal.invariant-loop-at

@@ -1,6 +1,5 @@
 -- `numbers::may_hold` meets its contract.
 -- Assumes nothing.
-use Rattle.basis.proofs.Kit.{rules}
 use Rattle.numbers.proofs.NumberLaws.{may-hold-laws}
 use Rattle.numbers.proofs.may_hold.Goals as goal
 

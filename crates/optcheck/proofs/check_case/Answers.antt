@@ -1,6 +1,5 @@
 -- `optcheck::check_case` meets its contract.
 -- Assumes nothing.
-use Rattle.basis.proofs.Kit.{rules}
 use Rattle.optcheck.proofs.CaseLaws.{case-laws}
 use Rattle.optcheck.proofs.check_case.Goals as goal
 

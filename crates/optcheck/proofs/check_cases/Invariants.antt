@@ -1,7 +1,6 @@
 -- `optcheck::check_cases` meets its contract.
 -- Assumes nothing.
 use Rattle.std.specs.Prelude.{◌-◌, ◌≤◌, length}
-use Rattle.basis.proofs.Kit.{rules}
 use Rattle.optcheck.proofs.check_cases.Given as goal
 
 abbrev pub invariant-loop-at : goal.invariant-loop-at

@@ -1,7 +1,6 @@
 -- `optevolve::answer_case` meets its contract.
 -- Assumes nothing.
 use Rattle.optevolve.proofs.CaseLaws.{case-laws}
-use Rattle.basis.proofs.Kit.{rules}
 use Rattle.optevolve.proofs.answer_case.Goals as goal
 
 pub slice_bounds-tell_request-count : goal.slice_bounds-tell_request-count

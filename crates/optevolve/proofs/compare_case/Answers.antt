@@ -1,7 +1,6 @@
 -- `optevolve::compare_case` meets its contract.
 -- Assumes nothing.
 use Rattle.optevolve.proofs.CaseLaws.{case-laws}
-use Rattle.basis.proofs.Kit.{rules}
 use Rattle.optevolve.proofs.compare_case.Goals as goal
 
 pub field_of-requires-2 : goal.field_of-requires-2

@@ -1,6 +1,5 @@
 -- `optevolve::compare_cases` meets its contract, by its loop's invariant and laws.
 -- Assumes nothing.
-use Rattle.basis.proofs.Kit.{rules}
 use Rattle.std.specs.Prelude.{◌-◌, ◌≤◌, length}
 use Rattle.optevolve.proofs.compare_cases.Given as goal
 

@@ -1,7 +1,6 @@
 -- `optfind::find_case` meets its contract.
 -- Assumes nothing.
 use Rattle.optfind.proofs.CaseLaws.{case-laws}
-use Rattle.basis.proofs.Kit.{rules}
 use Rattle.optfind.proofs.find_case.Goals as goal
 
 pub field_of-requires-2 : goal.field_of-requires-2

@@ -1,11 +1,9 @@
 -- `optionform::check_parts` meets its contract.
 -- Assumes nothing.
 use Rattle.std.specs.Prelude.{◌-◌}
-use Rattle.basis.proofs.Kit.{rules}
 use Rattle.field.specs.Walk.{walk}
 use Rattle.field.proofs.Rest.{Rest}
 use Rattle.optionform.specs.Form.{parts_from}
-use Rattle.optionform.proofs.OptionLaws.{parts_laws}
 use Rattle.optionform.proofs.check_parts.Given as goal
 
 abbrev pub invariant-loop-at : goal.invariant-loop-at

@@ -1,7 +1,6 @@
 -- `optlist::list_case` meets its contract.
 -- Assumes nothing.
 use Rattle.optlist.proofs.CaseLaws.{case-laws}
-use Rattle.basis.proofs.Kit.{rules}
 use Rattle.optlist.proofs.list_case.Goals as goal
 
 pub field_of-requires-2 : goal.field_of-requires-2

@@ -1,7 +1,6 @@
 -- `optlist::list_cases` meets its contract, by its loop's invariant and laws.
 -- Assumes nothing.
 use Rattle.std.specs.Prelude.{◌≡◌, ◌-◌, ◌≤◌, length}
-use Rattle.basis.proofs.Kit.{rules}
 use Rattle.optlist.proofs.list_cases.Given as goal
 
 abbrev pub invariant-loop-at : goal.invariant-loop-at

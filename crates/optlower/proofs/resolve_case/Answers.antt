@@ -1,6 +1,5 @@
 -- `optlower::resolve_case` meets its contract.
 -- Assumes nothing.
-use Rattle.basis.proofs.Kit.{rules}
 use Rattle.optlower.proofs.CaseLaws.{case-laws}
 use Rattle.optlower.proofs.resolve_case.Goals as goal
 

@@ -1,6 +1,5 @@
 -- `optoneofs::lower_words` meets its contract.
 -- Assumes nothing.
-use Rattle.basis.proofs.Kit.{rules}
 use Rattle.console.proofs.InputLaws.{input-laws}
 use Rattle.optoneofs.proofs.lower_words.Goals as goal
 

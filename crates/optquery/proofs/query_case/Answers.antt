@@ -1,7 +1,6 @@
 -- `optquery::query_case` meets its contract.
 -- Assumes nothing.
 use Rattle.optquery.proofs.CaseLaws.{case-laws}
-use Rattle.basis.proofs.Kit.{rules}
 use Rattle.optquery.proofs.query_case.Goals as goal
 
 pub field_of-requires-2 : goal.field_of-requires-2

@@ -1,6 +1,5 @@
 -- `optranges::lower_case` meets its contract.
 -- Assumes nothing.
-use Rattle.basis.proofs.Kit.{rules}
 use Rattle.console.proofs.InputLaws.{input-laws}
 use Rattle.optranges.proofs.lower_case.Goals as goal
 

@@ -1,10 +1,6 @@
 -- `query::follow_rows` meets its contract, by its loop's invariant and laws.
 -- Assumes nothing.
-use Rattle.std.specs.Prelude.{◌-◌, length}
-use Rattle.lookups.specs.Lookups.{walking}
-use Rattle.levels.specs.inner.Left.{left}
-use Rattle.query.proofs.SeenLaws.{Seeing, seeing-laws}
-use Rattle.basis.proofs.Kit.{rules}
+use Rattle.query.proofs.SeenLaws.{seeing-laws}
 use Rattle.query.proofs.follow_rows.Goals as goal
 
 pub returns-then-counts : goal.returns-then-counts

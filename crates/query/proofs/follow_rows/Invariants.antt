@@ -3,8 +3,7 @@
 use Rattle.std.specs.Prelude.{◌-◌, length}
 use Rattle.lookups.specs.Lookups.{walking}
 use Rattle.levels.specs.inner.Left.{left}
-use Rattle.query.proofs.SeenLaws.{Seeing, seeing-laws}
-use Rattle.basis.proofs.Kit.{rules}
+use Rattle.query.proofs.SeenLaws.{Seeing}
 use Rattle.query.proofs.follow_rows.Given as goal
 
 abbrev pub invariant-loop-why : goal.invariant-loop-why

@@ -1,7 +1,6 @@
 -- `query::give_row` meets its contract.
 -- Assumes nothing.
 use Rattle.query.proofs.CallLaws.{give-row-laws}
-use Rattle.basis.proofs.Kit.{rules}
 use Rattle.query.proofs.give_row.Goals as goal
 
 pub returns-then-out-lt8 : goal.returns-then-out-lt8

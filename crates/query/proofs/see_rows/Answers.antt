@@ -1,7 +1,6 @@
 -- `query::see_rows` meets its contract.
 -- Assumes nothing.
 use Rattle.query.proofs.SeenLaws.{see-rows-laws}
-use Rattle.basis.proofs.Kit.{rules}
 use Rattle.query.proofs.see_rows.Goals as goal
 
 pub follow_rows-requires : goal.follow_rows-requires

@@ -1,6 +1,5 @@
 -- `records::enclose` meets its contract.
 -- Assumes nothing.
-use Rattle.basis.proofs.Kit.{rules}
 use Rattle.records.proofs.EnclosedLaws.{enclosed}
 use Rattle.records.proofs.enclose.Goals as goal
 

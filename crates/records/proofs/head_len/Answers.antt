@@ -1,6 +1,5 @@
 -- `records::head_len` meets its contract.
 -- Assumes nothing.
-use Rattle.basis.proofs.Kit.{rules}
 use Rattle.records.proofs.EnclosedLaws.{head-laws}
 use Rattle.records.proofs.head_len.Goals as goal
 

@@ -1,7 +1,6 @@
 -- `records::put_bytes` meets its contract.
 -- Assumes nothing.
 use Rattle.records.proofs.RecordLaws.{bytes_laws}
-use Rattle.basis.proofs.Kit.{rules}
 use Rattle.records.proofs.put_bytes.Goals as goal
 
 pub put_all-requires : goal.put_all-requires

@@ -1,7 +1,6 @@
 -- `records::put_head` meets its contract.
 -- Assumes nothing.
 use Rattle.records.proofs.RecordLaws.{tag-laws}
-use Rattle.basis.proofs.Kit.{rules}
 use Rattle.records.proofs.put_head.Goals as goal
 
 pub put_varint-requires : goal.put_varint-requires

@@ -1,7 +1,6 @@
 -- `records::put_number` meets its contract.
 -- Assumes nothing.
 use Rattle.records.proofs.RecordLaws.{tag-laws}
-use Rattle.basis.proofs.Kit.{rules}
 use Rattle.records.proofs.put_number.Goals as goal
 
 pub put_payload-requires : goal.put_payload-requires

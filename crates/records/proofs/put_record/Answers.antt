@@ -1,7 +1,6 @@
 -- `records::put_record` meets its contract.
 -- Assumes nothing.
 use Rattle.records.proofs.RecordLaws.{record-laws}
-use Rattle.basis.proofs.Kit.{rules}
 use Rattle.records.proofs.put_record.Goals as goal
 
 pub slice_bounds-put_bytes-count : goal.slice_bounds-put_bytes-count

@@ -1,6 +1,5 @@
 -- `records::shortest_head` meets its contract.
 -- Assumes nothing.
-use Rattle.basis.proofs.Kit.{rules}
 use Rattle.records.proofs.EnclosedLaws.{head-laws}
 use Rattle.records.proofs.shortest_head.Goals as goal
 

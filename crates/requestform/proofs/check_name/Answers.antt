@@ -1,6 +1,5 @@
 -- `requestform::check_name` meets its contract.
 -- Assumes nothing.
-use Rattle.basis.proofs.Kit.{rules}
 use Rattle.requestform.proofs.RequestLaws.{name-laws}
 use Rattle.requestform.proofs.check_name.Goals as goal
 

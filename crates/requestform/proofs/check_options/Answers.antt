@@ -1,12 +1,6 @@
 -- `requestform::check_options` meets its contract.
 -- Assumes nothing.
-use Rattle.std.specs.Prelude.{◌-◌, ◌≤◌}
 use Rattle.basis.proofs.Kit.{rules}
-use Rattle.reply.specs.declared.Refusal.TheVariants.{BadRequest}
-use Rattle.form.specs.Each.{each_from}
-use Rattle.field.proofs.Rest.{Rest}
-use Rattle.optionform.specs.Form.{judge_option}
-use Rattle.requestform.specs.Form.{judge_options}
 use Rattle.requestform.proofs.RequestLaws.{options-laws}
 use Rattle.requestform.proofs.check_options.Goals as goal
 

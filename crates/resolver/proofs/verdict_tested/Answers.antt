@@ -1,7 +1,6 @@
 -- `resolver::verdict_tested` meets its contract.
 -- Assumes nothing.
 use Rattle.resolver.proofs.CallLaws.{verdict-tested-laws}
-use Rattle.basis.proofs.Kit.{rules}
 use Rattle.resolver.proofs.verdict_tested.Goals as goal
 
 pub returns : goal.returns

@@ -1,9 +1,7 @@
 -- What these functions promise follows from their laws.
 -- Assumes nothing.
-use Rattle.std.specs.Prelude.{ℕ, ◌+◌, ◌-◌, ◌*◌, ◌<◌, take}
 use Rattle.field.proofs.LeafLaws.{leaf-inside}
-use Rattle.roster.proofs.Finding.{Finding}
-use Rattle.roster.proofs.RosterLaws.{in_item, item-laws, items-laws, message-laws, leaf-laws}
+use Rattle.roster.proofs.RosterLaws.{item-laws, items-laws, message-laws, leaf-laws}
 use Rattle.basis.proofs.Kit.{rules}
 use Rattle.roster.proofs.+nth_in_item_nth_in_items_nth_in_message.Goals as goal
 

@@ -1,11 +1,9 @@
 -- `roster::nth_in_item`, `roster::nth_in_items` and `roster::nth_in_message` meet their contracts. Each call is nearer to
 -- the last level.
 -- Assumes nothing.
-use Rattle.std.specs.Prelude.{ℕ, ◌+◌, ◌-◌, ◌*◌, ◌<◌, take}
-use Rattle.field.proofs.LeafLaws.{leaf-inside}
+use Rattle.std.specs.Prelude.{◌+◌, ◌-◌, ◌*◌, take}
 use Rattle.roster.proofs.Finding.{Finding}
-use Rattle.roster.proofs.RosterLaws.{in_item, item-laws, items-laws, message-laws, leaf-laws}
-use Rattle.basis.proofs.Kit.{rules}
+use Rattle.roster.proofs.RosterLaws.{in_item}
 use Rattle.roster.proofs.+nth_in_item_nth_in_items_nth_in_message.Given as goal
 
 abbrev pub decreases-nth_in_item : goal.decreases-nth_in_item

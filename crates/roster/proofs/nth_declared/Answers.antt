@@ -1,9 +1,6 @@
 -- `roster::nth_declared` meets its contract, by its loop's invariant and laws.
 -- Assumes nothing.
-use Rattle.std.specs.Prelude.{◌-◌}
-use Rattle.roster.proofs.Finding.{Finding}
-use Rattle.roster.proofs.RosterLaws.{in_file, declared-laws}
-use Rattle.basis.proofs.Kit.{rules}
+use Rattle.roster.proofs.RosterLaws.{declared-laws}
 use Rattle.roster.proofs.nth_declared.Goals as goal
 
 pub loop-p-init : goal.loop-p-init

@@ -2,8 +2,7 @@
 -- Assumes nothing.
 use Rattle.std.specs.Prelude.{◌-◌}
 use Rattle.roster.proofs.Finding.{Finding}
-use Rattle.roster.proofs.RosterLaws.{in_file, declared-laws}
-use Rattle.basis.proofs.Kit.{rules}
+use Rattle.roster.proofs.RosterLaws.{in_file}
 use Rattle.roster.proofs.nth_declared.Given as goal
 
 abbrev pub invariant-loop-p : goal.invariant-loop-p

@@ -1,7 +1,6 @@
 -- `roster::nth_enum` meets its contract.
 -- Assumes nothing.
 use Rattle.roster.proofs.RosterLaws.{enum_laws}
-use Rattle.basis.proofs.Kit.{rules}
 use Rattle.roster.proofs.nth_enum.Goals as goal
 
 pub returns-in_default : goal.returns-in_default

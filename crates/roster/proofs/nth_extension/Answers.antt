@@ -1,7 +1,6 @@
 -- `roster::nth_extension` meets its contract.
 -- Assumes nothing.
 use Rattle.roster.proofs.RosterLaws.{extension-laws}
-use Rattle.basis.proofs.Kit.{rules}
 use Rattle.roster.proofs.nth_extension.Goals as goal
 
 pub returns-in_default : goal.returns-in_default

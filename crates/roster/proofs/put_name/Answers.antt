@@ -1,7 +1,6 @@
 -- `roster::put_name` meets its contract.
 -- Assumes nothing.
 use Rattle.roster.proofs.RosterLaws.{name-spelt}
-use Rattle.basis.proofs.Kit.{rules}
 use Rattle.roster.proofs.put_name.Goals as goal
 
 pub returns : goal.returns

@@ -1,6 +1,5 @@
 -- `scalars::float_on` meets its contract.
 -- Assumes nothing.
-use Rattle.basis.proofs.Kit.{rules}
 use Rattle.scalars.proofs.ScalarLaws.{float_laws}
 use Rattle.scalars.proofs.float_on.Goals as goal
 

@@ -1,7 +1,6 @@
 -- `scalars::ident_on` meets its contract.
 -- Assumes nothing.
 use Rattle.scalars.proofs.ConstantLaws.{ident-laws}
-use Rattle.basis.proofs.Kit.{rules}
 use Rattle.scalars.proofs.ident_on.Goals as goal
 
 pub returns-then-wide-ne-TYPE_ENUM : goal.returns-then-wide-ne-TYPE_ENUM

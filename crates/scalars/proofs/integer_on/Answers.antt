@@ -1,6 +1,5 @@
 -- `scalars::integer_on` meets its contract.
 -- Assumes nothing.
-use Rattle.basis.proofs.Kit.{rules}
 use Rattle.scalars.proofs.ScalarLaws.{integer-laws}
 use Rattle.scalars.proofs.integer_on.Goals as goal
 

@@ -1,6 +1,5 @@
 -- `scalars::pattern_of` meets its contract.
 -- Assumes nothing.
-use Rattle.basis.proofs.Kit.{rules}
 use Rattle.scalars.proofs.ScalarLaws.{pattern-laws}
 use Rattle.scalars.proofs.pattern_of.Goals as goal
 

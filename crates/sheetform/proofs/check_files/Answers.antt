@@ -1,10 +1,7 @@
 -- `sheetform::check_files` meets its contract.
 -- Assumes nothing.
-use Rattle.std.specs.Prelude.{◌-◌}
 use Rattle.basis.proofs.Kit.{rules}
-use Rattle.field.proofs.Rest.{Rest}
-use Rattle.sheetform.specs.Form.{judge_files}
-use Rattle.sheetform.proofs.SheetLaws.{files, files-laws}
+use Rattle.sheetform.proofs.SheetLaws.{files-laws}
 use Rattle.sheetform.proofs.check_files.Goals as goal
 
 pub loop-at-init : goal.loop-at-init

@@ -1,10 +1,9 @@
 -- `sheetform::check_files` meets its contract.
 -- Assumes nothing.
 use Rattle.std.specs.Prelude.{◌-◌}
-use Rattle.basis.proofs.Kit.{rules}
 use Rattle.field.proofs.Rest.{Rest}
 use Rattle.sheetform.specs.Form.{judge_files}
-use Rattle.sheetform.proofs.SheetLaws.{files, files-laws}
+use Rattle.sheetform.proofs.SheetLaws.{files}
 use Rattle.sheetform.proofs.check_files.Given as goal
 
 abbrev pub invariant-loop-at : goal.invariant-loop-at

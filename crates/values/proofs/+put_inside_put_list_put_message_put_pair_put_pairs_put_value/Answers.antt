@@ -1,14 +1,10 @@
 -- What these functions promise follows from their laws.
 -- Assumes nothing.
-use Rattle.std.specs.Prelude.{ℕ, ◌+◌, ◌-◌, ◌*◌, ◌<◌}
 use Rattle.basis.proofs.Kit.{rules}
-use Rattle.lookups.specs.Lookups.{walking}
-use Rattle.values.specs.inner.Writers.{list_made, pairs_made}
-use Rattle.values.proofs.FrontLaws.{Front}
 use Rattle.values.proofs.ValueLaws.{value-laws}
-use Rattle.values.proofs.ListLaws.{list_of, list-laws}
+use Rattle.values.proofs.ListLaws.{list-laws}
 use Rattle.values.proofs.MessageLaws.{message-laws, put-inside-laws}
-use Rattle.values.proofs.PairLaws.{pairs_of, pair-laws, pairs-laws}
+use Rattle.values.proofs.PairLaws.{pair-laws, pairs-laws}
 use Rattle.values.proofs.+put_inside_put_list_put_message_put_pair_put_pairs_put_value.Goals as goal
 
 pub put_inside-returns-in_default : goal.put_inside-returns-in_default

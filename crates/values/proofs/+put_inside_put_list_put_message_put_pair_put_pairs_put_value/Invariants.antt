@@ -1,15 +1,12 @@
 -- The six writers of constants, which call each other, meet their contracts. The measure is four times the bytes of constant, and up
 -- to four more, so that it falls where the same bytes are handed on.
 -- Assumes nothing.
-use Rattle.std.specs.Prelude.{ℕ, ◌+◌, ◌-◌, ◌*◌, ◌<◌}
-use Rattle.basis.proofs.Kit.{rules}
+use Rattle.std.specs.Prelude.{◌+◌, ◌-◌, ◌*◌}
 use Rattle.lookups.specs.Lookups.{walking}
 use Rattle.values.specs.inner.Writers.{list_made, pairs_made}
 use Rattle.values.proofs.FrontLaws.{Front}
-use Rattle.values.proofs.ValueLaws.{value-laws}
-use Rattle.values.proofs.ListLaws.{list_of, list-laws}
-use Rattle.values.proofs.MessageLaws.{message-laws, put-inside-laws}
-use Rattle.values.proofs.PairLaws.{pairs_of, pair-laws, pairs-laws}
+use Rattle.values.proofs.ListLaws.{list_of}
+use Rattle.values.proofs.PairLaws.{pairs_of}
 use Rattle.values.proofs.+put_inside_put_list_put_message_put_pair_put_pairs_put_value.Given as goal
 
 abbrev pub decreases-put_inside : goal.decreases-put_inside

@@ -1,6 +1,5 @@
 -- `constantform::leaves::is_bool` meets its contract.
 -- Assumes nothing.
-use Rattle.basis.proofs.Kit.{rules}
 use Rattle.constantform.proofs.LeafLaws.{bool-laws}
 use Rattle.constantform.proofs.leaves.is_bool.Goals as goal
 

@@ -1,7 +1,6 @@
 -- `display::enums::show_enumerator` meets its contract, by its loop's invariant and laws.
 -- Assumes nothing.
 use Rattle.std.specs.Prelude.{◌-◌, ◌≤◌, length}
-use Rattle.display.proofs.PlaceLaws.{place-laws}
 use Rattle.display.proofs.enums.show_enumerator.Given as goal
 
 abbrev pub invariant-loop-at : goal.invariant-loop-at

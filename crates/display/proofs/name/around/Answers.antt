@@ -1,8 +1,6 @@
 -- `display::name::around` meets its contract, by its loop's invariant and laws.
 -- Assumes nothing.
-use Rattle.std.specs.Prelude.{◌-◌, ◌≤◌}
 use Rattle.display.proofs.PlaceLaws.{place-laws}
-use Rattle.basis.proofs.Kit.{rules}
 use Rattle.display.proofs.name.around.Goals as goal
 
 pub loop-at-smaller-then-place-to : goal.loop-at-smaller-then-place-to

@@ -1,8 +1,6 @@
 -- `display::name::around` meets its contract, by its loop's invariant and laws.
 -- Assumes nothing.
 use Rattle.std.specs.Prelude.{◌-◌, ◌≤◌}
-use Rattle.display.proofs.PlaceLaws.{place-laws}
-use Rattle.basis.proofs.Kit.{rules}
 use Rattle.display.proofs.name.around.Given as goal
 
 abbrev pub invariant-loop-at : goal.invariant-loop-at

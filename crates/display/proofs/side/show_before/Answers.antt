@@ -1,8 +1,6 @@
 -- `display::side::show_before` meets its contract, by its loop's invariant and laws.
 -- Assumes nothing.
 use Rattle.display.proofs.WaitsLaws.{waits-laws}
-use Rattle.std.specs.Prelude.{◌≡◌, length}
-use Rattle.display.specs.inner.Waits.{Waits, rest_of}
 use Rattle.display.proofs.side.show_before.Goals as goal
 
 pub returns-in_default : goal.returns-in_default

@@ -2,8 +2,6 @@
 -- Assumes nothing.
 use Rattle.display.proofs.WaitsLaws.{waits-laws}
 use Rattle.basis.proofs.Kit.{rules}
-use Rattle.std.specs.Prelude.{◌≡◌, length}
-use Rattle.display.specs.inner.Waits.{Waits, rest_of}
 use Rattle.display.proofs.side.show_from.Goals as goal
 
 pub next-left-requires : goal.next-left-requires

@@ -1,7 +1,5 @@
 -- `display::side::show_from` meets its contract, by its loop's invariant and laws.
 -- Assumes nothing.
-use Rattle.display.proofs.WaitsLaws.{waits-laws}
-use Rattle.basis.proofs.Kit.{rules}
 use Rattle.std.specs.Prelude.{◌≡◌, length}
 use Rattle.display.specs.inner.Waits.{Waits, rest_of}
 use Rattle.display.proofs.side.show_from.Given as goal

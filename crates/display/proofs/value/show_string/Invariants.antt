@@ -1,7 +1,6 @@
 -- `display::value::show_string` meets its contract, by its loop's invariant and laws.
 -- Assumes nothing.
 use Rattle.std.specs.Prelude.{◌-◌, length}
-use Rattle.basis.proofs.Kit.{rules}
 use Rattle.display.proofs.value.show_string.Given as goal
 
 abbrev pub invariant-loop-i : goal.invariant-loop-i

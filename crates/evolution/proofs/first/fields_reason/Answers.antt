@@ -1,12 +1,6 @@
 -- `evolution::first::fields_reason` meets its contract, by its loop's invariant and laws.
 -- Assumes nothing.
 use Rattle.evolution.proofs.FieldLaws.{fields-laws}
-use Rattle.std.specs.Prelude.{◌-◌}
-use Rattle.field.proofs.Seek.{Seeking}
-use Rattle.reasons.specs.declared.Reason.TheVariants.{Yes}
-use Rattle.reasons.specs.Reasons.{also}
-use Rattle.evolution.specs.inner.Bearers.{number_for, number_reason}
-use Rattle.evolution.proofs.FieldLaws.{field_reason}
 use Rattle.evolution.proofs.first.fields_reason.Goals as goal
 
 pub loop-p-init : goal.loop-p-init

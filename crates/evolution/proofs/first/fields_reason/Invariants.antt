@@ -1,6 +1,5 @@
 -- `evolution::first::fields_reason` meets its contract, by its loop's invariant and laws.
 -- Assumes nothing.
-use Rattle.evolution.proofs.FieldLaws.{fields-laws}
 use Rattle.std.specs.Prelude.{◌-◌}
 use Rattle.field.proofs.Seek.{Seeking}
 use Rattle.reasons.specs.declared.Reason.TheVariants.{Yes}

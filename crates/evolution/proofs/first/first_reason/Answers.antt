@@ -1,10 +1,6 @@
 -- `evolution::first::first_reason` meets its contract, by its loop's invariant and laws.
 -- Assumes nothing.
-use Rattle.evolution.proofs.RosterLaws.{Asking, first-reason-laws}
-use Rattle.std.specs.Prelude.{◌-◌, length}
-use Rattle.basis.proofs.Kit.{rules}
-use Rattle.names.specs.Names.{every_declared}
-use Rattle.evolution.specs.inner.Bearers.{reason_of}
+use Rattle.evolution.proofs.RosterLaws.{first-reason-laws}
 use Rattle.evolution.proofs.first.first_reason.Goals as goal
 
 pub returns-in_default : goal.returns-in_default

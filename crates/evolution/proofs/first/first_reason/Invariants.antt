@@ -1,8 +1,7 @@
 -- `evolution::first::first_reason` meets its contract, by its loop's invariant and laws.
 -- Assumes nothing.
-use Rattle.evolution.proofs.RosterLaws.{Asking, first-reason-laws}
+use Rattle.evolution.proofs.RosterLaws.{Asking}
 use Rattle.std.specs.Prelude.{◌-◌, length}
-use Rattle.basis.proofs.Kit.{rules}
 use Rattle.names.specs.Names.{every_declared}
 use Rattle.evolution.specs.inner.Bearers.{reason_of}
 use Rattle.evolution.proofs.first.first_reason.Given as goal

@@ -1,7 +1,6 @@
 -- `evolution::flaws::path_named` meets its contract.
 -- Assumes nothing.
 use Rattle.evolution.proofs.FlawLaws.{path-named-laws}
-use Rattle.basis.proofs.Kit.{rules}
 use Rattle.evolution.proofs.flaws.path_named.Goals as goal
 
 pub returns-then-not-has_type_path : goal.returns-then-not-has_type_path

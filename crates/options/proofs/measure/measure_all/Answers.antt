@@ -1,7 +1,6 @@
 -- `options::measure::measure_all` meets its contract.
 -- Assumes nothing.
 use Rattle.options.proofs.MeasureLaws.{measure-all-laws}
-use Rattle.basis.proofs.Kit.{rules}
 use Rattle.options.proofs.measure.measure_all.Goals as goal
 
 pub returns-in-Absent : goal.returns-in-Absent

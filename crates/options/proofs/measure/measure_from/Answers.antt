@@ -1,7 +1,6 @@
 -- `options::measure::measure_from` meets its contract.
 -- Assumes nothing.
 use Rattle.options.proofs.MeasureLaws.{measure-from-laws}
-use Rattle.basis.proofs.Kit.{rules}
 use Rattle.options.proofs.measure.measure_from.Goals as goal
 
 pub overflow_add-result : goal.overflow_add-result

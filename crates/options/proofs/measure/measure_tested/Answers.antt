@@ -1,7 +1,6 @@
 -- `options::measure::measure_tested` meets its contract.
 -- Assumes nothing.
 use Rattle.options.proofs.MeasureLaws.{measure-tested-laws}
-use Rattle.basis.proofs.Kit.{rules}
 use Rattle.options.proofs.measure.measure_tested.Goals as goal
 
 pub returns-in-Refused : goal.returns-in-Refused

@@ -2,7 +2,6 @@
 -- Assumes nothing.
 use Rattle.options.proofs.settle.PutLaws.{put-inside-laws, put-option-laws}
 use Rattle.basis.proofs.Kit.{rules}
-use Rattle.std.specs.Prelude.{ℕ, ◌+◌, ◌-◌, ◌*◌, ◌<◌}
 use Rattle.options.proofs.named.+put_inside_put_option.Goals as goal
 
 pub put_inside-returns-in_default : goal.put_inside-returns-in_default

@@ -1,8 +1,6 @@
 -- `settle::named::put_inside` and `settle::named::put_option` meet their contracts.
 -- Assumes nothing.
-use Rattle.options.proofs.settle.PutLaws.{put-inside-laws, put-option-laws}
-use Rattle.basis.proofs.Kit.{rules}
-use Rattle.std.specs.Prelude.{ℕ, ◌+◌, ◌-◌, ◌*◌, ◌<◌}
+use Rattle.std.specs.Prelude.{◌+◌, ◌-◌, ◌*◌}
 use Rattle.options.proofs.named.+put_inside_put_option.Given as goal
 
 abbrev pub decreases-put_inside : goal.decreases-put_inside

@@ -1,7 +1,6 @@
 -- `settle::settled_built` meets its contract.
 -- Assumes nothing.
 use Rattle.options.proofs.settle.SettleLaws.{settled-built-laws}
-use Rattle.basis.proofs.Kit.{rules}
 use Rattle.options.proofs.settle.settled_built.Goals as goal
 
 pub returns-in-Skipped : goal.returns-in-Skipped

@@ -1,14 +1,6 @@
 -- `reasons::members::count_named` meets its contract, by its loop's invariant and laws.
 -- Assumes nothing.
 use Rattle.reasons.proofs.MemberLaws.{count-named-laws}
-use Rattle.std.specs.Prelude.{◌-◌}
-use Rattle.basis.specs.Count.{count}
-use Rattle.basis.proofs.Kit.{rules}
-use Rattle.field.specs.Leaf.{is_text}
-use Rattle.field.specs.Walk.{walk}
-use Rattle.field.proofs.Tally.{Tally, total}
-use Rattle.reasons.specs.inner.Members.{members_in}
-use Rattle.reasons.proofs.MemberLaws.{one_named}
 use Rattle.reasons.proofs.members.count_named.Goals as goal
 
 pub loop-p-init : goal.loop-p-init

@@ -1,9 +1,7 @@
 -- `reasons::members::count_named` meets its contract, by its loop's invariant and laws.
 -- Assumes nothing.
-use Rattle.reasons.proofs.MemberLaws.{count-named-laws}
 use Rattle.std.specs.Prelude.{◌-◌}
 use Rattle.basis.specs.Count.{count}
-use Rattle.basis.proofs.Kit.{rules}
 use Rattle.field.specs.Leaf.{is_text}
 use Rattle.field.specs.Walk.{walk}
 use Rattle.field.proofs.Tally.{Tally, total}

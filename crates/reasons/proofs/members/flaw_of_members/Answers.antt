@@ -1,13 +1,6 @@
 -- `reasons::members::flaw_of_members` meets its contract, by its loop's invariant and laws.
 -- Assumes nothing.
 use Rattle.reasons.proofs.MemberLaws.{member-flaws-laws}
-use Rattle.std.specs.Prelude.{◌-◌}
-use Rattle.field.specs.Walk.{walk}
-use Rattle.field.proofs.Seek.{Seeking}
-use Rattle.reasons.specs.declared.Reason.TheVariants.{Yes}
-use Rattle.reasons.specs.Reasons.{also}
-use Rattle.reasons.specs.inner.Members.{members_in}
-use Rattle.reasons.proofs.MemberLaws.{flaw_at}
 use Rattle.reasons.proofs.members.flaw_of_members.Goals as goal
 
 pub loop-p-init : goal.loop-p-init

@@ -1,6 +1,5 @@
 -- `reasons::members::flaw_of_members` meets its contract, by its loop's invariant and laws.
 -- Assumes nothing.
-use Rattle.reasons.proofs.MemberLaws.{member-flaws-laws}
 use Rattle.std.specs.Prelude.{◌-◌}
 use Rattle.field.specs.Walk.{walk}
 use Rattle.field.proofs.Seek.{Seeking}
