@@ -15,7 +15,7 @@ ghost use Rattle.options.specs.Settle.{settled_built, builtin_part};
 ghost use Rattle.options.specs.inner.Written.{constant_at, option_made};
 ghost use Rattle.options.specs.inner.Settling.{message_of, settled_at, parted, others_of, note_in, set_recs, settling_of, Started, Settleable};
 
-use crate::named::put_option;
+use crate::by_name::put_option;
 use builtins::{Built, builtin_of, put_builtin};
 use faults::{Fault, Stepped, cause_at};
 use field::{Field, Span, field_at};

@@ -37,7 +37,7 @@ use Rattle.faults.specs.declared.Fault.{Fault}
 use Rattle.options.specs.Named.{at, on_step, left, reached, option_from}
 use Rattle.faults.specs.Faults.{fault_at}
 use Rattle.options.specs.Settle.{fails, settled_built, settled, builtin_part, settle}
-use Rattle.places.specs.Parts.{Means, here, inside, Blamed, lacks, no-message, not-message, ends, AtPart, on_last, FaultOf, builtin, named}
+use Rattle.places.specs.Parts.{Means, here, inside, Blamed, lacks, no-message, not-message, ends, AtPart, OnLast, FaultOf, builtin, named}
 
 pub other : (a b : ℕ) → eqb a b ≡ false → a ≡ b → ⊥
 other a b h e = let y = eq-eqb a b e in never cc
@@ -81,7 +81,7 @@ module _ (L : Lookups) (s r scope : List ℕ) where
   -- ---- an option
   module _ (c : Constants) where
     abbrev Faulty : (i : ℕ) → Message → List Part → Fault → Type 0
-    Faulty i m ps f = PartFault (on_last L s r scope c) i m ps f.part f.why
+    Faulty i m ps f = PartFault (OnLast L s r scope c) i m ps f.part f.why
 
     -- the last part
     module _ (i : ℕ) (m : Message) (p : Part) (f : Fault) where

@@ -4,7 +4,7 @@
 --           Leads m ps n <-> so do the parts ps in order, each in the message reached: they lead from m to n
 --        Blamed m p qs w <-> w is the refusal of the part p in the message m, the parts qs standing behind it
 --        AtPart m ps j w <-> w is the refusal of the part at the position j of the parts ps, the parts before it leading from m to its message
---           on_last c h w <-> w is the refusal of the constant c on a field of the shape h
+--           OnLast c h w <-> w is the refusal of the constant c on a field of the shape h
 --          FaultOf m o f <-> f is the fault of the option o in the options message m
 --
 -- `Ends h w` says that w is the refusal of what stands behind the last part, on a field of the shape h: of a query's name there is none.
@@ -67,12 +67,12 @@ module _ (L : Lookups) (s r scope : List ℕ) where
       pub leads : Leads m before reached
       pub blamed : Blamed reached part behind w
 
-  abbrev pub on_last : Constants → Shape → Refusal → Type 0
-  on_last c h w = records L s r (on h) c ≡ wrong w
+  abbrev pub OnLast : Constants → Shape → Refusal → Type 0
+  OnLast c h w = records L s r (on h) c ≡ wrong w
 
   -- "Inside a message constant the part is the last one of the option's name."; "A single direct part is a builtin." [WHERE-4, WHERE-5, STEP-4]
   pub data FaultOf (m : Message) (o : Option) : Fault → Type 0 where
     builtin : {p : Part} {w : Refusal} → builtin_part o.parts ≡ some p
         → builtin_of L s r m (text r p.name) o.constant ≡ Wrong w → FaultOf m o (fault_at 0 w)
-    named : {j : ℕ} {w : Refusal} → builtin_part o.parts ≡ none → AtPart (on_last o.constant) m o.parts j w
+    named : {j : ℕ} {w : Refusal} → builtin_part o.parts ≡ none → AtPart (OnLast o.constant) m o.parts j w
         → FaultOf m o (fault_at j w)

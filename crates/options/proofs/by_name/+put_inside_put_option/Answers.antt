@@ -2,7 +2,7 @@
 -- Assumes nothing.
 use Rattle.options.proofs.settle.PutLaws.{put-inside-laws, put-option-laws}
 use Rattle.basis.proofs.Kit.{rules}
-use Rattle.options.proofs.named.+put_inside_put_option.Goals as goal
+use Rattle.options.proofs.by_name.+put_inside_put_option.Goals as goal
 
 pub put_inside-returns-in_default : goal.put_inside-returns-in_default
 put_inside-returns-in_default t c = search (rules, put-inside-laws)

@@ -1,7 +1,7 @@
 -- `settle::named::put_constant` meets its contract.
 -- Assumes nothing.
 use Rattle.options.proofs.settle.PutLaws.{constant-laws}
-use Rattle.options.proofs.named.put_constant.Goals as goal
+use Rattle.options.proofs.by_name.put_constant.Goals as goal
 
 pub returns-in_default : goal.returns-in_default
 returns-in_default c = search constant-laws

@@ -1,7 +1,7 @@
 -- `settle::named::put_inside` and `settle::named::put_option` meet their contracts.
 -- Assumes nothing.
 use Rattle.std.specs.Prelude.{◌+◌, ◌-◌, ◌*◌}
-use Rattle.options.proofs.named.+put_inside_put_option.Given as goal
+use Rattle.options.proofs.by_name.+put_inside_put_option.Given as goal
 
 abbrev pub decreases-put_inside : goal.decreases-put_inside
 decreases-put_inside l = 2 * (l.to - l.from) + 1
