@@ -1,4 +1,4 @@
--- The laws of `field_at`: the ways through `field_at`, and where a whole field lies.
+-- The laws of the definition `field_at`: the ways through the function of that name, and where a whole field lies.
 -- Assumes nothing.
 use Rattle.std.specs.Prelude.{◌≡◌, refl, Bool, true, false, List, ℕ, ◌+◌, ◌-◌, ◌≤◌, ◌<◌, ltb, length, get_or}
 use Rattle.basis.specs.Kit.{sym, ◌∙◌}

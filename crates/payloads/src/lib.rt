@@ -17,7 +17,7 @@ use wire::fixed::{fixed32_at, fixed64_at};
 use wire::numbers::{low32, unzigzag, widen32};
 
 // A payload: its place, its size and the number that its bytes say, 0 of a length-delimited one; or that it breaks off.
-#[derive(Drop)]
+#[derive(Clone, Copy)]
 pub enum Payload {
     Whole { at: usize, size: usize, number: u64 },
     Cut,
