@@ -1,4 +1,4 @@
-/* Cizasmok's option resolver, for C and C++: link target/staticlib/liboptc.a, which `rt staticlib optc` writes (x86-64 Linux; it
+/* Cizasmok's option resolver, for C and C++: link crates/optc/out/liboptc.a, which `rt lib` in crates/optc writes (x86-64 Linux; it
  * needs nothing but the C library's memset).
  *
  * A slice is a pointer and, right behind it, how many elements it has (not bytes). NULL with a count of 0 is allowed everywhere and means
