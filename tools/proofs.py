@@ -4,12 +4,12 @@
     python3 tools/proofs.py CRATE [--laws RULESET ..] [--again FUNCTION ..]
 
 Run it at the root of the repository. It runs `rt check` in crates/CRATE once. Each goal that this finds no proof of is answered in the
-function's Answers.antt by `search (rules, RULESET)`, without --laws by `search rules`; RULESET is a `pub ruleset` or a `pub` law. What a file
-has already stays. An Invariants.antt that the check asks for is written as the check proposes it: fill its holes, `?`, and run this again. A
-function that calls one without a proof is asked for only when that one has one: run this again then too.
+function's Answers.antt by `search (rules, RULESET)`, without --laws by `search rules`; RULESET is a `pub ruleset` or a `pub` law. What a
+file has already stays. An Invariants.antt that the check asks for is written as the check proposes it: fill its holes, `?`, and run this
+again. A function that calls one without a proof is asked for only when that one has one: run this again then too.
 
 --again FUNCTION takes the searches of that function away first, so that only those come back which the check still asks for; without
---laws they have the laws that they had. Other answers stay. If the check does not come to the function, its file is as it was. A cycle of
+--laws as they were, and a new goal with all their laws. Other answers stay. If the check does not come to the function, its file is as it was. A cycle of
 calls has one file: name any of its functions.
 
 `rt fmt` sets the layout, and `rt tidy` drops imports that nothing uses.
@@ -63,7 +63,8 @@ def module_of(crate, law):
     declares = re.compile(r"(?m)^\s*(?:\w+ )*pub (?:ruleset )?%s\s*[=:]" % re.escape(law))
     for top in sorted(crate.parent.iterdir(), key=lambda p: (p != crate, p.name)):
         for file in sorted(top.glob("proofs/**/*.antt")):
-            if file.name not in ("Answers.antt", "Proof.antt", "Lib.antt") and declares.search(file.read_text(encoding="utf-8")):
+            text = file.read_text(encoding="utf-8")
+            if " as goal\n" not in text and declares.search(text):
                 return "Rattle.%s.proofs.%s" % (top.name, ".".join(file.relative_to(top / "proofs").with_suffix("").parts))
     sys.exit("proofs.py: no file under crates/*/proofs declares `pub ruleset %s`, nor a `pub` law of that name" % law)
 
@@ -81,16 +82,18 @@ def write(path, opening, uses, blocks):
     path.write_text(opening + "".join(uses) + "\n" + "\n\n".join(blocks) + "\n", encoding="utf-8")
 
 
-def answer(crate, path, asked, laws):
-    """Adds an answer to each goal of the lines that are asked for."""
-    opening, uses, blocks = parts(path.read_text(encoding="utf-8") if path.exists() else heading(crate, path))
+def answer(crate, path, asked, given, old):
+    """Adds an answer to each goal of the lines that are asked for: what the old file has for it, where no laws are given."""
+    opening, uses, blocks = parts(path.read_text(encoding="utf-8") if path.exists() else old or heading(crate, path))
+    before = {} if given else {SEARCH.match(block).group(1): block for block in parts(old)[2] if SEARCH.match(block)}
+    blocks, laws = [block for block in blocks if not old or not SEARCH.match(block)], given or laws_of(list(before.values()))
     brought = set(re.findall(r"[^\s{},]+", " ".join(uses)))
     wanted = [("rules", "Rattle.basis.proofs.Kit")] + [(law, module_of(crate, law)) for law in laws]
     uses += ["use %s.{%s}\n" % (module, name) for name, module in wanted if name not in brought]
     if not any(use.endswith(" as goal\n") for use in uses):
         uses.append(re.search(r"(?m)^use \S+ as goal\n", asked).group(0))
     term = "search (rules, %s)" % ", ".join(laws) if laws else "search rules"
-    new = [goal[:-1] + term for goal in GOAL.findall(asked)]
+    new = [before.get(goal.split()[1], goal[:-1] + term) for goal in GOAL.findall(asked)]
     write(path, opening, uses, blocks + new)
     print("%s: %d answers" % (path, len(new)))
 
@@ -115,7 +118,7 @@ def main():
     [module_of(crate, law) for law in args.laws]  # one that is not there is refused before anything is done
     again = {path: function for function in args.again for path in files_of(crate, function)}
     old = {path: path.read_text(encoding="utf-8") for path in again}
-    laws, done = {path: laws_of(parts(text)[2]) for path, text in old.items()}, set()
+    done = set()
     try:
         for path, text in old.items():
             opening, uses, blocks = parts(text)
@@ -126,7 +129,7 @@ def main():
         for found, asked in asked_for(log):
             path = crate / found
             if path.name == "Answers.antt":
-                answer(crate, path, asked, args.laws or laws.get(path, []))
+                answer(crate, path, asked, args.laws, old.get(path, ""))
                 done.add(path)
             elif not path.exists():
                 path.parent.mkdir(parents=True, exist_ok=True)

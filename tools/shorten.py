@@ -126,6 +126,7 @@ def main():
     files = {path for function in args.functions for path in files_of(crate, function)} or (
         set(crate.glob("proofs/**/Answers.antt")) - bent(crate))
     old = {path: path.read_text(encoding="utf-8") for path in sorted(files)}
+    old = {path: text for path, text in old.items() if " as goal\n" in text}  # and no laws that are called so
     count, proved = searches({path: parts(text)[2] for path, text in old.items()}), False
     try:
         blocks = needed(crate, old)
