@@ -77,10 +77,11 @@ fn sources(root: &Path) -> Vec<PathBuf> {
     found
 }
 
-/// The end says why, once the crates are left out that were not tried because another is not proved.
+/// The end says why, once the lines are left out that count what was loaded.
 fn last_lines(run: &Output) -> String {
     let text = [&run.stdout[..], &run.stderr[..]].concat();
     let text = String::from_utf8_lossy(&text);
-    let lines: Vec<&str> = text.lines().filter(|line| !line.contains(" NOT PROVED: its dependency ")).collect();
+    let counts = |line: &&str| ["library ", "statements ", "axioms "].iter().any(|word| line.starts_with(word));
+    let lines: Vec<&str> = text.lines().filter(|line| !counts(line)).collect();
     lines[lines.len().saturating_sub(20)..].join("\n")
 }
