@@ -77,11 +77,11 @@ fn sources(root: &Path) -> Vec<PathBuf> {
     found
 }
 
-/// The end says why, once the lines are left out that count what was loaded.
+/// The end says why, once the lines are left out that say what was loaded and what is proved.
 fn last_lines(run: &Output) -> String {
     let text = [&run.stdout[..], &run.stderr[..]].concat();
     let text = String::from_utf8_lossy(&text);
-    let counts = |line: &&str| ["library ", "statements ", "axioms "].iter().any(|word| line.starts_with(word));
-    let lines: Vec<&str> = text.lines().filter(|line| !counts(line)).collect();
+    let loaded = |line: &str| ["library ", "statements ", "axioms "].iter().any(|word| line.starts_with(word));
+    let lines: Vec<&str> = text.lines().filter(|line| !loaded(line) && !line.ends_with(": proved")).collect();
     lines[lines.len().saturating_sub(20)..].join("\n")
 }
