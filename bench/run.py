@@ -5,7 +5,7 @@ usage: run.py [ROUNDS] [--library FOLDER] [--original FOLDER] [--picture FILE]
        run.py worst [OPTIONS] [--library FOLDER] [--original FOLDER]
        run.py schemas [ROUNDS] [--library FOLDER]
 
-Run it from the root of the repository, after `rt staticlib optc`, which writes liboptc.a to target/staticlib; another FOLDER may hold it.
+Run it from the root of the repository, after `rt lib` in crates/optc, which writes out/liboptc.a there; another FOLDER may hold it.
 It needs rustc, valgrind for the count of instructions, and an x86-64 machine. The original's FOLDER is a workspace in which cargo builds
 the published source of protobuf-parse 3.7.2 over a stand-in for its runtime (original.rs). FILE is the picture, docs/speed.svg.
 
@@ -136,7 +136,7 @@ def schemas(programs, args):
 def main():
     parser = argparse.ArgumentParser(usage=__doc__.split("usage: ")[1].split("\n\n")[0])
     parser.add_argument("what", nargs="*", default=["10"])
-    parser.add_argument("--library", default="target/staticlib")
+    parser.add_argument("--library", default="crates/optc/out")
     parser.add_argument("--original")
     parser.add_argument("--picture")
     args = parser.parse_args()

@@ -6,8 +6,8 @@ usage: evolve.py [CASES] [SEED] [--program OPTEVOLVE]
 
 Run it from the root of the repository. pairs.py draws the cases, an older sheet, a newer one and mostly a request for the newer.
 evolution.py has the tests of sheets a second time, steps.py the resolver, options_reader.py the listing, people.py the lines for people.
-OPTEVOLVE is target/bin/optevolve if none is given; its answers and the second implementation's have to be equal in every line. With
-`--program none` optlower and optlist are run in its place, each for its part, and the output says so: the lines of the two tests are then
+OPTEVOLVE is optevolve as `rt run` builds it if none is given; its answers and the second implementation's have to be equal in every line.
+With `--program none` optlower and optlist are run in its place, each for its part, and the output says so: the lines of the two tests are then
 not compared.
 
 Demand 3 is checked wherever it speaks: both sheets are clean, the older is contained in the newer and declares the options type, and the
@@ -27,6 +27,7 @@ import subprocess
 import sys
 import time
 
+import built
 import evolution
 import examples
 import form
@@ -41,7 +42,7 @@ from resolve import ROOM, cut, joined, shorter, tree
 from sheets import dotted, f
 from steps import TYPES, components
 
-PROGRAMS = {"evolve": "target/bin/optevolve", "lower": "target/bin/optlower", "list": "target/bin/optlist"}
+PROGRAMS = {call: built.program("opt" + call) for call in ("evolve", "lower", "list")}
 
 
 # ---- cases

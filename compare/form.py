@@ -6,12 +6,14 @@ usage: form.py [CASES] [SEED]
 The second one is written from 01 and from the readings in docs/DECISIONS.md, which both share, and not from the definitions. Run it
 from the root of the repository. A case is a sheet, or a sheet and a request: drawn from the rules and then, three times in four,
 broken in one to three places (a byte changed or lost, the end cut off, a field lost or doubled, a length changed); a few have the greatest
-length or one byte more. optcheck is the program that `rt check` builds under target/bin; it takes many cases in one run.
+length or one byte more. optcheck is the program that `rt run` builds in its crate's folder; it takes many cases in one run.
 """
 import random
 import re
 import subprocess
 import sys
+
+import built
 
 IDENT = re.compile(rb"[A-Za-z_][A-Za-z0-9_]{0,63}\Z")
 
@@ -375,7 +377,7 @@ def some_case():
 
 def answers(cases):
     data = b"".join(field(0x40, s) + (b"" if q is None else field(0x41, q)) for s, q in cases)
-    run = subprocess.run(["target/bin/optcheck"], input=data.hex().encode(), stdout=subprocess.PIPE, check=True)
+    run = subprocess.run([built.program("optcheck")], input=data.hex().encode(), stdout=subprocess.PIPE, check=True)
     groups = []
     for line in run.stdout.decode().splitlines():
         if line.startswith("answer ") or not groups:

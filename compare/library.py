@@ -4,9 +4,9 @@
 usage: library.py [CASES] [SEED] [--oracle ORACLE] [--library FOLDER] [--valgrind]
        library.py faults [--library FOLDER]
 
-Run it from the root of the repository; it needs a C compiler. The library is FOLDER/liboptc.a, target/staticlib/liboptc.a if none is given,
-as `rt staticlib optc` writes it. CASES is 1,000,000 if none is given. Two processes draw cases, each with a seed of its own that comes of
-SEED, so that the same command draws the same cases (library_cases.py). A case is a call with its inputs. What is wanted of it, the six
+Run it from the root of the repository; it needs a C compiler. The library is FOLDER/liboptc.a, crates/optc/out/liboptc.a if none is given,
+as `rt lib` in crates/optc writes it. CASES is 1,000,000 if none is given. Two processes draw cases, each with a seed of its own that comes
+of SEED, so that the same command draws the same cases (library_cases.py). A case is a call with its inputs. What is wanted of it, the six
 numbers and every element, the second implementations say (library_calls.py); compare/driver.c makes the call, many times over, and sees
 that it reads and writes nothing else and keeps to its room. Of calls with a tested form both are made and have to agree; on a sheet that is
 not fine the tested form has no second implementation, and only memory and room are seen to.
@@ -35,6 +35,7 @@ import time
 import traceback
 from queue import Empty
 
+import built
 import descriptor
 import evolve
 import form
@@ -48,7 +49,7 @@ import sheets
 import tables
 from library_calls import Driver, Ended, amiss, smallest, unpacked
 
-LIBRARY, FLAGS = "target/staticlib", ["-std=c11", "-Wall", "-Wextra", "-Wpedantic", "-Werror", "-O1", "-Iinclude"]
+LIBRARY, FLAGS = built.ARCHIVE, ["-std=c11", "-Wall", "-Wextra", "-Wpedantic", "-Werror", "-O1", "-Iinclude"]
 WORKERS, MOST_DIFFERENCES = 2, 5
 MEMCHECK = ["valgrind", "--quiet", "--error-exitcode=71"]
 FAULT_CASES = 6000
@@ -285,7 +286,7 @@ def main():
     parser.add_argument("--valgrind", action="store_true")
     args = parser.parse_args()
     if not os.path.exists(os.path.join(args.library, "liboptc.a")):
-        sys.exit("%s/liboptc.a is not there; `rt staticlib optc` writes it" % args.library)
+        sys.exit("%s/liboptc.a is not there; `rt lib` in crates/optc writes it" % args.library)
     if args.cases == "faults":
         sys.exit(1 if faults(args.library) else 0)
     if args.oracle:

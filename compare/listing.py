@@ -5,8 +5,8 @@ usage: listing.py [CASES] [SEED] [--program OPTLIST] [--query OPTQUERY]
 
 Run it from the root of the repository. options_reader.py is the second implementation, option_bytes.py draws the cases: sheets, clean or
 not, with numbers declared twice or malformed; options types that are found, missing or there twice; option bytes that fit, with overlong
-varints, with misfits, damaged; names for the query. OPTLIST and OPTQUERY are the two programs, target/bin/optlist and target/bin/optquery
-if none is given; `none` leaves one out, and the output says so. Their answers and the second implementation's have to be equal in every
+varints, with misfits, damaged; names for the query. OPTLIST and OPTQUERY are the two programs, as `rt run` builds them in their crates'
+folders if none is given; `none` leaves one out, and the output says so. Their answers and the second implementation's have to be equal in every
 line, that of a query's place of refusal too; the lines for people, which begin with two blanks, are those of people.py.
 
 A difference is printed with its input, made smaller as far as leaving out fields and bytes does it; the exit code is then 1. The tables
@@ -20,6 +20,7 @@ import subprocess
 import sys
 import time
 
+import built
 import form
 import option_bytes
 import people
@@ -30,7 +31,7 @@ from sheets import f
 from steps import TYPES
 
 ROOM = 131000  # bytes that one run of a program takes
-PROGRAMS = {"list": "target/bin/optlist", "query": "target/bin/optquery"}
+PROGRAMS = {"list": built.program("optlist"), "query": built.program("optquery")}
 
 
 class Case:

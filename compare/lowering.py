@@ -7,8 +7,8 @@ usage: lowering.py ORACLE [CASES]
        lowering.py list [write]
 
 Run it from the root of the repository. ORACLE is a program over protobuf-parse 3.7.2 that reads lines `ranges KIND start end ..` and
-`fields word ..` in its mode `lower` and prints `answer 0 words ..` for each. The two programs are those that `rt check` builds under
-target/bin.
+`fields word ..` in its mode `lower` and prints `answer 0 words ..` for each. The two programs are those that `rt run` builds in
+their crates' folders.
 Words are drawn so that every end has a successor and every 3 follows a 2 or a 3: on those lists both sides answer 0. The original numbers
 oneofs in order of declaration: optoneofs is given that numbering, or none, in turn. `lowered_ranges` and `lowered_fields_by` are a second
 implementation, which refuses too, for compare/library.py.
@@ -31,6 +31,8 @@ import struct
 import subprocess
 import sys
 import tempfile
+
+import built
 
 EDGES = [-2147483648, -2147483647, -2, -1, 0, 1, 2, 18999, 19000, 536870910, 536870911, 536870912, 2147483645, 2147483646]
 
@@ -134,7 +136,7 @@ def stored(write):
 
 
 def ours(program, *fields):
-    run = subprocess.run(["target/bin/" + program], input=b"".join(fields).hex().encode(), stdout=subprocess.PIPE, check=True)
+    run = subprocess.run([built.program(program)], input=b"".join(fields).hex().encode(), stdout=subprocess.PIPE, check=True)
     return run.stdout.decode().replace("\n", " ").strip()
 
 
@@ -238,7 +240,7 @@ def numbered(lists, numbering):
     answers = []
     for at in range(0, len(lists), 500):
         cases = "".join(fields_by(numbering, *words) for words in lists[at : at + 500])
-        run = subprocess.run(["target/bin/optoneofs"], input=cases, stdout=subprocess.PIPE, encoding="utf-8", check=True)
+        run = subprocess.run([built.program("optoneofs")], input=cases, stdout=subprocess.PIPE, encoding="utf-8", check=True)
         replies, words = (run.stdout.splitlines()[n::2] for n in (0, 1))
         assert replies == ["answer 0"] * len(lists[at : at + 500]), "an answer is no 0"
         answers += [[int(word) for word in line.split()[1:]] for line in words]

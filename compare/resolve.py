@@ -5,7 +5,7 @@ usage: resolve.py [CASES] [SEED] [--oracle ORACLE] [--program PROGRAM]
        resolve.py list [write] [--oracle ORACLE]
 
 Run it from the root of the repository. steps.py is the second implementation, sheets.py and queries.py draw the cases, a sheet and
-several requests, figures.py has those at each limit, tables.py prints. PROGRAM is optlower, target/bin/optlower if none is given;
+several requests, figures.py has those at each limit, tables.py prints. PROGRAM is optlower, as `rt run` builds it if none is given;
 `--program none` leaves it out, and the output says so. Its answers and the second implementation's have to be equal in every line,
 whatever the case, the place of a refusal too.
 
@@ -38,6 +38,7 @@ import subprocess
 import sys
 import time
 
+import built
 import descriptor
 import examples
 import figures
@@ -49,7 +50,7 @@ import tables
 from sheets import f
 
 ROOM = 131000  # bytes that one run of the program takes
-PROGRAM = "target/bin/optlower"
+PROGRAM = built.program("optlower")
 STORED = "crates/optlower/"
 
 

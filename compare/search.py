@@ -5,8 +5,8 @@ usage: search.py [CASES] [SEED] [ORACLE]
 
 The second one is written from 01's rules and the readings in docs/DECISIONS.md, and not from the definitions: it lists every scope of
 the sheet with its full path and its package's length first, and sorts. Run it from the root of the repository. A case is a sheet, a scope
-and a path, drawn from few names so that they meet; some sheets are broken in a place. optfind is the program that `rt check` builds under
-target/bin; it takes many cases in one run.
+and a path, drawn from few names so that they meet; some sheets are broken in a place. optfind is the program that `rt run` builds in its
+crate's folder; it takes many cases in one run.
 
 ORACLE is a program over protobuf-parse 3.7.2 that reads a line of hexadecimal digits, tags 40 and 41, in its mode `sheet --raw` and prints
 what the option resolver answers. It is asked for the option `(path) = 7` on each of two messages: what it writes begins with the number of
@@ -18,6 +18,7 @@ import struct
 import subprocess
 import sys
 
+import built
 import form
 
 NAMES = ["a", "b", "c", "M", "x", "y"]
@@ -212,7 +213,7 @@ def asked_of(data):
 
 def answers(cases):
     text = b"".join(f(0x40, s) + f(0x42, c) + f(0x43, p) for s, c, p in cases).hex()
-    run = subprocess.run(["target/bin/optfind"], input=text.encode(), stdout=subprocess.PIPE, check=True)
+    run = subprocess.run([built.program("optfind")], input=text.encode(), stdout=subprocess.PIPE, check=True)
     groups = []
     for line in run.stdout.decode().splitlines():
         if line.startswith("answer ") or not groups:

@@ -1,8 +1,9 @@
 /* The story's option from C: which bytes (order) and (.plant.order) set on a field of plant.Dispatch, and why (order) is refused in a
  * schema with a mistake. examples/lower.hex has the three cases, a sheet and a request each. From the root of the repository:
  *
- *     rt staticlib optc
- *     cc -Iinclude -o target/order examples/order.c target/staticlib/liboptc.a
+ *     (cd crates/optc && rt lib)
+ *     mkdir -p target
+ *     cc -Iinclude -o target/order examples/order.c crates/optc/out/liboptc.a
  *     target/order < examples/lower.hex
  */
 #include <opt_words.h>

@@ -1,5 +1,5 @@
-/* Cizasmok's option resolver, for C and C++: link target/staticlib/liboptc.a, which `rt staticlib optc` writes (x86-64 Linux; it
- * needs nothing but the C library's memset).
+/* Cizasmok's option resolver, for C and C++: link crates/optc/out/liboptc.a, which `rt lib` in crates/optc writes (x86-64 Linux; it
+ * needs nothing but the C library's memset and memcpy).
  *
  * A slice is a pointer and, right behind it, how many elements it has (not bytes). NULL with a count of 0 is allowed everywhere and means
  * no elements; with any other count the pointer has to lead to that many elements, which `words` want aligned as uint32_t is. Inputs are

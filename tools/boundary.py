@@ -5,8 +5,8 @@ usage: boundary.py
 
 Run it from the root of the repository. No proof reaches a declaration in C or Rust, so this compares them as texts. Each function has to
 have the same slices and numbers, by name, type and order, in crates/optc/src/lib.rt, in the header and in bindings/rust/src/sys.rs, and
-the archive, where `rt staticlib optc` has written it, has to define these functions and no others; the answer's six numbers are those of
-crates/reply. Numbers, second words and names of the replies have to be those of crates/reply in the header, in include/opt_words.h, in
+the archive, where `rt lib` in crates/optc has written it, has to define these functions and no others; the answer's six numbers are those
+of crates/reply. Numbers, second words and names of the replies have to be those of crates/reply in the header, in include/opt_words.h, in
 bindings/rust and in README.md, and the words of the last three the same. The headers are compiled as C and as C++, without a warning.
 Prints what differs, and a line that says what was compared; the exit code is 1 where something differs.
 """
@@ -15,8 +15,9 @@ import re
 import subprocess
 import sys
 
+EXPORT = r'#\[unsafe\(no_mangle\)\]\npub extern "C" fn (\w+)\(([^)]*)\) -> Answer'
 C_TYPES = {"u8": "uint8_t", "u32": "uint32_t", "i32": "int32_t", "u64": "uint64_t"}
-ARCHIVE = "target/staticlib/liboptc.a"
+ARCHIVE = "crates/optc/out/liboptc.a"
 
 
 def text(path):
@@ -31,7 +32,7 @@ def one_line(words):
 def exported():
     """What the crate exports: slices to read, slices to write, numbers."""
     out = {}
-    for name, arguments in re.findall(r'pub extern "C" fn (\w+)\(([^)]*)\) -> Answer', text("crates/optc/src/lib.rt")):
+    for name, arguments in re.findall(EXPORT, text("crates/optc/src/lib.rt")):
         out[name] = []
         for argument in one_line(arguments).split(", "):
             label, kind = argument.split(": ")

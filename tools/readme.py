@@ -17,7 +17,7 @@ import sys
 import time
 
 BLOCK = re.compile(r"(?:<!-- (run|run slow|prints|prints, at the end) -->\n|(?<=\n)\n)((?: {4}.*\n)(?:(?: {4}.*)?\n)*(?: {4}.*\n)|(?: {4}.*\n))")
-COMMAND = re.compile(r"(rt|cc|c\+\+|cargo|python3|bash|valgrind|target/\S+|git) ")
+COMMAND = re.compile(r"(\(?cd|rt|cc|c\+\+|cargo|python3|bash|valgrind|for|mkdir|echo|target/\S+|git) ")
 
 
 def blocks(page):

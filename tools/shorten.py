@@ -1,130 +1,118 @@
 #!/usr/bin/env python3
-"""Let each answer of a crate's proof files name the laws that it takes, and no others.
+"""Keep, of a crate's answers, those that the check needs, each with the laws that it takes and no others.
 
     python3 tools/shorten.py CRATE [FUNCTION ..]
 
-Run it at the root of the repository, on a crate that is proved. A need that is answered by `search (needs, RULESET)` is tried with nothing,
-with each of these alone and with fewer of them together; the first that is proved stands. All that is to be tried is declared in the proof
-files and checked in one run of `rt dev CRATE`, then the files are written and the crate is checked again: if it is not proved then, every
-file is as it was. `use` lines of laws that no answer names any more go. `rt fmt` sets the layout.
+Run it at the root of the repository, on a crate that is proved. All searches are taken away, and those come back which `rt check --margin`
+asks for, which searches half as far as the check does; a function comes to its turn when what it calls is proved, so this takes some
+checks. Of an answer that is left each smaller set of its laws is tried, all in one check, and the smallest that is proved stands. If the
+crate is not proved then, every file is as it was. Other answers than searches stay.
 
-A function that holds what a must-fail edit changes keeps its laws, unless it is named: with fewer, the edit may be refused by what the
+A function that holds what a must-fail edit changes keeps its answers, unless it is named: with fewer, the edit may be refused by what the
 file leaves out and not by the fact that it breaks. Of an edit outside any function (a table, a definition) this sees nothing.
+
+`rt fmt` sets the layout, and `rt tidy` drops imports that nothing uses.
 """
 import argparse
 import itertools
-import os
 import pathlib
 import re
-import subprocess
 import sys
-import tempfile
 
-REFUSED = re.compile(r"(?m)^(\S+/Proof\.antt):\d+:\d+: error: `(try-\d+-\d+-\d+)`")
-CLAIM = re.compile(r"(?m)^pub \S+-spec :")
-ANSWER = re.compile(r"(λ [^.]*)\. search (?:\(([^()]*)\)|([^()\s]+))$")
+from proofs import SEARCH, check, files_of, parts, write
 
-
-def check(crate, *words):
-    run = subprocess.run(["rt", "dev", crate, *words], env=dict(os.environ, RT_CUT="0"), encoding="utf-8",
-                         stdout=subprocess.PIPE, stderr=subprocess.STDOUT)
-    return run.stdout, "\nlogic=proved" in run.stdout
-
-
-def terms(text, at):
-    """The terms from a place on, as spans: words and parenthesized groups, up to the end of what holds them."""
-    found = []
-    while at < len(text) and text[at] != ")":
-        start, depth = at, 0
-        while at < len(text) and (depth or not text[at].isspace()) and (depth or text[at] != ")"):
-            depth += {"(": 1, ")": -1}.get(text[at], 0)
-            at += 1
-            if not depth and text[at - 1] == ")":
-                break
-        if start < at:
-            found.append((start, at))
-        else:
-            at += 1
-    return found
-
-
-def needs_of(module, count):
-    """The types that the arguments of a module's `spec` have, '' for those that are no needs; each in the names of those before it."""
-    text = module.read_text(encoding="utf-8")
-    if module.name.startswith("Lts-"):  # of a cycle: the needs are the parameters of a module, over what the call gives first
-        group = re.search(r"module _ (\(\S+ : Need-.*?) where\n", text, re.S).group(1)
-        needs = [re.sub(r"\s+", " ", group[s + 1:e - 1]).split(" : ")[1].split(" ")[0] for s, e in terms(group, 0)]
-        before = ["%%%d" % n for n in range(count - len(needs))]
-        return [""] * len(before) + [" ".join([need] + before) for need in needs]
-    group = re.search(r"pub spec :\s*(.*?)\n\s+spec =", text, re.S).group(1)
-    parts = [re.sub(r"\s+", " ", group[s + 1:e - 1]).split(" : ", 1) for s, e in terms(group, 0) if group[s] == "("][:count]
-    place = {name: "%%%d" % n for n, (name, _) in enumerate(parts) if name != "answer"}
-    return ["" if name != "answer" else " ".join(place.get(word, word) for word in need.split(" ")) for name, need in parts]
-
-
-def answers(text, generated):
-    """The answers that name laws: the span of each, its type, its parameters, the laws."""
-    claim = CLAIM.search(text)
-    for call in re.finditer(r"([^\s(]+)\.spec(?=[\s(])", text[claim.start():]):
-        alias = call.group(1)
-        module = re.search(r"(?m)^use (\S+) as %s$" % re.escape(alias), text).group(1)
-        given = terms(text, claim.start() + call.end())
-        types = needs_of(generated.joinpath(*module.split(".")).with_suffix(".antt"), len(given))
-        for (start, end), need in zip(given, types):
-            answer = ANSWER.match(re.sub(r"\s+", " ", text[start + 1:end - 1]).strip())
-            if need and answer:
-                need = re.sub(r"%(\d+)", lambda m: "%s" % text[slice(*given[int(m.group(1))])], need)
-                need = ("(t : ℕ) → " if alias.endswith("lts") else "") + alias + "." + need
-                yield (start, end), need, answer.group(1), (answer.group(2) or answer.group(3)).split(", ")
-
-
-def ways(laws):
-    """What is tried, the least first: the laws themselves stand if nothing else does."""
-    for n in range(len(laws)):
-        for some in itertools.combinations(laws, n):
-            yield "search" if not some else "search " + some[0] if n == 1 else "search (%s)" % ", ".join(some)
-
-
-def tried(text, generated):
-    """The file with all that is tried declared behind it, and of each declaration the span and the answer."""
-    lines, places = [text], {}
-    for n, (span, need, params, laws) in enumerate(answers(text, generated)):
-        for k, way in enumerate(ways(laws)):
-            name = "try-%d-%d-%d" % (span[0], n, k)
-            lines.append("%s : %s\n%s = %s%s. %s\n" % (name, need, name, "λ t. " if need.startswith("(t : ") else "", params, way))
-            places[name] = (span, "(%s. %s)" % (params, way))
-    return "\n".join(lines), places
-
-
-def shortened(text, places, refused):
-    """The file with the first answer that was not refused in each place."""
-    chosen = {}
-    for name, (span, answer) in places.items():
-        if name not in refused:
-            chosen.setdefault(span, answer)
-    for (start, end), answer in sorted(chosen.items(), reverse=True):
-        text = text[:start] + answer + text[end:]
-
-    def used(line):
-        rest = text.replace(line.group(0), "")
-        names = re.split(r",\s*", line.group(2).strip())
-        left = [n for n in names if "_" in n or re.search(r"(?<![\w·-])%s(?![\w·-])" % re.escape(n), rest)]
-        return line.group(0) if left == names else "use %s.{%s}\n" % (line.group(1), ", ".join(left)) if left else ""
-
-    return re.sub(r"(?m)^use (\S+)\.\{([^}]*)\}\n", used, text), len(chosen)
+OPEN = re.compile(r"(?m)^fn \S+: no proof: expected answers in (\./proofs/\S+\.antt); .* did not prove (.*)$")
+REFUSED = re.compile(r"(?m)^(\./proofs/\S+/Answers\.antt):\d+:\d+: error: `(try-\d+-\d+)`")
 
 
 def bent(crate):
-    """The functions that hold what a must-fail edit changes."""
-    names = set()
+    """The answers of the functions that hold what a must-fail edit changes."""
+    files = set()
     for edit in crate.glob("must-fail/*.edit"):
-        file = None
+        source = ""
         for line in edit.read_text(encoding="utf-8").split("\n"):
-            if line.startswith("file: src/"):
-                file = (crate / line[6:]).read_text(encoding="utf-8")
-            elif line.startswith("old: ") and file and line[5:] in file:
-                names.update(re.findall(r"(?m)^ *(?:pub )?fn (\w+)", file[:file.index(line[5:])])[-1:])
-    return names
+            if line.startswith("file: "):
+                source = (crate / line[6:]).read_text(encoding="utf-8") if line.startswith("file: src/") else ""
+            elif line.startswith("old: ") and line[5:] in source:
+                for name in re.findall(r"(?m)^ *(?:pub )?fn (\w+)", source[:source.index(line[5:])])[-1:]:
+                    files.update(found(crate, name))
+    return files
+
+
+def found(crate, function):
+    try:
+        return files_of(crate, function)
+    except SystemExit:  # it has no answers
+        return []
+
+
+def shown(path, blocks, text):
+    """The file with these blocks, or none where it would hold nothing."""
+    opening, uses, _ = parts(text)
+    if blocks:
+        write(path, opening, uses, blocks)
+    elif path.exists():
+        path.unlink()
+
+
+def needed(crate, old):
+    """Of each file the blocks that the check asks for."""
+    blocks = {path: [block for block in parts(text)[2] if not SEARCH.match(block)] for path, text in old.items()}
+    while True:
+        for path in old:
+            shown(path, blocks[path], old[path])
+        log, _ = check(crate, "--margin")
+        before = dict(blocks)
+        for file, goals in OPEN.findall(log):
+            path, names = crate / file, set(re.findall(r"`([^`]+)`", goals))
+            if path in old:
+                whole = parts(old[path])[2]
+                more = [b for b in whole if b in blocks[path] or SEARCH.match(b) and is_of(SEARCH.match(b).group(1), names)]
+                blocks[path] = more if more != blocks[path] else whole
+        if blocks == before:
+            return blocks
+        print("%d answers are needed" % searches(blocks), flush=True)
+
+
+def searches(blocks):
+    return sum(bool(SEARCH.match(block)) for of in blocks.values() for block in of)
+
+
+def is_of(answer, goals):
+    """Whether an answer is that of a goal, or of a clause of it."""
+    return any(answer == goal or answer.startswith(goal + "-clause-") or goal.startswith(answer + "-clause-") for goal in goals)
+
+
+def ways(laws):
+    """Each smaller set of laws, the least first."""
+    for n in range(1, len(laws)):
+        for some in itertools.combinations(laws, n):
+            if some != ("rules",):
+                yield "search %s" % (some[0] if n == 1 else "(%s)" % ", ".join(some))
+
+
+def fewer(crate, old, blocks):
+    """The blocks with the smallest sets of laws that are proved."""
+    tries = {}
+    for path, text in old.items():
+        trial = list(blocks[path])
+        for n, block in enumerate(blocks[path]):
+            search = SEARCH.match(block)
+            for k, way in enumerate(ways(re.split(r",\s*", search.group(3) or search.group(4))) if search else ()):
+                name = "try-%d-%d" % (n, k)
+                trial.append("%s : goal.%s\n%s%s = %s" % (name, search.group(1), name, search.group(2), way))
+                tries[path, name] = n, way
+        shown(path, trial, text)
+    if not tries:
+        return 0
+    log, _ = check(crate)
+    refused, chosen = {(crate / file, name) for file, name in REFUSED.findall(log)}, {}
+    for (path, name), (n, way) in tries.items():
+        if (path, name) not in refused:
+            chosen.setdefault((path, n), way)
+    for (path, n), way in chosen.items():
+        blocks[path][n] = re.sub(r"search (?:\([^()]*\)|\S+)\s*\Z", way, blocks[path][n])
+    return len(chosen)
 
 
 def main():
@@ -133,32 +121,26 @@ def main():
     parser.add_argument("functions", nargs="*", metavar="FUNCTION")
     args = parser.parse_args()
     crate = pathlib.Path("crates", args.crate)
-    files, kept_laws = sorted(crate.glob("proofs/**/Proof.antt")), bent(crate)
-    of = lambda f: set(f.parent.name.lstrip("+").split("+"))
-    files = [f for f in files if (of(f) & set(args.functions) if args.functions else not of(f) & kept_laws)]
-    old = {f: f.read_text(encoding="utf-8") for f in files}
-    kept, count = old, 0
+    if not check(crate)[1]:
+        sys.exit("shorten.py: %s is not proved" % args.crate)
+    files = {path for function in args.functions for path in files_of(crate, function)} or (
+        set(crate.glob("proofs/**/Answers.antt")) - bent(crate))
+    old = {path: path.read_text(encoding="utf-8") for path in sorted(files)}
+    old = {path: text for path, text in old.items() if " as goal\n" in text}  # and no laws that are called so
+    count, proved = searches({path: parts(text)[2] for path, text in old.items()}), False
     try:
-        with tempfile.TemporaryDirectory() as folder:
-            log, _ = check(args.crate, "--generated", folder)
-            if "\ngenerated=" not in log:
-                sys.exit("shorten.py: no crate %s here, or its code does not pass" % args.crate)
-            trial = {f: tried(old[f], pathlib.Path(folder)) for f in files}
-        for f in files:
-            f.write_text(trial[f][0], encoding="utf-8")
-        log, _ = check(args.crate)
-        refused = [(pathlib.Path(file).resolve(), name) for file, name in REFUSED.findall(log)]
-        new = {}
-        for f in files:
-            new[f], n = shortened(old[f], trial[f][1], {name for file, name in refused if file == f.resolve()})
-            f.write_text(new[f], encoding="utf-8")
-            count += n
-        _, proved = check(args.crate)
-        kept = new if proved else old
+        blocks = needed(crate, old)
+        less = fewer(crate, old, blocks)
+        for path in old:
+            shown(path, blocks[path], old[path])
+        proved = check(crate)[1]
     finally:
-        for f in files:
-            f.write_text(kept[f], encoding="utf-8")
-    print("%d answers name fewer laws" % count if proved else "not proved with fewer laws: all is as it was")
+        for path in old if not proved else ():
+            path.parent.mkdir(parents=True, exist_ok=True)
+            path.write_text(old[path], encoding="utf-8")
+    if not proved:
+        sys.exit("not proved with fewer: all is as it was")
+    print("%d of %d answers are left, %d of them with fewer laws" % (searches(blocks), count, less))
 
 
 if __name__ == "__main__":

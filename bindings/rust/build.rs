@@ -1,6 +1,7 @@
-//! Links liboptc.a: the one in the folder that OPTC_LIBRARY names, or else the one that `rt staticlib optc` proves and
-//! writes in the root of the repository.
+//! Links liboptc.a: the one in the folder that OPTC_LIBRARY names, or else the one that `rt lib` proves and builds in
+//! `crates/optc`.
 use std::env;
+use std::fs;
 use std::io::ErrorKind;
 use std::path::{Path, PathBuf};
 use std::process::{exit, Command, Output};
@@ -48,24 +49,39 @@ fn given(folder: &Path) -> Result<PathBuf, String> {
 }
 
 fn built(root: &Path) -> Result<PathBuf, String> {
-    for source in ["crates", "crates.txt"] {
-        println!("cargo:rerun-if-changed={}", root.join(source).display());
+    for source in sources(root) {
+        println!("cargo:rerun-if-changed={}", source.display());
     }
-    match Command::new("rt").args(["staticlib", "optc"]).current_dir(root).output() {
-        Ok(run) if run.status.success() => Ok(root.join("target/staticlib")),
-        Ok(run) => Err(format!("`rt staticlib optc` failed ({}). Its last lines:\n{}", run.status, last_lines(&run))),
+    let optc = root.join("crates/optc");
+    match Command::new("rt").arg("lib").current_dir(&optc).output() {
+        Ok(run) if run.status.success() => Ok(optc.join("out")),
+        Ok(run) => {
+            Err(format!("`rt lib` in crates/optc failed ({}). Its last lines:\n{}", run.status, last_lines(&run)))
+        }
         Err(why) if why.kind() == ErrorKind::NotFound => Err(format!(
             "`rt`, the Rattle toolchain, which proves and builds {ARCHIVE}, is not on the PATH. Install it, or set \
              {VARIABLE} to a folder that holds {ARCHIVE}."
         )),
-        Err(why) => Err(format!("`rt staticlib optc` could not be started: {why}.")),
+        Err(why) => Err(format!("`rt lib` could not be started: {why}.")),
     }
 }
 
-/// The end says why, once the crates are left out that were not tried because another is not proved.
+/// What the archive is made of: of each crate the folders beside `out`, in which `rt` keeps its work.
+fn sources(root: &Path) -> Vec<PathBuf> {
+    let mut found = vec![root.join("crates.txt")];
+    for folder in fs::read_dir(root.join("crates")).into_iter().flatten().flatten() {
+        found.extend(
+            ["src", "specs", "proofs"].map(|part| folder.path().join(part)).into_iter().filter(|part| part.is_dir()),
+        );
+    }
+    found
+}
+
+/// The end says why, once the lines are left out that say what was loaded and what is proved.
 fn last_lines(run: &Output) -> String {
     let text = [&run.stdout[..], &run.stderr[..]].concat();
     let text = String::from_utf8_lossy(&text);
-    let lines: Vec<&str> = text.lines().filter(|line| !line.contains(" NOT PROVED: its dependency ")).collect();
+    let loaded = |line: &str| ["library ", "statements ", "axioms "].iter().any(|word| line.starts_with(word));
+    let lines: Vec<&str> = text.lines().filter(|line| !loaded(line) && !line.ends_with(": proved")).collect();
     lines[lines.len().saturating_sub(20)..].join("\n")
 }

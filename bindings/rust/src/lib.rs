@@ -68,7 +68,7 @@
 //! The examples below make their bytes with the functions of `tests/binding/form.rs`, among them `schema` and `seven`
 //! for the story above.
 //!
-//! `build.rs` has the archive proved and built by `rt staticlib optc`, or links the one in the folder that the
+//! `build.rs` has the archive proved and built by `rt lib` in `crates/optc`, or links the one in the folder that the
 //! environment variable `OPTC_LIBRARY` names. It is built for x86-64 Linux.
 #![deny(unsafe_code, missing_docs)]
 
