@@ -1,4 +1,4 @@
--- `hex::digits::decode` meets its contract, by its loop's invariant and laws.
+-- `hexadecimal::digits::decode` meets its contract, by its loop's invariant and laws.
 -- Assumes nothing.
 use Rattle.basis.proofs.Kit.{rules}
 use Rattle.hexadecimal.proofs.SpellingLaws.{spelling-laws}

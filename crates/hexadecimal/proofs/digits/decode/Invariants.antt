@@ -1,4 +1,4 @@
--- `hex::digits::decode` meets its contract, by its loop's invariant and laws.
+-- `hexadecimal::digits::decode` meets its contract, by its loop's invariant and laws.
 -- Assumes nothing.
 use Rattle.std.specs.Prelude.{◌-◌, length}
 use Rattle.hexadecimal.proofs.SpellingLaws.{Spelling}

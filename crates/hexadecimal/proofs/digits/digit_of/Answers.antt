@@ -1,4 +1,4 @@
--- `hex::digits::digit_of` meets its contract.
+-- `hexadecimal::digits::digit_of` meets its contract.
 -- Assumes nothing.
 use Rattle.basis.proofs.Kit.{rules}
 use Rattle.hexadecimal.proofs.DigitLaws.{digit-laws}

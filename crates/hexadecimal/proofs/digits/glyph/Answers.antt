@@ -1,4 +1,4 @@
--- `hex::digits::glyph` meets its contract.
+-- `hexadecimal::digits::glyph` meets its contract.
 -- Assumes nothing.
 use Rattle.hexadecimal.proofs.GlyphLaws.{glyph-laws}
 use Rattle.hexadecimal.proofs.digits.glyph.Goals as goal
