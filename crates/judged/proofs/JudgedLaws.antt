@@ -39,7 +39,7 @@ module _ (room : ℕ) (v : Judged) (a : Answer) where
     unfolding answer_in
     answer-done h e = rw g (simp (answer_in, le-ltb _ _ h) e)
 
-pub ruleset answer-laws = (answer-absent, answer-refused, answer-no-room, answer-done)
+pub ruleset answer_laws = (answer-absent, answer-refused, answer-no-room, answer-done)
 
 -- ---- whatever the outcome is on which this is the verdict, the answer is its own
 pub answer-in : {o : Outcome ℕ} {v : Judged} → Judges o v → (room : ℕ) → answer_in room v ≡ answer_of (within room o)

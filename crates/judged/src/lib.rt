@@ -16,6 +16,7 @@ pub enum Judged {
 }
 
 // What is answered of a verdict where there is room for so many bytes.
+#[tactic(auto, using(crate::proofs::JudgedLaws::answer_laws), unfolding(crate::specs::inner::Answering::answer_in))]
 pub fn answer_in(room: usize, judged: Judged) -> Answer
     ensures { result ≡ answer_in room judged }
 {

@@ -40,4 +40,4 @@ module _ (k : ℕ) (e : ℤ) (f : SFits w32 e) where
   unfolding end_of
   end-next h z = rw (to_z-of_z f, to_z-of_z (next_fits e f z)) (simp (end_of, ne_eqb k enum_reserved h, last-no e z))
 
-pub ruleset end-laws = (end_kept, end_none, end_fits, end-next)
+pub ruleset end_laws = (end_kept, end_none, end_fits, end-next)

@@ -24,6 +24,7 @@ pub enum End {
 const ENUM_RESERVED: u32 = 2;
 
 // A range of a descriptor ends before its end, but for an enum's; the largest word has no successor.
+#[tactic(auto, using(crate::proofs::EndLaws::end_laws))]
 fn end_of(kind: u32, end: i32) -> End
     ensures { result ≡ end_of kind end }
 {

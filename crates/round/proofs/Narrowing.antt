@@ -105,7 +105,7 @@ module _ (e t r : ℕ) (h : t < 2 ^ 52) where
       pub finite-over : 0x7f80_0000 ≤ (e - 897) * 0x80_0000 + r → 0x7f80_0000 ≡ bits_of false e t
       finite-over b = omega (arith, high_bits)
 
-pub ruleset finite-laws = (finite-zero, finite-low, finite-low-le, finite-low-fits, finite-high, finite-over, finite-high-fits)
+pub ruleset finite_laws = (finite-zero, finite-low, finite-low-le, finite-low-fits, finite-high, finite-over, finite-high-fits)
 
 -- ---- the sign, the infinities and the NaNs
 narrow_signed : (s : Bool) (d q k l : ℕ)

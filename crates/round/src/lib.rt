@@ -88,6 +88,7 @@ pub fn int_to_f64_bits(minus: bool, size: u64) -> u64
 }
 
 // A finite double of the exponent field e and the fraction field t, with the sign clear, as a float's bits.
+#[tactic(auto, using(crate::proofs::Narrowing::finite_laws))]
 fn finite(e: u64, t: u64) -> u32
     requires { (e < 2047) × (t < 2 ^ 52) }
     ensures { (result ≡ to_bits binary32 (narrow (of_fields binary64 false e t))) × (result ≤ 0x7f80_0000) }

@@ -59,4 +59,4 @@ module _ (t w : ℕ) (p : Payload) (x : ℕ) (q : x ≡ wire_of t) where
     pub known-whole : (at size v : ℕ) → p ≡ Whole at size v → (u : ℕ) → u ≡ value_of t v → Record at size u (at + size) ≡ known_taken t w p
     known-whole at size v g u y = rw on-wire (rw (g, y))
 
-pub ruleset known-laws = (fits-laws, known-other-wire, known-cut, known-whole)
+pub ruleset known_laws = (fits-laws, known-other-wire, known-cut, known-whole)

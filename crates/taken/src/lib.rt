@@ -44,6 +44,7 @@ pub fn take_unknown(payload: Payload) -> Taken
 }
 
 // Of a number that is declared by this type.
+#[tactic(auto, using(crate::proofs::TakenLaws::known_laws))]
 pub fn take_known(typ: usize, wire: u8, payload: Payload) -> Taken
     requires { PayloadIn most_option_bytes payload }
     ensures { result ≡ known_taken typ wire payload }
