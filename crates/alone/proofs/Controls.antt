@@ -1,8 +1,7 @@
 -- Closed cases of the definitions, which the checker computes: of a request of three options each one alone, and what they come to where
 -- nothing is found; of an option that is not there the heading alone; of no heading all the bytes.
 -- Assumes nothing.
-use Rattle.std.specs.Prelude.{◌≡◌, refl, false, List, [], ◌∷◌, ◌++◌, map, ℕ}
-use Rattle.basis.specs.Kit.{Option, none, some}
+use Rattle.std.specs.Prelude.{◌≡◌, refl, false, List, [], ◌∷◌, ◌++◌, map, ℕ, Option, None, Some}
 use lib.ListN.{get_elem?}
 use Prim.Native.String.{String}
 use Rattle.basis.specs.First.{told}
@@ -75,10 +74,10 @@ abbrev empty : Message
 empty = record { name = ascii "o.F"; place = record { file = 0; message = false; body = span 0 0; left = 0 } }
 
 abbrev fault_in : (r : List ℕ) (option : ℕ) → Option Fault
-fault_in r i = told none (λ o. fault_of (settle nothing [] r (ascii "o") empty o)) (get_elem? (request_of r).options i)
+fault_in r i = told None (λ o. fault_of (settle nothing [] r (ascii "o") empty o)) (get_elem? (request_of r).options i)
 
 abbrev faults : List (Option Fault)
-faults = map (λ w. some (fault_at 0 w)) (BuiltinOptionNotFound ∷ ExtensionNotFound ∷ BuiltinOptionNotFound ∷ [])
+faults = map (λ w. Some (fault_at 0 w)) (BuiltinOptionNotFound ∷ ExtensionNotFound ∷ BuiltinOptionNotFound ∷ [])
 
 together : map (fault_in three) (0 ∷ 1 ∷ 2 ∷ []) ≡ faults
 unfolding request_of heading_of leaf_at field_at big_at walk_by option_in option_of part_of constant_of bool_of items_in settle builtin_of is_skipped

@@ -1,7 +1,7 @@
 -- What an option comes to does not depend on what stands around it. The statement stands at the end.
 -- Assumes nothing.
-use Rattle.std.specs.Prelude.{◌≡◌, refl, true, List, [], ◌∷◌, ◌++◌, ℕ, ◌+◌, ◌-◌, ◌≤◌, length, take}
-use Rattle.basis.specs.Kit.{sym, ap, ◌∙◌, some}
+use Rattle.std.specs.Prelude.{◌≡◌, refl, true, List, [], ◌∷◌, ◌++◌, ℕ, ◌+◌, ◌-◌, ◌≤◌, length, take, Some}
+use Rattle.basis.specs.Kit.{sym, ap, ◌∙◌}
 use Rattle.basis.proofs.Kit.{arith}
 use lib.ListN.{get_elem?}
 use Rattle.limits.specs.Figures.{most_request}
@@ -169,7 +169,7 @@ module _ (r : List ℕ) (f : judge_request r ≡ Fine) (h : Heading) (q : headin
 -- ==== the statement
 -- An option that is taken out of its fine request and put into a request of its own, with the same scope and options type, is fine there,
 -- is the only option, and has the same fault as before, or none.
-pub own-request : (r : List ℕ) → judge_request r ≡ Fine → (i : ℕ) (o : tree.Option) → get_elem? (request_of r).options i ≡ some o → Own r i o
+pub own-request : (r : List ℕ) → judge_request r ≡ Fine → (i : ℕ) (o : tree.Option) → get_elem? (request_of r).options i ≡ Some o → Own r i o
 unfolding request_of
 own-request r f i o g =
     let v = fine-options r f (heading_of r) refl in

@@ -3,8 +3,8 @@
 --   Placed r from w i o <-> the i-th of the fields w, from the place `from` on in r, is a fine option, and in the tree it is o
 --
 -- Assumes nothing.
-use Rattle.std.specs.Prelude.{◌≡◌, refl, Bool, true, false, List, ℕ, zero, suc, ◌+◌, ◌-◌, ◌≤◌, ◌<◌, ltb, length}
-use Rattle.basis.specs.Kit.{sym, ap, ◌∙◌, some}
+use Rattle.std.specs.Prelude.{◌≡◌, refl, Bool, true, false, List, ℕ, zero, suc, ◌+◌, ◌-◌, ◌≤◌, ◌<◌, ltb, length, Some}
+use Rattle.basis.specs.Kit.{sym, ap, ◌∙◌}
 use Rattle.basis.proofs.Kit.{arith}
 use lib.ListN.{get_elem?}
 use borrow.Author.Tests.{ltb-true, ltb-false}
@@ -65,7 +65,7 @@ module _ (r : List ℕ) where
           next = fine-option-next r n at (length r) f l (Whole t a e) q t a e refl;
         }
 
-    opened : (i : ℕ) (o : tree.Option) → get_elem? (options_in r (walk r at (length r))) i ≡ some o → Opened r n at
+    opened : (i : ℕ) (o : tree.Option) → get_elem? (options_in r (walk r at (length r))) i ≡ Some o → Opened r n at
     opened i o g = go (ltb at (length r)) refl
       where
         go : (b : Bool) → ltb at (length r) ≡ b → Opened r n at
@@ -75,13 +75,13 @@ module _ (r : List ℕ) where
             never cc
 
   pub placed : (i n at : ℕ) (o : tree.Option) → each_from BadRequest (judge_option r) n (walk r at (length r)) ≡ Fine
-      → get_elem? (options_in r (walk r at (length r))) i ≡ some o → Placed r at (walk r at (length r)) i o
+      → get_elem? (options_in r (walk r at (length r))) i ≡ Some o → Placed r at (walk r at (length r)) i o
   unfolding option_in
   placed zero n at o f g =
       let x = opened n at f zero o g in
       let b = field-bounds r at (length r) (field_at r at (length r)) refl option_tag x.from x.to x.field in
       let e : x.from - header ≡ at = omega (arith, b.starts) in
-      let z : some (option_of r x.from x.to) ≡ some o = ap (λ (w : Walk). get_elem? (options_in r w) zero) (sym x.walks) ∙ g in
+      let z : Some (option_of r x.from x.to) ≡ Some o = ap (λ (w : Walk). get_elem? (options_in r w) zero) (sym x.walks) ∙ g in
       record {
         at = at;
         start = x.from;

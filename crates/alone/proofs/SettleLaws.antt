@@ -4,8 +4,8 @@
 --   SameWhole w v v' <-> the same part is the whole name of a builtin, or none is
 --
 -- Assumes nothing.
-use Rattle.std.specs.Prelude.{◌≡◌, refl, Bool, true, false, List, [], ◌∷◌, ℕ, ◌+◌, eqb}
-use Rattle.basis.specs.Kit.{ap, Option, none, some}
+use Rattle.std.specs.Prelude.{◌≡◌, refl, Bool, true, false, List, [], ◌∷◌, ℕ, ◌+◌, eqb, Option, None, Some}
+use Rattle.basis.specs.Kit.{ap}
 use mathlib.Core.Path.{subst}
 use Rattle.basis.specs.First.{only_if, told}
 use Rattle.basis.proofs.Never.{never}
@@ -52,14 +52,14 @@ pub data SameBuilt : Built → Built → Type 0 where
   both-bad : (why : Refusal) → SameBuilt (Wrong why) (Wrong why)
 
 pub data SameWhole {r r' : List ℕ} (w : Twin r r') : Option Part → Option Part → Type 0 where
-  no_whole : SameWhole w none none
-  a-whole : {p p' : Part} → SamePart w p p' → SameWhole w (some p) (some p')
+  no_whole : SameWhole w None None
+  a-whole : {p p' : Part} → SamePart w p p' → SameWhole w (Some p) (Some p')
 
 whole_same : {r r' : List ℕ} (w : Twin r r') {ps qs : List Part} → SameParts w ps qs → SameWhole w (builtin_part ps) (builtin_part qs)
 whole_same w no-parts = no_whole
 whole_same w (part_then {p} {p'} q no-parts) = go p.extension p'.extension q.extension
   where
-    go : (b b' : Bool) → b ≡ b' → SameWhole w (only_if b none (some p)) (only_if b' none (some p'))
+    go : (b b' : Bool) → b ≡ b' → SameWhole w (only_if b None (Some p)) (only_if b' None (Some p'))
     go true true e = no_whole
     go true false e = never cc
     go false true e = never cc
@@ -82,8 +82,8 @@ module _ {r r' : List ℕ} (w : Twin r r') (L : Lookups) (s : List ℕ) where
 
   builtin-field : {c c' : Constants} → SameConstants w c c' → (d : Option Declaration)
       → SameBuilt (builtin_field L s r c d) (builtin_field L s r' c' d)
-  builtin-field k none = both-bad BuiltinOptionNotFound
-  builtin-field k (some d) =
+  builtin-field k None = both-bad BuiltinOptionNotFound
+  builtin-field k (Some d) =
       by-test SameBuilt (eqb d.shape.label repeated) (both-bad BuiltinOptionPointsToNonSingularField)
       (built-of d.shape (builtin-on d.shape k))
 

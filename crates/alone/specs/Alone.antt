@@ -8,8 +8,7 @@
 --                        which has the fault that o has in r, or none where o has none
 --
 -- Assumes nothing.
-use Rattle.std.specs.Prelude.{◌≡◌, List, [], ◌∷◌, ◌++◌, ℕ, zero, suc, ◌-◌, length, take}
-use Rattle.basis.specs.Kit.{Option, none, some}
+use Rattle.std.specs.Prelude.{◌≡◌, List, [], ◌∷◌, ◌++◌, ℕ, zero, suc, ◌-◌, length, take, Option, None, Some}
 use Rattle.octets.specs.Octets.{part}
 use Rattle.reply.specs.declared.Verdict.TheVariants.{Fine}
 use Rattle.field.specs.Field.{header}
@@ -38,9 +37,9 @@ unfoldable pub alone : (r : List ℕ) (option : ℕ) → List ℕ
 alone r i = alone_with r i (heading_of r)
 
 abbrev pub fault_of : Settled → Option Fault
-fault_of (known k) = none
-fault_of (others x) = none
-fault_of (fails f) = some f
+fault_of (known k) = None
+fault_of (others x) = None
+fault_of (fails f) = Some f
 
 pub record Own (r : List ℕ) (i : ℕ) (o : tree.Option) : Type 0 where
   pub fine : judge_request (alone r i) ≡ Fine

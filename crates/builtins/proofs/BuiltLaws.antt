@@ -1,8 +1,8 @@
 -- What a builtin comes to: the ways through `put_builtin`; for callers, that its body lies in the request, and how many bytes its record
 -- has.
 -- Assumes nothing.
-use Rattle.std.specs.Prelude.{◌≡◌, refl, Bool, true, false, List, ℕ, ◌+◌, ◌-◌, ◌≤◌, eqb, length, drop}
-use Rattle.basis.specs.Kit.{sym, ◌∙◌, Option, none, some}
+use Rattle.std.specs.Prelude.{◌≡◌, refl, Bool, true, false, List, ℕ, ◌+◌, ◌-◌, ◌≤◌, eqb, length, drop, Option, None, Some}
+use Rattle.basis.specs.Kit.{sym, ◌∙◌}
 use Rattle.basis.proofs.Kit.{arith}
 use Rattle.basis.proofs.Never.{never}
 use native.Mathlib.Nat.{add-zero}
@@ -19,7 +19,7 @@ use Rattle.request.specs.declared.constant.Constant.{Constant}
 use Rattle.request.specs.declared.constant.Held.{Held}
 use Rattle.request.specs.declared.constant.Held.TheVariants.{Holds, NoConstant}
 use Rattle.request.specs.Constant.{constant_of}
-use Rattle.request.specs.Tree.{unnamed, Constants, none as no_constant, ConstantReader, grown, if_held, constant_in}
+use Rattle.request.specs.Tree.{unnamed, Constants, None as no_constant, ConstantReader, grown, if_held, constant_in}
 use Rattle.request.proofs.ConstantLaws.{text-span, span-place}
 use Rattle.records.specs.declared.Body.{Body}
 use Rattle.records.specs.declared.Body.TheVariants.{Bits, Bytes}
@@ -86,8 +86,8 @@ module _ (L : Lookups) (s r : List ℕ) (h : Shape) (b : Body) where
     shape-sets x (Misfit w) g = never cc
 
     field-sets : (o : Option Declaration) → builtin_field L s r k o ≡ Sets h b → builtin_on L s r h k ≡ Fits b
-    field-sets none g = never cc
-    field-sets (some d) g = go (eqb d.shape.label repeated) _ g
+    field-sets None g = never cc
+    field-sets (Some d) g = go (eqb d.shape.label repeated) _ g
       where
         go : (z : Bool) (w : Refusal) → elim z [ true ↦ Wrong w | false ↦ built_of d.shape (builtin_on L s r d.shape k) ] ≡ Sets h b
             → builtin_on L s r h k ≡ Fits b

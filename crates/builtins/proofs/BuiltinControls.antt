@@ -1,7 +1,6 @@
 -- Closed cases of builtins, which the checker computes: of each rule one that holds, one at its border, one just past it.
 -- Assumes nothing.
-use Rattle.std.specs.Prelude.{◌≡◌, refl, true, false, List, [], ◌∷◌, ◌++◌, map, ℕ, length}
-use Rattle.basis.specs.Kit.{none, some}
+use Rattle.std.specs.Prelude.{◌≡◌, refl, true, false, List, [], ◌∷◌, ◌++◌, map, ℕ, length, None, Some}
 use lib.ListN.{replicate}
 use Rattle.octets.specs.Octets.{same_bytes, big_at}
 use Rattle.octets.specs.Ascii.{ascii}
@@ -18,7 +17,7 @@ use Rattle.sheet.specs.Tree.{value_in, items_in}
 use Rattle.scope.proofs.Sample.{value}
 use Rattle.request.specs.declared.constant.Constant.{Constant}
 use Rattle.request.specs.declared.constant.Constant.TheVariants.{Bool as BoolOf, Integer, Text, Ident}
-use Rattle.request.specs.Tree.{unnamed, Constants, none as no_constant, scalar, message, list}
+use Rattle.request.specs.Tree.{unnamed, Constants, None as no_constant, scalar, message, list}
 use Rattle.fullname.specs.declared.LookedUpEnum.TheVariants.{Values}
 use Rattle.records.specs.declared.Body.TheVariants.{Bits, Bytes}
 use Rattle.lookups.specs.Lookups.{Lookups, walking}
@@ -91,10 +90,10 @@ misfits = refl
 unfoldable at : (label typ : ℕ) → Built
 unfolding scalar_on bool_on
 at l t =
-    builtin_field one-enum sheet request (single (BoolOf true)) (some (record { name = span 0 0; extendee = span 0 0; shape = shape l t }))
+    builtin_field one-enum sheet request (single (BoolOf true)) (Some (record { name = span 0 0; extendee = span 0 0; shape = shape l t }))
 
 fields :
-    builtin_field one-enum sheet request no_constant none ∷ at 1 TYPE_BOOL ∷ at 2 TYPE_BOOL ∷ at 3 TYPE_BOOL ∷ at 3 TYPE_STRING ∷ []
+    builtin_field one-enum sheet request no_constant None ∷ at 1 TYPE_BOOL ∷ at 2 TYPE_BOOL ∷ at 3 TYPE_BOOL ∷ at 3 TYPE_STRING ∷ []
     ≡ Wrong BuiltinOptionNotFound ∷ Sets (shape 1 TYPE_BOOL) (Bits 1) ∷ Sets (shape 2 TYPE_BOOL) (Bits 1)
     ∷ Wrong BuiltinOptionPointsToNonSingularField ∷ Wrong BuiltinOptionPointsToNonSingularField ∷ []
 unfolding at

@@ -1,7 +1,7 @@
 -- Builtins, over any look-ups: the ways through the functions that say what a constant on one comes to.
 -- Assumes nothing.
-use Rattle.std.specs.Prelude.{◌≡◌, refl, Bool, true, false, ◌&&◌, ◌||◌, List, [], ◌∷◌, ℕ, ◌-◌, eqb}
-use Rattle.basis.specs.Kit.{sym, ap, ◌∙◌, some}
+use Rattle.std.specs.Prelude.{◌≡◌, refl, Bool, true, false, ◌&&◌, ◌||◌, List, [], ◌∷◌, ℕ, ◌-◌, eqb, Some}
+use Rattle.basis.specs.Kit.{sym, ap, ◌∙◌}
 use Rattle.basis.proofs.Kit.{eq-eqb, ne_eqb}
 use Rattle.octets.specs.Octets.{same_bytes}
 use Rattle.octets.specs.Ascii.{ascii}
@@ -110,17 +110,17 @@ pub ruleset on-laws = (on_none, on-plain, on-other, read-inside)
 
 -- ---- builtin_field
 module _ (L : Lookups) (s r : List ℕ) (d : Declaration) (c : Constants) where
-  pub field-repeated : d.shape.label ≡ repeated → Wrong BuiltinOptionPointsToNonSingularField ≡ builtin_field L s r c (some d)
+  pub field-repeated : d.shape.label ≡ repeated → Wrong BuiltinOptionPointsToNonSingularField ≡ builtin_field L s r c (Some d)
   field-repeated e = rw (eq-eqb d.shape.label repeated e, builtin_field)
 
   module _ (o : d.shape.label ≡ repeated → ⊥) (x : Scalar) (q : x ≡ builtin_on L s r d.shape c) where
-    field_is : built_of d.shape x ≡ builtin_field L s r c (some d)
+    field_is : built_of d.shape x ≡ builtin_field L s r c (Some d)
     field_is = rw (ne_eqb d.shape.label repeated o, builtin_field) (ap (built_of d.shape) q)
 
-    pub field_fits : (b : Body) → x ≡ Fits b → Sets d.shape b ≡ builtin_field L s r c (some d)
+    pub field_fits : (b : Body) → x ≡ Fits b → Sets d.shape b ≡ builtin_field L s r c (Some d)
     field_fits b g = sym (ap (built_of d.shape) g) ∙ field_is
 
-    pub field-misfit : (w : Refusal) → x ≡ Misfit w → Wrong w ≡ builtin_field L s r c (some d)
+    pub field-misfit : (w : Refusal) → x ≡ Misfit w → Wrong w ≡ builtin_field L s r c (Some d)
     field-misfit w g = sym (ap (built_of d.shape) g) ∙ field_is
 
 pub ruleset field_laws = (field-repeated, field_fits, field-misfit)
@@ -139,7 +139,7 @@ module _ (L : Lookups) (s r m : List ℕ) (p : LookupScope) (n : List ℕ) (c : 
     pub of_none : x ≡ NoDeclaration → Wrong BuiltinOptionNotFound ≡ builtin_of L s r (record { name = m; place = p }) n c
     of_none e = sym (ap (builtin_field L s r c) (declared-none x (field_named s n p) y e)) ∙ of_field
 
-    pub of-found : (d : Declaration) → x ≡ Declares d → (z : Built) → z ≡ builtin_field L s r c (some d)
+    pub of-found : (d : Declaration) → x ≡ Declares d → (z : Built) → z ≡ builtin_field L s r c (Some d)
         → z ≡ builtin_of L s r (record { name = m; place = p }) n c
     of-found d e z o = o ∙ sym (ap (builtin_field L s r c) (declared-some x (field_named s n p) y d e)) ∙ of_field
 

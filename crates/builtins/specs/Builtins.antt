@@ -8,8 +8,7 @@
 --       built_recs r b ==  the record of a builtin that is set
 --
 -- Assumes nothing.
-use Rattle.std.specs.Prelude.{Bool, true, false, ◌&&◌, ◌||◌, List, [], ◌∷◌, ℕ, eqb}
-use Rattle.basis.specs.Kit.{Option, none, some}
+use Rattle.std.specs.Prelude.{Bool, true, false, ◌&&◌, ◌||◌, List, [], ◌∷◌, ℕ, eqb, Option, None, Some}
 use Rattle.octets.specs.Octets.{same_bytes}
 use Rattle.octets.specs.Ascii.{ascii}
 use Rattle.reply.specs.declared.Refusal.TheVariants.{BuiltinOptionNotFound, BuiltinOptionPointsToNonSingularField}
@@ -17,7 +16,7 @@ use Rattle.reply.specs.declared.Refusal.TheVariants.{UnsupportedExtensionType}
 use Rattle.types.specs.Types.{is_any, TYPE_BOOL, TYPE_STRING, TYPE_ENUM}
 use Rattle.sheet.specs.declared.declaration.Shape.{Shape}
 use Rattle.sheet.specs.declared.declaration.Declaration.{Declaration}
-use Rattle.request.specs.Tree.{Constants, none as no_constant, scalar, message, list}
+use Rattle.request.specs.Tree.{Constants, None as no_constant, scalar, message, list}
 use Rattle.records.specs.Records.{Recs, nil, record_of}
 use Rattle.lookups.specs.Lookups.{Lookups, Message, field_named}
 use Rattle.scalars.specs.declared.Scalar.{Scalar}
@@ -55,8 +54,8 @@ module _ (L : Lookups) (s r : List ℕ) where
 
   -- "Else the field must exist, not be repeated" [BUILTIN-2, BUILTIN-3]
   abbrev pub builtin_field : Constants → Option Declaration → Built
-  builtin_field c none = Wrong BuiltinOptionNotFound
-  builtin_field c (some d) = elim (eqb d.shape.label repeated) [
+  builtin_field c None = Wrong BuiltinOptionNotFound
+  builtin_field c (Some d) = elim (eqb d.shape.label repeated) [
     | true ↦ Wrong BuiltinOptionPointsToNonSingularField
     | false ↦ built_of d.shape (builtin_on d.shape c)
   ]

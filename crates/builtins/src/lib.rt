@@ -1,8 +1,7 @@
 // Builtins: a single direct part, on a field of the options message.
 #![tactic(auto)]
 
-ghost use Rattle.std.specs.Prelude.{◌≡◌, [], ◌∷◌, ◌+◌, ◌^◌, ◌≤◌, ◌<◌, length};
-ghost use Rattle.basis.specs.Kit.{some};
+ghost use Rattle.std.specs.Prelude.{◌≡◌, [], ◌∷◌, ◌+◌, ◌^◌, ◌≤◌, ◌<◌, length, Some};
 ghost use Rattle.octets.specs.inner.Laid.{Laid};
 ghost use Rattle.limits.specs.Figures.{most_constants};
 ghost use Rattle.types.specs.Types.{is_any, TYPE_BOOL, TYPE_STRING, TYPE_ENUM};
@@ -84,7 +83,7 @@ fn builtin_field(
     requires lies { Lies found.shape.path sheet.now }
     requires from_le_to { (from ≤ to) × (to ≤ length request.now) }
     ensures { result ≡ builtin_field (walking sheet.now) sheet.now request.now
-        (constant_in most_constants request.now unnamed tag from to no_constant) (some found) }
+        (constant_in most_constants request.now unnamed tag from to no_constant) (Some found) }
 {
     let shape = found.shape;
     if shape.label == REPEATED {

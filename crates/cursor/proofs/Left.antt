@@ -1,7 +1,7 @@
 -- A loop over the scopes that a cursor has still before it: the answer v is what F, a function of scopes, gives of those.
 -- Assumes nothing.
-use Rattle.std.specs.Prelude.{◌≡◌, refl, List, [], ◌∷◌, ℕ, ◌<◌, length}
-use Rattle.basis.specs.Kit.{ap, ◌∙◌, Option, none, some}
+use Rattle.std.specs.Prelude.{◌≡◌, refl, List, [], ◌∷◌, ℕ, ◌<◌, length, Option, None, Some}
+use Rattle.basis.specs.Kit.{ap, ◌∙◌}
 use Rattle.scope.specs.declared.lookup.LookupScope.{LookupScope}
 use Rattle.cursor.specs.declared.Cursor.{Cursor}
 use Rattle.cursor.specs.declared.Next.{Next}
@@ -39,10 +39,10 @@ left_less s t c = nexts-less (ahead s t) s t c
 -- ---- where all that f makes of the scopes is asked for, one after the other
 module _ {B : Type 0} (f : Scope → Option B) (v : List B) (s t : List ℕ) (c : Cursor) (k : Left v (collect f) s t c)
     (r : Next) (q : Nexts (ahead s t) s t c r) (p : LookupScope) (c' : Cursor) (g : r ≡ At p c') where
-  pub left-some : (b : B) → f (holding s p) ≡ some b → v ≡ b ∷ collect f (ahead s t c')
+  pub left-some : (b : B) → f (holding s p) ≡ Some b → v ≡ b ∷ collect f (ahead s t c')
   left-some b e = left_step v (collect f) s t c k r q p c' g ∙ collect-some f (holding s p) (ahead s t c') b e
 
-  pub left-none : f (holding s p) ≡ none → Left v (collect f) s t c'
+  pub left-none : f (holding s p) ≡ None → Left v (collect f) s t c'
   left-none e = left-next v (collect f) s t c k r q p c' g (collect-none f (holding s p) (ahead s t c') e)
 
 pub ruleset left-laws = (left-start, left_less, nexts-lies)

@@ -5,8 +5,8 @@
 --       file_place i m e ==  the place of the i-th file, whose body is from m up to e
 --
 -- Assumes nothing.
-use Rattle.std.specs.Prelude.{◌≡◌, refl, Bool, true, false, List, ◌∷◌, ℕ, suc, ◌+◌, ◌-◌, ◌*◌, ◌^◌, ◌≤◌, ◌<◌, eqb, length, take, drop}
-use Rattle.basis.specs.Kit.{ap, ◌∙◌, Option, none, some}
+use Rattle.std.specs.Prelude.{◌≡◌, refl, Bool, true, false, List, ◌∷◌, ℕ, suc, ◌+◌, ◌-◌, ◌*◌, ◌^◌, ◌≤◌, ◌<◌, eqb, length, take, drop, Option, None, Some}
+use Rattle.basis.specs.Kit.{ap, ◌∙◌}
 use Rattle.basis.proofs.Kit.{arith, ne_eqb, not-true, not-false, w64, Fits}
 use native.Mathlib.Nat.{add-zero}
 use Rattle.basis.proofs.Never.{never}
@@ -96,10 +96,10 @@ scopes-step s t next i tag a e rest l q = rw (file-package s tag a e rest, ← q
 -- ---- a scope that names lead to
 module _ (s : List ℕ) where
   -- so it is the scope at the place that a look-up answers
-  placed-to : (o : Option Scope) → ((c : Scope) → o ≡ some c → Placed s c) → (r : Reached) → r ≡ placed o
-      → (p : LookupScope) → r ≡ To p → o ≡ some (holding s p)
-  placed-to none k r q p g = never cc
-  placed-to (some c) k r q p g = let u : p ≡ c.place = cc in rw u (ap some (k c refl).held)
+  placed-to : (o : Option Scope) → ((c : Scope) → o ≡ Some c → Placed s c) → (r : Reached) → r ≡ placed o
+      → (p : LookupScope) → r ≡ To p → o ≡ Some (holding s p)
+  placed-to None k r q p g = never cc
+  placed-to (Some c) k r q p g = let u : p ≡ c.place = cc in rw u (ap Some (k c refl).held)
 
 -- ---- follow
 pub record Following (v : Option Scope) (s t : List ℕ) (at : ℕ) (p : LookupScope) : Type 0 where
@@ -144,7 +144,7 @@ module _ (s t : List ℕ) (next i : ℕ) (l : Leaf) (e : ℕ) where
   scope-none g = rw g
 
   module _ (n m : ℕ) (g : l ≡ At n m) (x : List ℕ) (f : x ≡ take (next - 1) t) (b : Bool) (y : b ≡ same_bytes x (part s n m)) where
-    scope-open : scope_at s t next i l e ≡ only_if b (follow s (names_from t next) (holding s (file_place i m e))) none
+    scope-open : scope_at s t next i l e ≡ only_if b (follow s (names_from t next) (holding s (file_place i m e))) None
     scope-open = rw (g, ← f, ← y)
 
     pub scope-elsewhere : b ≡ false → Nowhere ≡ placed (scope_at s t next i l e)
@@ -166,26 +166,26 @@ module _ (l : Leaf) (e : ℕ) (w : Within l e) (n m : ℕ) (g : l ≡ At n m) wh
   file-lies s i h = record { ordered = w.inside n m g; within = h }
 
 module _ (s t : List ℕ) (next i : ℕ) (l : Leaf) (e : ℕ) (w : Within l e) (h : e ≤ length s) where
-  scope-placed : (c : Scope) → scope_at s t next i l e ≡ some c → Placed s c
+  scope-placed : (c : Scope) → scope_at s t next i l e ≡ Some c → Placed s c
   scope-placed c = go l w
     where
-      at : (m : ℕ) → m ≤ e → (b : Bool) → only_if b (follow s (names_from t next) (holding s (file_place i m e))) none ≡ some c → Placed s c
+      at : (m : ℕ) → m ≤ e → (b : Bool) → only_if b (follow s (names_from t next) (holding s (file_place i m e))) None ≡ Some c → Placed s c
       at m k false q = never cc
       at m k true q =
           let f : InSheet s (file_place i m e) = record { ordered = k; within = h } in
           followed-placed s (names_from t next) (holding s (file_place i m e)) (record { held = refl; lies = f }) c q
 
-      go : (l : Leaf) → Within l e → scope_at s t next i l e ≡ some c → Placed s c
+      go : (l : Leaf) → Within l e → scope_at s t next i l e ≡ Some c → Placed s c
       go Not w q = never cc
       go (At n m) w q = at m (w.inside n m refl) (same_bytes (take (next - 1) t) (part s n m)) q
 
   -- what `scope_at` answers, to its caller
   module _ (r : Reached) (q : r ≡ placed (scope_at s t next i l e)) where
-    pub scope-nowhere : r ≡ Nowhere → scope_at s t next i l e ≡ none
+    pub scope-nowhere : r ≡ Nowhere → scope_at s t next i l e ≡ None
     scope-nowhere = placed-nowhere r (scope_at s t next i l e) q
 
     module _ (p : LookupScope) (g : r ≡ To p) where
-      pub scope-to : scope_at s t next i l e ≡ some (holding s p)
+      pub scope-to : scope_at s t next i l e ≡ Some (holding s p)
       scope-to = placed-to s (scope_at s t next i l e) scope-placed r q p g
 
       pub scope-lies : InSheet s p

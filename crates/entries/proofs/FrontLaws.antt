@@ -1,7 +1,7 @@
 -- The record at a place, as the code answers it, is the item of the definition.
 -- Assumes nothing.
-use Rattle.std.specs.Prelude.{◌≡◌, refl, Bool, true, false, List, [], ◌∷◌, ℕ, ◌+◌, eqb, take, drop}
-use Rattle.basis.specs.Kit.{sym, ap, ◌∙◌, Option, none, some as is}
+use Rattle.std.specs.Prelude.{◌≡◌, refl, Bool, true, false, List, [], ◌∷◌, ℕ, ◌+◌, eqb, take, drop, Option, None}
+use Rattle.basis.specs.Kit.{sym, ap, ◌∙◌, some as is}
 use Rattle.basis.proofs.Kit.{arith}
 use Rattle.basis.proofs.Never.{never}
 use mathlib.Core.Path.{subst}
@@ -71,14 +71,14 @@ module _ (L : Lookups) (s : List ℕ) (m : Message) (at : ℕ) (bs : List ℕ) (
   shows-plain : (d : Declaration) (x : Option Extent)
       → Shows s at (plain L s m at bs d t n x)
       (known_front L s d (number_of t) w (plain_taken d.shape.typ (placed w (drop n bs) (at + n) x)))
-  shows-plain d none = wrongly
+  shows-plain d None = wrongly
   shows-plain d (is x) = shows-either s at (λ f. f) (eqb d.shape.typ TYPE_MESSAGE) _ _ _ _ (shows-inside d x) (shows-leaf d x)
 
   shows-declared : (d : Option Declaration) (x : Option Extent)
       → Shows s at (by_declaration L s m at bs d t n x) (by_declared L s d (number_of t) w (placed w (drop n bs) (at + n) x))
   unfolding unknown_of unknown_taken known_of known_taken
-  shows-declared none none = wrongly
-  shows-declared none (is x) = simp add_assoc leaf
+  shows-declared None None = wrongly
+  shows-declared None (is x) = simp add_assoc leaf
   shows-declared (is d) x =
       shows-either s at (known_front L s d (number_of t) w) (eqb (wire_of d.shape.typ) w) _ _ _ _ (shows-plain d x) wrongly
 

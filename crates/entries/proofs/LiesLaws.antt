@@ -1,7 +1,7 @@
 -- Where the record at a place lies: behind that place and before the end; a known message's path and place in the sheet.
 -- Assumes nothing.
-use Rattle.std.specs.Prelude.{◌≡◌, refl, List, ℕ, ◌+◌, ◌≤◌, ◌<◌, eqb, length}
-use Rattle.basis.specs.Kit.{sym, ap, Option, none, some as is}
+use Rattle.std.specs.Prelude.{◌≡◌, refl, List, ℕ, ◌+◌, ◌≤◌, ◌<◌, eqb, length, Option, None}
+use Rattle.basis.specs.Kit.{sym, ap, some as is}
 use Rattle.basis.proofs.Kit.{arith, not-true, not-false}
 use Rattle.limits.specs.Figures.{most_option_bytes}
 use Rattle.reply.specs.declared.Refusal.{Refusal}
@@ -80,7 +80,7 @@ module _ (s : List ℕ) (at next end : ℕ) (h : at < next) where
 
   declared-lies : (k w : ℕ) (p : Payload) → Between next end p → (o : Option Declaration)
       → ((d : Declaration) → o ≡ is d → Lies d.shape.path s) → FrontLies s at end (by_declared (walking s) s o k w p)
-  declared-lies k w p b none f = unknown-lies k w p b
+  declared-lies k w p b None f = unknown-lies k w p b
   declared-lies k w p b (is d) f = known-lies d (f d refl) k w p b
 
 -- ---- what declares a number lies in the sheet

@@ -1,7 +1,7 @@
 -- The records of a level, one after the other: the first is the item at the front, and the others are read where it ends.
 -- Assumes nothing.
-use Rattle.std.specs.Prelude.{◌≡◌, refl, List, [], ◌∷◌, ℕ, zero, suc, ◌+◌, ◌-◌, ◌≤◌, ◌<◌, eqb, length, drop}
-use Rattle.basis.specs.Kit.{sym, ap, ◌∙◌, Option, none, some as is}
+use Rattle.std.specs.Prelude.{◌≡◌, refl, List, [], ◌∷◌, ℕ, zero, suc, ◌+◌, ◌-◌, ◌≤◌, ◌<◌, eqb, length, drop, Option, None}
+use Rattle.basis.specs.Kit.{sym, ap, ◌∙◌, some as is}
 use Rattle.basis.proofs.Kit.{arith}
 use mathlib.Core.Path.{subst}
 use native.Mathlib.Nat.{add-zero}
@@ -37,7 +37,7 @@ entered-takes e name k size (Found p) h = h
 module _ (L : Lookups) (s : List ℕ) (m : Message) (place : ℕ) (bs : List ℕ) where
   module _ (t n : ℕ) (h : 1 ≤ n) where
     plain-takes : (d : Declaration) (x : Option Extent) → Takes (plain L s m place bs d t n x)
-    plain-takes d none = tt
+    plain-takes d None = tt
     plain-takes d (is x) =
         let e = entry L s m place bs d t n x in
         let name = text s d.shape.path in
@@ -47,8 +47,8 @@ module _ (L : Lookups) (s : List ℕ) (m : Message) (place : ℕ) (bs : List ℕ
         (omega arith)
 
     declared-takes : (d : Option Declaration) (x : Option Extent) → Takes (by_declaration L s m place bs d t n x)
-    declared-takes none none = tt
-    declared-takes none (is x) = omega arith
+    declared-takes None None = tt
+    declared-takes None (is x) = omega arith
     declared-takes (is d) x =
         either Takes (eqb (wire_of d.shape.typ) (wire_type_of t)) (plain L s m place bs d t n x) _ (plain-takes d x) tt
 

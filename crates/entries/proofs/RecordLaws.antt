@@ -1,7 +1,7 @@
 -- The laws of the record behind a tag, one for each way through the code: of a number that nothing declares, and of a known one.
 -- Assumes nothing.
-use Rattle.std.specs.Prelude.{◌≡◌, refl, true, List, ℕ}
-use Rattle.basis.specs.Kit.{sym, ◌∙◌, Option, none, some as is}
+use Rattle.std.specs.Prelude.{◌≡◌, refl, true, List, ℕ, Option, None}
+use Rattle.basis.specs.Kit.{sym, ◌∙◌, some as is}
 use Rattle.basis.proofs.Kit.{arith, eq-eqb, ne_eqb, Fits}
 use Rattle.basis.proofs.Never.{never}
 use mir.Syntax.{w32}
@@ -90,8 +90,8 @@ module _ (t : ℕ) (g : tag_good t ≡ true) where
   pub wire-read : (w : ℕ) → w ≡ wire_type_of t → wire_read w ≡ true
   wire-read w e = rw e (tag-good-wire t g)
 
-none-declared : (o : Option Declaration) → declared o ≡ NoDeclaration → o ≡ none
-none-declared none e = refl
+none-declared : (o : Option Declaration) → declared o ≡ NoDeclaration → o ≡ None
+none-declared None e = refl
 none-declared (is d) e = never cc
 
 module _ (s name : List ℕ) (place : LookupScope) (bs : List ℕ) (t at end k : ℕ) (i : k ≡ number_of t) (w : ℕ) (j : w ≡ wire_type_of t)
@@ -103,7 +103,7 @@ module _ (s name : List ℕ) (place : LookupScope) (bs : List ℕ) (t at end k :
 
   pub behind-unknown : a ≡ NoDeclaration → (r : Front) → r ≡ unknown_of k w p
       → r ≡ behind_tag (walking s) s (message name place) bs t at end
-  behind-unknown g r e = e ∙ sym (by-declared none (none-declared (declaration_of s (holding s place) name k) (sym c ∙ g)))
+  behind-unknown g r e = e ∙ sym (by-declared None (none-declared (declaration_of s (holding s place) name k) (sym c ∙ g)))
 
   pub behind-known : (d : Declaration) → a ≡ Declares d → (r : Front) → r ≡ known_of (walking s) s d k w p
       → r ≡ behind_tag (walking s) s (message name place) bs t at end

@@ -12,8 +12,8 @@
 --   item L s m place bs == the record at the front
 --
 -- Assumes nothing.
-use Rattle.std.specs.Prelude.{true, false, List, [], ◌∷◌, ℕ, ◌+◌, eqb, take, drop}
-use Rattle.basis.specs.Kit.{Option, none, some as is}
+use Rattle.std.specs.Prelude.{true, false, List, [], ◌∷◌, ℕ, ◌+◌, eqb, take, drop, Option, None}
+use Rattle.basis.specs.Kit.{some as is}
 use Rattle.reply.specs.declared.Refusal.{Refusal}
 use Rattle.reply.specs.declared.Refusal.TheVariants.{BadBytes, WireMismatch}
 use Rattle.field.specs.Leaf.{text}
@@ -50,7 +50,7 @@ entered e name k size (Found p) = into e (record { name = name; place = p }) k s
 module _ (L : Lookups) (s : List ℕ) (m : Message) (place : ℕ) (bs : List ℕ) where
   -- "unknown ones are not entered"; "Length-delimited and unknown records have value 0" [LIST-2, LIST-7]
   abbrev pub unknown : (tag size : ℕ) → Option Extent → Item
-  unknown t n none = wrong BadBytes
+  unknown t n None = wrong BadBytes
   unknown t n (is x) = some (record {
     number = number_of t;
     typ = 0;
@@ -74,7 +74,7 @@ module _ (L : Lookups) (s : List ℕ) (m : Message) (place : ℕ) (bs : List ℕ
   }
 
   abbrev pub plain : Declaration → (tag size : ℕ) → Option Extent → Item
-  plain d t n none = wrong BadBytes
+  plain d t n None = wrong BadBytes
   plain d t n (is x) = elim (eqb d.shape.typ TYPE_MESSAGE) [
     | true ↦ entered (entry d t n x) (text s d.shape.path) (n + x.before) x.size (L.message (text s d.shape.path))
     | false ↦ some (entry d t n x ∷ []) (n + x.before + x.size)
@@ -89,7 +89,7 @@ module _ (L : Lookups) (s : List ℕ) (m : Message) (place : ℕ) (bs : List ℕ
   known d t n x = elim (eqb (wire_of d.shape.typ) (wire_type_of t)) [ true ↦ plain d t n x | false ↦ other_wire d t n x ]
 
   abbrev pub by_declaration : Option Declaration → (tag size : ℕ) → Option Extent → Item
-  by_declaration none t n x = unknown t n x
+  by_declaration None t n x = unknown t n x
   by_declaration (is d) t n x = known d t n x
 
   -- "Wire types 3, 4, 6, 7, a number outside the range above, a longer varint or a cut record are 18" [WIRE-5, LIST-4, LIST-9]

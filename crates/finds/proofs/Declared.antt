@@ -5,8 +5,8 @@
 --      Single s <-> no two of all that the sheet declares share a full name
 --
 -- Assumes nothing.
-use Rattle.std.specs.Prelude.{◌≡◌, refl, Bool, true, ◌&&◌, List, [], ◌∷◌, ◌++◌, ℕ, ◌≤◌}
-use Rattle.basis.specs.Kit.{sym, ap, ◌∙◌, Option, none, some}
+use Rattle.std.specs.Prelude.{◌≡◌, refl, Bool, true, ◌&&◌, List, [], ◌∷◌, ◌++◌, ℕ, ◌≤◌, Option, None, Some}
+use Rattle.basis.specs.Kit.{sym, ap, ◌∙◌}
 use Rattle.basis.proofs.Kit.{arith}
 use lib.ListN.{get_elem?}
 use mathlib.Core.Bool.{true≢false}
@@ -38,49 +38,49 @@ use Rattle.finds.proofs.Files.{Filed, stood, one-file}
 pub record Made {A B : Type 0} (f : A → Option B) (xs : List A) (y : B) : Type 0 where
   pub of : A
   pub among : Among of xs
-  pub makes : f of ≡ some y
+  pub makes : f of ≡ Some y
 
 module _ {A B : Type 0} (f : A → Option B) where
   pub made : (xs : List A) (y : B) → Among y (collect f xs) → Made f xs y
   made [] y m = among-nil m
   made (x ∷ xs) y m = among-onto-cases (f x) now (λ j. later (made xs y j)) m
     where
-      now : f x ≡ some y → Made f (x ∷ xs) y
+      now : f x ≡ Some y → Made f (x ∷ xs) y
       now e = record { of = x; among = here; makes = e }
 
       later : Made f xs y → Made f (x ∷ xs) y
       later r = record { of = r.of; among = there r.among; makes = r.makes }
 
-  pub collected : {x : A} {xs : List A} {y : B} → Among x xs → f x ≡ some y → Among y (collect f xs)
+  pub collected : {x : A} {xs : List A} {y : B} → Among x xs → f x ≡ Some y → Among y (collect f xs)
   collected (here {xs}) e = among-onto-first (f _) (collect f xs) e
   collected (there {y} m) e = among-onto (f y) (collected m e)
 
-  none_made : (xs : List A) → ((x : A) → Among x xs → (b : B) → f x ≡ some b → ⊥) → collect f xs ≡ []
+  none_made : (xs : List A) → ((x : A) → Among x xs → (b : B) → f x ≡ Some b → ⊥) → collect f xs ≡ []
   none_made [] h = refl
   none_made (x ∷ xs) h = go (f x) refl (none_made xs λ y m. h y (there m))
     where
       go : (o : Option B) → f x ≡ o → collect f xs ≡ [] → onto o (collect f xs) ≡ []
-      go none e q = q
-      go (some b) e q = absurd (h x here b e)
+      go None e q = q
+      go (Some b) e q = absurd (h x here b e)
 
   -- where something is made of one alone
-  pub one-made : {xs : List A} {y : B} → Ordered (λ u v. (a b : B) → f u ≡ some a → f v ≡ some b → ⊥) xs → Among y (collect f xs)
+  pub one-made : {xs : List A} {y : B} → Ordered (λ u v. (a b : B) → f u ≡ Some a → f v ≡ Some b → ⊥) xs → Among y (collect f xs)
       → collect f xs ≡ y ∷ []
   one-made Ordered.none m = among-nil m
   one-made {y = y} (next {x} {xs} h o) m = go (f x) refl (one-made o) m
     where
       go : (r : Option B) → f x ≡ r → (Among y (collect f xs) → collect f xs ≡ y ∷ []) → Among y (onto r (collect f xs))
           → onto r (collect f xs) ≡ y ∷ []
-      go none e k j = k j
-      go (some a) e k j =
+      go None e k j = k j
+      go (Some a) e k j =
           let q = none_made xs λ v l b. h v l a b e in
           let z : y ≡ a = among_one (rw q at j) in
           rw (q, z)
 
 -- ---- the scopes at a path
-pub message-some : (c d : Scope) → message_of c ≡ some d → (c ≡ d) × (d.place.message ≡ true)
+pub message-some : (c d : Scope) → message_of c ≡ Some d → (c ≡ d) × (d.place.message ≡ true)
 message-some c d e =
-    let r = only-some c.place.message (some c) d e in
+    let r = only-some c.place.message (Some c) d e in
     let q : c ≡ d = cc in
     (q, rw q at r.0)
 
@@ -88,9 +88,9 @@ module _ (s : List ℕ) where
   pub record Led (c : Scope) : Type 0 where
     pub k : ℕ
     pub file : File
-    pub is : get_elem? (tree_of s) k ≡ some file
+    pub is : get_elem? (tree_of s) k ≡ Some file
     pub names : Path
-    pub leads : follow s names (file_scope k file) ≡ some c
+    pub leads : follow s names (file_scope k file) ≡ Some c
 
   in-led : (t : List ℕ) (ns : Path) (c : Scope) → Among c (scopes_in s t ns 0 (tree_of s)) → Led c
   in-led t ns c m =
@@ -118,12 +118,12 @@ module _ (s : List ℕ) where
   scopes-gives p h c m = from_gives s [] p refl h c m
 
   -- ---- what a file declares
-  pub filed-declared : (k : ℕ) (f : File) → get_elem? (tree_of s) k ≡ some f → (b : Named) → Filed s k f b → Among b (every_declared s)
+  pub filed-declared : (k : ℕ) (f : File) → get_elem? (tree_of s) k ≡ Some f → (b : Named) → Filed s k f b → Among b (every_declared s)
   unfolding every_declared
   filed-declared k f e b m = stood s 0 (tree_of s) b k k (omega arith) f e m
 
   module _ (k : ℕ) (f : File) (c : Scope) where
-    pub filed-message : (ns : Path) → follow s ns (file_scope k f) ≡ some c → c.place.message ≡ true
+    pub filed-message : (ns : Path) → follow s ns (file_scope k f) ≡ Some c → c.place.message ≡ true
         → Filed s k f (named (file_front (text s f.package_name) ++ spell ns) (message c))
     filed-message [] e h = let q : file_scope k f ≡ c = cc in absurd (true≢false (sym h ∙ ap (λ (x : Scope). x.place.message) (sym q)))
     filed-message (n ∷ ns) e h = reach-message s (file_front (text s f.package_name)) n ns (follow-reach s (n ∷ ns) (file_scope k f) c e)
@@ -136,7 +136,7 @@ module _ (s : List ℕ) where
     gives-message h = go g.rest g.leads (filed-message i g.file c g.rest g.follows h) g.follows
       where
         go : (ns : Path) → components pack ++ ns ≡ p → Filed s i g.file (named (file_front pack ++ spell ns) (message c))
-            → follow s ns (file_scope i g.file) ≡ some c → Filed s i g.file (named (spell p) (message c))
+            → follow s ns (file_scope i g.file) ≡ Some c → Filed s i g.file (named (spell p) (message c))
         go [] e m q = let z : file_scope i g.file ≡ c = cc in absurd (true≢false (sym h ∙ ap (λ (x : Scope). x.place.message) (sym z)))
         go (n ∷ ns) e m q = rw (← e, ← package-spell pack n ns) m
 
@@ -162,8 +162,8 @@ module _ (s : List ℕ) where
 
   -- ---- a look-up in the scopes at a path, where what it finds is declared
   module _ {W : Type 0} (q : Path) (idents : all_ident q ≡ true) (look : Scope → Option W) (t : List ℕ) (what : W → What)
-      (sound : (c : Scope) (i : ℕ) (g : Gives s q i c) (w : W) → look c ≡ some w → Filed s i g.file (named t (what w))) where
-    pub scope-declared : (c : Scope) → Among c (scopes s q) → (w : W) → look c ≡ some w → Among (named t (what w)) (every_declared s)
+      (sound : (c : Scope) (i : ℕ) (g : Gives s q i c) (w : W) → look c ≡ Some w → Filed s i g.file (named t (what w))) where
+    pub scope-declared : (c : Scope) → Among c (scopes s q) → (w : W) → look c ≡ Some w → Among (named t (what w)) (every_declared s)
     scope-declared c m w e =
         let g = scopes-gives q idents c m in
         filed-declared c.place.file g.file g.is (named t (what w)) (sound c c.place.file g w e)
@@ -172,7 +172,7 @@ module _ (s : List ℕ) where
     look-declared w m = let r = made look (scopes s q) w m in scope-declared r.of r.among w r.makes
 
     apart : Single → (w : W) → Among w (collect look (scopes s q)) → (c d : Scope) → Among c (scopes s q) → Among d (scopes s q)
-        → Earlier s c d → (a b : W) → look c ≡ some a → look d ≡ some b → ⊥
+        → Earlier s c d → (a b : W) → look c ≡ Some a → look d ≡ Some b → ⊥
     unfolding every_declared
     apart h w m c d j k l a b x y =
         let g = scopes-gives q idents c j in

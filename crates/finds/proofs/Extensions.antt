@@ -4,8 +4,8 @@
 --   extension_borne b == the extension that bears the full name, where it is one
 --
 -- Assumes nothing.
-use Rattle.std.specs.Prelude.{◌≡◌, refl, List, [], ◌∷◌, ◌++◌, ℕ, ◌+◌}
-use Rattle.basis.specs.Kit.{sym, ap, ◌∙◌, Option, none, some}
+use Rattle.std.specs.Prelude.{◌≡◌, refl, List, [], ◌∷◌, ◌++◌, ℕ, ◌+◌, Option, None, Some}
+use Rattle.basis.specs.Kit.{sym, ap, ◌∙◌}
 use mathlib.Core.Path.{ap₂}
 use Rattle.basis.specs.First.{onto, collect}
 use Rattle.field.specs.Leaf.{text}
@@ -17,22 +17,22 @@ use Rattle.scope.specs.Scope.{Scope, file_scope, message_scope}
 use Rattle.names.specs.Names.{What, message, enumeration, extension, Named, inside, file_front, declared_in, declared_by}
 
 abbrev pub extension_in : What → Option Declaration
-extension_in (message c) = none
-extension_in (enumeration e) = none
-extension_in (extension d) = some d
+extension_in (message c) = None
+extension_in (enumeration e) = None
+extension_in (extension d) = Some d
 
 abbrev pub extension_borne : Named → Option Declaration
 extension_borne b = extension_in b.what
 
 onto-append : {A : Type 0} (o : Option A) (xs ys : List A) → onto o (xs ++ ys) ≡ onto o xs ++ ys
-onto-append none xs ys = refl
-onto-append (some x) xs ys = refl
+onto-append None xs ys = refl
+onto-append (Some x) xs ys = refl
 
 collect-append : {A B : Type 0} (f : A → Option B) (xs ys : List A) → collect f (xs ++ ys) ≡ collect f xs ++ collect f ys
 collect-append f [] ys = refl
 collect-append f (x ∷ xs) ys = ap (onto (f x)) (collect-append f xs ys) ∙ onto-append (f x) (collect f xs) (collect f ys)
 
-pub extension-borne : (w : What) (d : Declaration) → extension_in w ≡ some d → w ≡ extension d
+pub extension-borne : (w : What) (d : Declaration) → extension_in w ≡ Some d → w ≡ extension d
 extension-borne (message c) d e = cc
 extension-borne (enumeration x) d e = cc
 extension-borne (extension x) d e = cc

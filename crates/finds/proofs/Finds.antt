@@ -1,8 +1,8 @@
 -- In a sheet that is fine, and in which no two share a full name, a full name is found exactly if it is declared, and then it is that
 -- declaration. The statements stand at the end.
 -- Assumes nothing.
-use Rattle.std.specs.Prelude.{◌≡◌, refl, true, List, [], ◌∷◌, ◌++◌, ℕ}
-use Rattle.basis.specs.Kit.{sym, ap, ◌∙◌, Option, none, some}
+use Rattle.std.specs.Prelude.{◌≡◌, refl, true, List, [], ◌∷◌, ◌++◌, ℕ, Option, None, Some}
+use Rattle.basis.specs.Kit.{sym, ap, ◌∙◌}
 use Rattle.basis.proofs.Never.{never}
 use Rattle.basis.specs.First.{first_some, collect}
 use Rattle.basis.specs.Among.{Among}
@@ -36,7 +36,7 @@ use Rattle.finds.proofs.Extensions.{extension_borne, extension-borne, extensions
 
 module _ (s : List ℕ) where
   -- ---- messages
-  message-sound : (p : Path) (c : Scope) (i : ℕ) (g : Gives s p i c) (d : Scope) → message_of c ≡ some d
+  message-sound : (p : Path) (c : Scope) (i : ℕ) (g : Gives s p i c) (d : Scope) → message_of c ≡ Some d
       → Filed s i g.file (named (spell p) (message d))
   message-sound p c i g d e =
       let r = message-some c d e in
@@ -48,11 +48,11 @@ module _ (s : List ℕ) where
   unfolding messages_at
   message-path p h c m = look-declared s p h message_of (spell p) message (message-sound p) c m
 
-  message-of-made : (c : Scope) → c.place.message ≡ true → message_of c ≡ some c
+  message-of-made : (c : Scope) → c.place.message ≡ true → message_of c ≡ Some c
   message-of-made c h = rw h
 
   -- ---- enums
-  enum-sound : (q : Path) (n : Name) (c : Scope) (i : ℕ) (g : Gives s q i c) (x : Enumeration) → enum_named s n c ≡ some x
+  enum-sound : (q : Path) (n : Name) (c : Scope) (i : ℕ) (g : Gives s q i c) (x : Enumeration) → enum_named s n c ≡ Some x
       → Filed s i g.file (named (spell (q ++ n ∷ [])) (enumeration x))
   enum-sound q n c i g x e = gives-holds s q i c g n (enumeration x) (enum_holds s n c x e)
 
@@ -71,18 +71,18 @@ module _ (s : List ℕ) where
       rw (parent-last n ns) at
       (look-declared s q (parent-idents n ns h) (enum_named s l) (spell (q ++ l ∷ [])) enumeration (enum-sound q l) x m)
 
-  enum-held : (f : List ℕ) (c : Scope) → Alone s f c → (n : Name) (x : Enumeration) → Holds s c n (enumeration x) → enum_named s n c ≡ some x
+  enum-held : (f : List ℕ) (c : Scope) → Alone s f c → (n : Name) (x : Enumeration) → Holds s c n (enumeration x) → enum_named s n c ≡ Some x
   enum-held f c alone n x (enum-of _ k q) = holds_enum s f c alone n x k q
 
   -- ---- extensions
-  extension-in-scope : (n : Name) (c : Scope) (f : Found) → found_in s n c ≡ some f
-      → declaration_named extension_tag s n c ≡ some f.declaration
+  extension-in-scope : (n : Name) (c : Scope) (f : Found) → found_in s n c ≡ Some f
+      → declaration_named extension_tag s n c ≡ Some f.declaration
   extension-in-scope n c f e =
-      let r = given-some (declaration_named extension_tag s n c) (λ d. some (record { file = c.place.file; declaration = d })) f e in
+      let r = given-some (declaration_named extension_tag s n c) (λ d. Some (record { file = c.place.file; declaration = d })) f e in
       let q : ◌≡◌ {A = Found} (record { file = c.place.file; declaration = r.0 }) f = cc in
-      r.1 ∙ ap (λ (x : Found). some x.declaration) q
+      r.1 ∙ ap (λ (x : Found). Some x.declaration) q
 
-  extension-sound : (q : Path) (n : Name) (c : Scope) (i : ℕ) (g : Gives s q i c) (f : Found) → found_in s n c ≡ some f
+  extension-sound : (q : Path) (n : Name) (c : Scope) (i : ℕ) (g : Gives s q i c) (f : Found) → found_in s n c ≡ Some f
       → Filed s i g.file (named (spell (q ++ n ∷ [])) (extension f.declaration))
   extension-sound q n c i g f e =
       gives-holds s q i c g n (extension f.declaration) (extension-holds s n c f.declaration (extension-in-scope n c f e))
@@ -92,7 +92,7 @@ module _ (s : List ℕ) where
   found-snoc [] n = refl
   found-snoc (m ∷ q) n = rw (last-append (m ∷ q) n, parent-snoc (m ∷ q) n)
 
-  extension-path : (p : Path) → all_ident p ≡ true → (f : Found) → found_at s p ≡ some f
+  extension-path : (p : Path) → all_ident p ≡ true → (f : Found) → found_at s p ≡ Some f
       → Among (named (spell p) (extension f.declaration)) (every_declared s)
   unfolding found_at
   extension-path [] h f e = never cc
@@ -105,7 +105,7 @@ module _ (s : List ℕ) where
       r.of (behind-among r.behind) f r.makes)
 
   extension-held : (f : List ℕ) (c : Scope) → Alone s f c → (n : Name) (d : Declaration) → Holds s c n (extension d)
-      → declaration_named extension_tag s n c ≡ some d
+      → declaration_named extension_tag s n c ≡ Some d
   extension-held f c alone n d (extension-of _ k q) = holds-extension s f c alone n d k q
 
   -- ==== the statements
@@ -130,7 +130,7 @@ module _ (s : List ℕ) where
   enum-declared t h e m = rw (spell-components t) at (enum-path (components t) h e m)
 
   -- An extension that is found under a full name is declared under it.
-  pub extension-declared : (t : List ℕ) → all_ident (components t) ≡ true → (f : Found) → found_at s (components t) ≡ some f
+  pub extension-declared : (t : List ℕ) → all_ident (components t) ≡ true → (f : Found) → found_at s (components t) ≡ Some f
       → Among (named t (extension f.declaration)) (every_declared s)
   extension-declared t h f e = rw (spell-components t) at (extension-path (components t) h f e)
 
@@ -184,23 +184,23 @@ module _ (s : List ℕ) where
 
       -- An extension that is declared under a full name is the one that is found under it.
       pub extension-found : (t : List ℕ) (d : Declaration) → Among (named t (extension d)) (every_declared s)
-          → (f : Found) × (found_at s (components t) ≡ some f) × (f.declaration ≡ d)
+          → (f : Found) × (found_at s (components t) ≡ Some f) × (f.declaration ≡ d)
       extension-found t d m = go (found_at s (components t)) refl
         where
           b : Named
           b = named t (extension d)
 
-          go : (o : Option Found) → found_at s (components t) ≡ o → (f : Found) × (found_at s (components t) ≡ some f) × (f.declaration ≡ d)
-          go none e =
+          go : (o : Option Found) → found_at s (components t) ≡ o → (f : Found) × (found_at s (components t) ≡ Some f) × (f.declaration ≡ d)
+          go None e =
               let r = located s fine b m in
               let q = before s fine single b r in
               let n = r.place.own in
               let k = extension-held _ r.place.holder (holder-alone s fine single b r) n d r.place.holds in
               let x = firsts-none (found_in s n) (sym (found-snoc q n) ∙ ap (found_at s) (sym (path-before s fine single b r)) ∙ e)
               (holder-at s fine single b r) in
-              let y : found_in s n r.place.holder ≡ some (record { file = r.place.holder.place.file; declaration = d }) = rw k in
+              let y : found_in s n r.place.holder ≡ Some (record { file = r.place.holder.place.file; declaration = d }) = rw k in
               never cc
-          go (some f) e =
+          go (Some f) e =
               let j = extension-declared t (names-path b m) f e in
               let x = ap (λ (x : Named). x.what) (single-unique s single (named t (extension f.declaration)) b j m refl) in
               let y : f.declaration ≡ d = cc in

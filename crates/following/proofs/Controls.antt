@@ -1,8 +1,7 @@
 -- Closed cases of the record that declarations lead to, which the checker computes. Of singular fields Encoding says, under "Last One
 -- Wins", that the last value counts, and of messages that their records are merged: that is what `joins` says of a declaration.
 -- Assumes nothing.
-use Rattle.std.specs.Prelude.{◌≡◌, refl, true, List, [], ◌∷◌, ℕ}
-use Rattle.basis.specs.Kit.{Option, none, some}
+use Rattle.std.specs.Prelude.{◌≡◌, refl, true, List, [], ◌∷◌, ℕ, Option, None, Some}
 use Rattle.field.specs.Leaf.{span}
 use Rattle.sheet.specs.declared.declaration.Declaration.{Declaration}
 use Rattle.sheet.specs.declared.declaration.Declared.{Declared}
@@ -41,8 +40,8 @@ m = 30
 
 -- ---- level and value of the record that is reached
 abbrev found : Option Row → List ℕ
-found none = []
-found (some x) = x.level ∷ x.entry.value ∷ []
+found None = []
+found (Some x) = x.level ∷ x.entry.value ∷ []
 
 abbrev last : List Declaration → Tree → List ℕ
 last ds t = found (reached never 0 ds t)

@@ -6,8 +6,8 @@
 --                    Gone l b f <-> after records at the level l the best row is b, and l levels are still open
 --
 -- Assumes nothing.
-use Rattle.std.specs.Prelude.{◌≡◌, refl, Bool, true, false, List, [], ◌∷◌, ◌++◌, map, ℕ, suc, ◌+◌, ◌≤◌, ◌<◌, ltb, length}
-use Rattle.basis.specs.Kit.{sym, ap, ◌∙◌, Option, none, some}
+use Rattle.std.specs.Prelude.{◌≡◌, refl, Bool, true, false, List, [], ◌∷◌, ◌++◌, map, ℕ, suc, ◌+◌, ◌≤◌, ◌<◌, ltb, length, Option, None, Some}
+use Rattle.basis.specs.Kit.{sym, ap, ◌∙◌}
 use Rattle.basis.specs.First.{only_if}
 use mathlib.Core.Path.{subst}
 use Rattle.basis.proofs.Kit.{arith, eq-eqb, ne_eqb, lt-ltb, le-ltb}
@@ -108,17 +108,17 @@ module _ (joins : Declaration → Bool) where
 
   -- of the last declaration the last record
   module _ (l : ℕ) (d : Declaration) where
-    last-best : (b : Bool) (x : Row) (o : Option Row) → only_if b (Found x) (best_of o) ≡ best_of (only_if b (some x) o)
+    last-best : (b : Bool) (x : Row) (o : Option Row) → only_if b (Found x) (best_of o) ≡ best_of (only_if b (Some x) o)
     last-best true x o = refl
     last-best false x o = refl
 
     last_one : (b : Bool) (e : Entry) (o : Option Row) (t : Tree)
-        → last_after o l (elim b [ true ↦ one e t | false ↦ t ]) ≡ last_after (only_if b (some (row l e)) o) l t
+        → last_after o l (elim b [ true ↦ one e t | false ↦ t ]) ≡ last_after (only_if b (Some (row l e)) o) l t
     last_one true e o t = refl
     last_one false e o t = refl
 
     last-held : (b : Bool) (e : Entry) (i : Tree) (o : Option Row) (t : Tree)
-        → last_after o l (elim b [ true ↦ held e i t | false ↦ t ]) ≡ last_after (only_if b (some (row l e)) o) l t
+        → last_after o l (elim b [ true ↦ held e i t | false ↦ t ]) ≡ last_after (only_if b (Some (row l e)) o) l t
     last-held true e i o t = refl
     last-held false e i o t = refl
 
@@ -126,10 +126,10 @@ module _ (joins : Declaration → Bool) where
     after_last o end = refl
     after_last o (one e t) =
         ap (λ (b : Best). best_after b l d [] t) (last-best (is_by d e.by) (row l e) o)
-        ∙ after_last (only_if (is_by d e.by) (some (row l e)) o) t ∙ ap best_of (sym (last_one (is_by d e.by) e o (listed_by d t)))
+        ∙ after_last (only_if (is_by d e.by) (Some (row l e)) o) t ∙ ap best_of (sym (last_one (is_by d e.by) e o (listed_by d t)))
     after_last o (held e i t) =
         ap (λ (b : Best). best_after b l d [] t) (last-best (is_by d e.by) (row l e) o)
-        ∙ after_last (only_if (is_by d e.by) (some (row l e)) o) t ∙ ap best_of (sym (last-held (is_by d e.by) e i o (listed_by d t)))
+        ∙ after_last (only_if (is_by d e.by) (Some (row l e)) o) t ∙ ap best_of (sym (last-held (is_by d e.by) e i o (listed_by d t)))
 
   -- of one before it what the last record holds,
   module _ (l : ℕ) (d o : Declaration) (ds : List Declaration) where
@@ -181,7 +181,7 @@ module _ (joins : Declaration → Bool) where
 
   after-reached : (l : ℕ) (d : Declaration) (ds : List Declaration) (t : Tree)
       → best_after NoneYet l d ds t ≡ best_of (reached joins l (d ∷ ds) t)
-  after-reached l d [] t = after_last l d none t
+  after-reached l d [] t = after_last l d None t
   after-reached l d (o ∷ ds) t = after-inside l d o ds t ∙ after-reached (suc l) o ds (inside joins d t)
 
   -- ---- the rows of records, followed

@@ -11,8 +11,7 @@
 --   reached joins l ds t ==  the row that the declarations ds lead to, t standing at the level l
 --
 -- Assumes nothing.
-use Rattle.std.specs.Prelude.{Bool, true, false, List, [], ◌∷◌, ℕ, suc, eqb}
-use Rattle.basis.specs.Kit.{Option, none, some}
+use Rattle.std.specs.Prelude.{Bool, true, false, List, [], ◌∷◌, ℕ, suc, eqb, Option, None, Some}
 use Rattle.sheet.specs.declared.declaration.Declaration.{Declaration}
 use Rattle.sheet.specs.declared.declaration.Declared.{Declared}
 use Rattle.sheet.specs.declared.declaration.Declared.TheVariants.{Declares, NoDeclaration}
@@ -45,11 +44,11 @@ joined (held e i t) = append i (joined t)
 
 abbrev pub last_after : (before : Option Row) (level : ℕ) → Tree → Option Row
 last_after o l end = o
-last_after o l (one e t) = last_after (some (row l e)) l t
-last_after o l (held e i t) = last_after (some (row l e)) l t
+last_after o l (one e t) = last_after (Some (row l e)) l t
+last_after o l (held e i t) = last_after (Some (row l e)) l t
 
 abbrev pub last_row : (level : ℕ) → Tree → Option Row
-last_row l t = last_after none l t
+last_row l t = last_after None l t
 
 abbrev pub never : Declaration → Bool
 never d = false
@@ -59,6 +58,6 @@ module _ (joins : Declaration → Bool) where
   inside d t = elim (joins d) [ true ↦ joined (listed_by d t) | false ↦ last_inside (listed_by d t) ]
 
   abbrev pub reached : (level : ℕ) → List Declaration → Tree → Option Row
-  reached l [] t = none
+  reached l [] t = None
   reached l (d ∷ []) t = last_row l (listed_by d t)
   reached l (d ∷ e ∷ ds) t = reached (suc l) (e ∷ ds) (inside d t)

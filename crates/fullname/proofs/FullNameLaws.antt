@@ -1,8 +1,8 @@
 -- The laws of the look-ups by full name: the ways through `next_message`, `next_enum`, `find_message_by_abs_name`, `enum_in`,
 -- `only_enum` and `find_enum_by_abs_name`.
 -- Assumes nothing.
-use Rattle.std.specs.Prelude.{◌≡◌, refl, Bool, true, false, List, [], ◌∷◌, ℕ, suc, ◌-◌, ◌<◌, eqb, length, take}
-use Rattle.basis.specs.Kit.{sym, ap, ◌∙◌, Option, none, some}
+use Rattle.std.specs.Prelude.{◌≡◌, refl, Bool, true, false, List, [], ◌∷◌, ℕ, suc, ◌-◌, ◌<◌, eqb, length, take, Option, None, Some}
+use Rattle.basis.specs.Kit.{sym, ap, ◌∙◌}
 use Rattle.basis.proofs.Kit.{arith}
 use Rattle.octets.specs.Octets.{part}
 use Rattle.field.specs.declared.Leaf.{Leaf}
@@ -103,18 +103,18 @@ module _ {B : Type 0} (f : Scope → Option B) where
   collect-kept (c ∷ cs) = go (f c) refl (collect-kept cs)
     where
       go : (o : Option B) → f c ≡ o → collect f (collect (kept making) cs) ≡ collect f cs
-          → collect f (onto (only_if (told false (λ b. true) o) (some c) none) (collect (kept making) cs)) ≡ onto o (collect f cs)
-      go none e ih = ih
-      go (some b) e ih = rw (e, ih)
+          → collect f (onto (only_if (told false (λ b. true) o) (Some c) None) (collect (kept making) cs)) ≡ onto o (collect f cs)
+      go None e ih = ih
+      go (Some b) e ih = rw (e, ih)
 
   collect-length : (cs : List Scope) → length (collect f cs) ≡ length (collect (kept making) cs)
   collect-length [] = refl
   collect-length (c ∷ cs) = go (f c) (collect-length cs)
     where
       go : (o : Option B) → length (collect f cs) ≡ length (collect (kept making) cs)
-          → length (onto o (collect f cs)) ≡ length (onto (only_if (told false (λ b. true) o) (some c) none) (collect (kept making) cs))
-      go none ih = ih
-      go (some b) ih = ap suc ih
+          → length (onto o (collect f cs)) ≡ length (onto (only_if (told false (λ b. true) o) (Some c) None) (collect (kept making) cs))
+      go None ih = ih
+      go (Some b) ih = ap suc ih
 
 enums-more-than-one : (es : List Enumeration) → 1 < length es → NoEnum MessageFoundMoreThanOnce ≡ looked_up_enum es
 enums-more-than-one [] h = absurd (omega arith)

@@ -6,8 +6,8 @@
 --    OneEnum s es p <-> the only one of the enums es has its values at p, a place of s
 --
 -- Assumes nothing.
-use Rattle.std.specs.Prelude.{◌≡◌, refl, List, [], ◌∷◌, ℕ, ◌≤◌, length}
-use Rattle.basis.specs.Kit.{sym, ap, ◌∙◌, some}
+use Rattle.std.specs.Prelude.{◌≡◌, refl, List, [], ◌∷◌, ℕ, ◌≤◌, length, Some}
+use Rattle.basis.specs.Kit.{sym, ap, ◌∙◌}
 use Rattle.basis.proofs.Never.{never}
 use Rattle.field.specs.declared.Span.{Span}
 use Rattle.field.specs.Walk.{walk}
@@ -45,7 +45,7 @@ module _ (s : List ℕ) (p : Path) where
   unfolding messages_at
   messages-stand =
       every-collect (Standing s) message_of (Standing s)
-      (λ c k x q. let u : some c ≡ some x = (only-some c.place.message (some c) x q).1 in let v : x ≡ c = cc in rw v k)
+      (λ c k x q. let u : Some c ≡ Some x = (only-some c.place.message (Some c) x q).1 in let v : x ≡ c = cc in rw v k)
       (scopes-stand s p)
 
   module _ (r : LookedUp) (q : r ≡ looked_up (messages_at s p)) (x : LookupScope) (g : r ≡ Message x) where
@@ -81,9 +81,9 @@ one-enum s (x ∷ []) (one_of k t) p q =
     rw u record { next = x; is = refl; body = refl; values = k.values; ordered = k.ordered; within = k.within }
 
 module _ (s : List ℕ) where
-  enum-named-held : (n : Name) (c : Scope) → Standing s c → (x : Enumeration) → enum_named s n c ≡ some x → HeldEnum s (length s) x
+  enum-named-held : (n : Name) (c : Scope) → Standing s c → (x : Enumeration) → enum_named s n c ≡ Some x → HeldEnum s (length s) x
   enum-named-held n c k x q =
-      let q' : enum_named s n (holding s c.place) ≡ some x = ap (enum_named s n) (sym k.held) ∙ q in
+      let q' : enum_named s n (holding s c.place) ≡ Some x = ap (enum_named s n) (sym k.held) ∙ q in
       record {
         values = enum-held s n c.place x q';
         ordered = enum-lies-ordered s n c.place x q';

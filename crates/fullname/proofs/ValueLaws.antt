@@ -1,8 +1,8 @@
 -- The laws of values by their names, and of the ways through `value_named_at` and `value_named`. A value's name is the first leaf of its
 -- payload, as a declaration's is.
 -- Assumes nothing.
-use Rattle.std.specs.Prelude.{◌≡◌, refl, Bool, true, false, List, ℕ, eqb}
-use Rattle.basis.specs.Kit.{sym, ◌∙◌, none, some}
+use Rattle.std.specs.Prelude.{◌≡◌, refl, Bool, true, false, List, ℕ, eqb, None, Some}
+use Rattle.basis.specs.Kit.{sym, ◌∙◌}
 use Rattle.basis.proofs.Kit.{ne_eqb}
 use Rattle.basis.proofs.Never.{never}
 use Rattle.octets.specs.Octets.{same_bytes, big_at}
@@ -38,11 +38,11 @@ module _ (s : List ℕ) (a e : ℕ) (v : Value) where
       let u : v ≡ record { name = span n numbers; number = big_at 4 s k } = cc in
       rw u y
 
-values-some : (r : Valued) (v : Value) → tells_valued r ≡ some v → Values v ≡ r
+values-some : (r : Valued) (v : Value) → tells_valued r ≡ Some v → Values v ≡ r
 values-some NoValue v p = never cc
 values-some (Values x) v p = let u : x ≡ v = cc in rw u
 
-values-none : (r : Valued) → tells_valued r ≡ none → r ≡ NoValue
+values-none : (r : Valued) → tells_valued r ≡ None → r ≡ NoValue
 values-none NoValue p = refl
 values-none (Values v) p = never cc
 
@@ -53,7 +53,7 @@ module _ (n s : List ℕ) (t a e : ℕ) where
   value-other-tag o = simp (value_named_at, ne_eqb t value_tag o)
 
   module _ (h : t ≡ value_tag) (l : Leaf) (q : l ≡ leaf_at name_tag (same_bytes n) s a e) where
-    starts-value : (v : Value) → tells_valued (value_at s a e) ≡ some v → Named s a e v.name
+    starts-value : (v : Value) → tells_valued (value_at s a e) ≡ Some v → Named s a e v.name
     starts-value v p = value-name s a e v (values-some (value_at s a e) v p)
 
     pub value-other-name : l ≡ Not → NoValue ≡ value_named_at n s t a e
@@ -77,7 +77,7 @@ module _ (s n : List ℕ) where
   value-step t a e rest = go (eqb t value_tag) (value_at s a e)
     where
       named-go : (b : Bool) (v : Value)
-          → valued (only_if b (some v) (value_named s n rest))
+          → valued (only_if b (Some v) (value_named s n rest))
           ≡ first_of tells_valued (only_if b (Values v) NoValue) (valued (value_named s n rest))
       named-go true v = refl
       named-go false v = refl

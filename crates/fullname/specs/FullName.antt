@@ -6,8 +6,7 @@
 --   looked_up, looked_up_enum == the one that there is; of none MessageNotFound, of more than one MessageFoundMoreThanOnce
 --
 -- Assumes nothing.
-use Rattle.std.specs.Prelude.{List, [], ◌∷◌, ℕ}
-use Rattle.basis.specs.Kit.{Option, none, some}
+use Rattle.std.specs.Prelude.{List, [], ◌∷◌, ℕ, Option, None, Some}
 use Rattle.reply.specs.declared.Refusal.TheVariants.{MessageNotFound, MessageFoundMoreThanOnce}
 use Rattle.path.specs.Path.{Path, parent, last}
 use Rattle.sheet.specs.Members.{Enumeration}
@@ -21,7 +20,7 @@ use Rattle.fullname.specs.declared.LookedUpEnum.TheVariants.{Values, NoEnum}
 
 -- "A message by full name: the scopes at that path that are messages" [LOOKUP-1, LOOKUP-2]
 abbrev pub message_of : Scope → Option Scope
-message_of c = only_if c.place.message (some c) none
+message_of c = only_if c.place.message (Some c) None
 
 unfoldable pub messages_at : (s : List ℕ) (p : Path) → List Scope
 messages_at s p = collect message_of (scopes s p)

@@ -1,8 +1,7 @@
 -- Where that lies which a look-up of the option steps finds: a message, the type path of a field or of an extension, the values of an enum
 -- are places of the sheet. They are for whoever reads the sheet at what was found.
 -- Assumes nothing.
-use Rattle.std.specs.Prelude.{◌≡◌, List, ℕ, ◌≤◌, length}
-use Rattle.basis.specs.Kit.{some}
+use Rattle.std.specs.Prelude.{◌≡◌, List, ℕ, ◌≤◌, length, Some}
 use Rattle.field.specs.declared.Span.{Span}
 use Rattle.field.specs.Leaf.{Lies}
 use Rattle.path.specs.Path.{components}
@@ -32,7 +31,7 @@ module _ (s p : List ℕ) (r : LookedUp) (q : r ≡ (walking s).message p) (c : 
 
 -- ---- a field of a message
 module _ (s : List ℕ) (c : LookupScope) (l : InSheet s c) (n : List ℕ) where
-  pub field-named-lies : (d : Declaration) → field_named s n c ≡ some d → Lies d.shape.path s
+  pub field-named-lies : (d : Declaration) → field_named s n c ≡ Some d → Lies d.shape.path s
   field-named-lies d q = let k = declaration-lies s c l field_tag _ d q in (k.path.ordered, k.path.inside)
 
   module _ (r : Declared) (q : r ≡ declared (field_named s n c)) (d : Declaration) (g : r ≡ Declares d) where

@@ -8,8 +8,7 @@
 --       value_in s n vs == the first value of the name n among those that stand at the place vs
 --
 -- Assumes nothing.
-use Rattle.std.specs.Prelude.{List, ℕ}
-use Rattle.basis.specs.Kit.{Option}
+use Rattle.std.specs.Prelude.{List, ℕ, Option}
 use Rattle.field.specs.declared.Span.{Span}
 use Rattle.field.specs.Walk.{walk}
 use Rattle.path.specs.Path.{components}

@@ -5,8 +5,8 @@
 --   Ordered d <-> name, extendee and type path of the declaration end no earlier than they start
 --
 -- Assumes nothing.
-use Rattle.std.specs.Prelude.{◌≡◌, Bool, true, false, List, [], ℕ, ◌≤◌, eqb, length}
-use Rattle.basis.specs.Kit.{sym, ◌∙◌, some}
+use Rattle.std.specs.Prelude.{◌≡◌, Bool, true, false, List, [], ℕ, ◌≤◌, eqb, length, Some}
+use Rattle.basis.specs.Kit.{sym, ◌∙◌}
 use Rattle.sheet.specs.declared.declaration.Declaration.{Declaration}
 use Rattle.sheet.specs.declared.declaration.Declared.{Declared}
 use Rattle.sheet.specs.declared.declaration.Declared.TheVariants.{Declares}
@@ -106,12 +106,12 @@ module _ (s : List ℕ) where
   every-file-lies (filed-one {f = f} k t) = every_append (Places (length s)) (every-extension-lies (file-lying f k)) (every-file-lies t)
 
   -- an extension of the sheet, whatever the test
-  pub extension-lies : (good : Declaration → Bool) (d : Declaration) → first good (every_extension (tree_of s)) ≡ some d → Places (length s) d
+  pub extension-lies : (good : Declaration → Bool) (d : Declaration) → first good (every_extension (tree_of s)) ≡ Some d → Places (length s) d
   extension-lies good = first_holds (Places (length s)) good (every-file-lies (tree-lies s))
 
 -- ---- a declaration of a scope, whatever the test
 module _ (s : List ℕ) (p : LookupScope) (l : InSheet s p) where
-  pub declaration-lies : (k : ℕ) (good : Declaration → Bool) (d : Declaration) → first good (declarations_of k (holding s p).items) ≡ some d
+  pub declaration-lies : (k : ℕ) (good : Declaration → Bool) (d : Declaration) → first good (declarations_of k (holding s p).items) ≡ Some d
       → Places (length s) d
   declaration-lies k good =
       first_holds (Places (length s)) good

@@ -6,8 +6,8 @@
 --   declaration_where good k s t a e ==  the declaration that a field of a scope is, where it passes the test
 --
 -- Assumes nothing.
-use Rattle.std.specs.Prelude.{◌≡◌, refl, Bool, true, false, List, [], ◌++◌, ℕ, eqb}
-use Rattle.basis.specs.Kit.{sym, ◌∙◌, Option, none, some}
+use Rattle.std.specs.Prelude.{◌≡◌, refl, Bool, true, false, List, [], ◌++◌, ℕ, eqb, Option, None, Some}
+use Rattle.basis.specs.Kit.{sym, ◌∙◌}
 use Rattle.basis.proofs.Kit.{eq-eqb, ne_eqb}
 use borrow.Author.Tests.{eqb-true, eqb-false}
 use Rattle.basis.proofs.Never.{never}
@@ -125,7 +125,7 @@ module _ (s : List ℕ) (a e : ℕ) (p : Span) (g : Named s a e p) (test : List 
 
 -- ---- an answer that tells of something which its payload names, whatever that is
 module _ {A R : Type 0} (nothing : R) (tells : R → Option A) (name : A → Span) (s n : List ℕ) (a e : ℕ) (x : R)
-    (starts : (v : A) → tells x ≡ some v → Named s a e (name v))
+    (starts : (v : A) → tells x ≡ Some v → Named s a e (name v))
     (good : A → Bool) (same : (v : A) → good v ≡ is_text s n (name v))
     (l : Leaf) (q : l ≡ leaf_at name_tag (same_bytes n) s a e) where
   pub other_name : l ≡ Not → nothing ≡ whose nothing tells good x
@@ -133,22 +133,22 @@ module _ {A R : Type 0} (nothing : R) (tells : R → Option A) (name : A → Spa
   other_name w = go (tells x) refl
     where
       go : (o : Option A) → tells x ≡ o → nothing ≡ told nothing (λ v. only_if (good v) x nothing) o
-      go none p = refl
-      go (some v) p = rw (same v, name-no s a e (name v) (starts v p) (same_bytes n) l q w)
+      go None p = refl
+      go (Some v) p = rw (same v, name-no s a e (name v) (starts v p) (same_bytes n) l q w)
 
-  pub same_name : (y z : ℕ) → l ≡ At y z → (tells x ≡ none → x ≡ nothing) → x ≡ whose nothing tells good x
+  pub same_name : (y z : ℕ) → l ≡ At y z → (tells x ≡ None → x ≡ nothing) → x ≡ whose nothing tells good x
   unfolding whose
   same_name y z w bare = go (tells x) refl
     where
       go : (o : Option A) → tells x ≡ o → x ≡ told nothing (λ v. only_if (good v) x nothing) o
-      go none p = bare p
-      go (some v) p = rw (same v, name-yes s a e (name v) (starts v p) (same_bytes n) l q y z w)
+      go None p = bare p
+      go (Some v) p = rw (same v, name-yes s a e (name v) (starts v p) (same_bytes n) l q y z w)
 
-declares-some : (r : Declared) (d : Declaration) → tells_declared r ≡ some d → Declares d ≡ r
+declares-some : (r : Declared) (d : Declaration) → tells_declared r ≡ Some d → Declares d ≡ r
 declares-some NoDeclaration d p = never cc
 declares-some (Declares x) d p = let u : x ≡ d = cc in rw u
 
-declares-none : (r : Declared) → tells_declared r ≡ none → r ≡ NoDeclaration
+declares-none : (r : Declared) → tells_declared r ≡ None → r ≡ NoDeclaration
 declares-none NoDeclaration p = refl
 declares-none (Declares d) p = never cc
 
@@ -157,7 +157,7 @@ abbrev pub declaration_where : (good : Declaration → Bool) (want : ℕ) (s : L
 declaration_where good k s t a e = whose NoDeclaration tells_declared good (declaration_at k s t a e)
 
 module _ (good : Declaration → Bool) (k : ℕ) (s n : List ℕ) (t a e : ℕ) (l : Leaf) (q : l ≡ leaf_at name_tag (same_bytes n) s a e) where
-  starts : (d : Declaration) → tells_declared (declaration_at k s t a e) ≡ some d → Named s a e d.name
+  starts : (d : Declaration) → tells_declared (declaration_at k s t a e) ≡ Some d → Named s a e d.name
   starts d p = declaration-name s a e d k t (declares-some (declaration_at k s t a e) d p)
 
   pub declaration-other-name : l ≡ Not → ((d : Declaration) → good d ≡ is_text s n d.name)

@@ -1,7 +1,6 @@
 -- Closed cases of the declaration of a number at the message of a full name, which the checker computes.
 -- Assumes nothing.
-use Rattle.std.specs.Prelude.{◌≡◌, refl, List, [], ◌∷◌, ◌++◌, map, ℕ}
-use Rattle.basis.specs.Kit.{Option, none, some}
+use Rattle.std.specs.Prelude.{◌≡◌, refl, List, [], ◌∷◌, ◌++◌, map, ℕ, Option, None, Some}
 use Prim.Native.String.{String}
 use Rattle.octets.specs.Octets.{big_at, same_bytes}
 use Rattle.octets.specs.Ascii.{ascii}
@@ -25,8 +24,8 @@ data Known : Type 0 where
   no_message : Known
 
 abbrev known : List ℕ → Option Declaration → Known
-known s none = unknown
-known s (some d) = is (text s d.name)
+known s None = unknown
+known s (Some d) = is (text s d.name)
 
 abbrev known_in : List ℕ → String → ℕ → List Scope → Known
 known_in s m k [] = no_message

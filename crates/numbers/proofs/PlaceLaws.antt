@@ -1,7 +1,6 @@
 -- Where a declaration of a number lies: its spans are of the sheet, and in order.
 -- Assumes nothing.
-use Rattle.std.specs.Prelude.{◌≡◌, List, ℕ, length}
-use Rattle.basis.specs.Kit.{Option, none, some}
+use Rattle.std.specs.Prelude.{◌≡◌, List, ℕ, length, Option, None, Some}
 use Rattle.sheet.specs.declared.declaration.Declaration.{Declaration}
 use Rattle.sheet.specs.declared.declaration.Declared.{Declared}
 use Rattle.sheet.specs.declared.declaration.Declared.TheVariants.{Declares}
@@ -16,14 +15,14 @@ use Rattle.named.proofs.DeclaredPlaces.{Ordered, places-ordered, extension-lies,
 use Rattle.numbers.specs.Number.{has_number, is_extension_of, field_numbered, extension_numbered, declaration_of}
 
 module _ (s m : List ℕ) (k : ℕ) (p : LookupScope) (l : InSheet s p) (d : Declaration) where
-  declaration-places : declaration_of s (holding s p) m k ≡ some d → Places (length s) d
+  declaration-places : declaration_of s (holding s p) m k ≡ Some d → Places (length s) d
   unfolding declaration_of
   declaration-places = go (field_numbered k (holding s p)) (declaration-lies s p l field_tag (has_number k) d)
     where
-      go : (o : Option Declaration) → (o ≡ some d → Places (length s) d) → or_else o (extension_numbered s m k) ≡ some d
+      go : (o : Option Declaration) → (o ≡ Some d → Places (length s) d) → or_else o (extension_numbered s m k) ≡ Some d
           → Places (length s) d
-      go none f q = extension-lies s (is_extension_of s m k) d q
-      go (some x) f q = f q
+      go None f q = extension-lies s (is_extension_of s m k) d q
+      go (Some x) f q = f q
 
   -- what `declaration_of` answers
   module _ (r : Declared) (q : r ≡ declared (declaration_of s (holding s p) m k)) (g : r ≡ Declares d) where

@@ -9,8 +9,7 @@
 --                               the name by which it reached that scope
 --
 -- Assumes nothing.
-use Rattle.std.specs.Prelude.{Bool, ◌&&◌, List, ℕ, eqb}
-use Rattle.basis.specs.Kit.{Option}
+use Rattle.std.specs.Prelude.{Bool, ◌&&◌, List, ℕ, eqb, Option}
 use Rattle.sheet.specs.declared.declaration.Declaration.{Declaration}
 use Rattle.sheet.specs.Tree.{tree_of}
 use Rattle.sheet.specs.Members.{fields_of, every_extension}

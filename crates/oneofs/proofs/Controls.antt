@@ -1,7 +1,6 @@
 -- Closed cases of the definitions, which the checker computes: of each rule one that holds, one at the limit, one refused just past it.
 -- Assumes nothing.
-use Rattle.std.specs.Prelude.{◌≡◌, refl, List, [], ◌∷◌, map, ℕ}
-use Rattle.basis.specs.Kit.{none, some}
+use Rattle.std.specs.Prelude.{◌≡◌, refl, List, [], ◌∷◌, map, ℕ, None, Some}
 use lib.ListN.{replicate}
 use Rattle.reply.specs.declared.Refusal.TheVariants.{BadRequest, BeyondLimit}
 use Rattle.reply.specs.Outcome.{refuse, give}
@@ -45,8 +44,8 @@ too_many = refl
 groups_of :
     map groups
     ((1 ∷ 2 ∷ 3 ∷ 0 ∷ []) ∷ (2 ∷ 2 ∷ 3 ∷ 1 ∷ []) ∷ (2 ∷ 0 ∷ 3 ∷ []) ∷ (4 ∷ []) ∷ [])
-    ≡ give (some (oneof synthetic 0 0) ∷ some (oneof real 0 1) ∷ none ∷ [])
-    ∷ give (some (oneof real 1 0) ∷ some (oneof synthetic 2 0) ∷ [])
+    ≡ give (Some (oneof synthetic 0 0) ∷ Some (oneof real 0 1) ∷ None ∷ [])
+    ∷ give (Some (oneof real 1 0) ∷ Some (oneof synthetic 2 0) ∷ [])
     ∷ refuse BadRequest
     ∷ refuse BadRequest
     ∷ []

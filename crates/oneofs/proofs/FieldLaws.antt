@@ -3,8 +3,8 @@
 --   Short o n <-> the outcome o is a refusal, or gives n elements or fewer
 --
 -- Assumes nothing.
-use Rattle.std.specs.Prelude.{◌≡◌, refl, Bool, true, false, List, [], ◌∷◌, ℕ, suc, ◌≤◌, ◌<◌, eqb, length}
-use Rattle.basis.specs.Kit.{ap, ◌∙◌, none, some}
+use Rattle.std.specs.Prelude.{◌≡◌, refl, Bool, true, false, List, [], ◌∷◌, ℕ, suc, ◌≤◌, ◌<◌, eqb, length, None, Some}
+use Rattle.basis.specs.Kit.{ap, ◌∙◌}
 use Rattle.basis.proofs.Kit.{arith, lt-ltb, le-ltb, Fits}
 use Rattle.basis.proofs.CountLaws.{count-few}
 use Rattle.basis.proofs.Never.{never}
@@ -52,21 +52,21 @@ short-if true s s' = s
 short-if false s s' = s'
 
 short-joining : (member : Group) (n : ℕ) (o : Outcome Group) → Short o n → Short (joining member o) (suc n)
-short-joining none n o s = short-refused (bare BadRequest) (suc n)
-short-joining (some x) n o s = short-push (some x) n o s
+short-joining None n o s = short-refused (bare BadRequest) (suc n)
+short-joining (Some x) n o s = short-push (Some x) n o s
 
 groups-short : (r s : ℕ) (member : Group) (ws : List ℕ) → Short (groups_after r s member ws) (length ws)
 unfolding groups_after
 groups-short r s member [] = short-nil 0
 groups-short r s member (w ∷ ws) =
     let n = length ws in
-    short-if (eqb w 0) (short-push none n _ (groups-short r s none ws))
-    (short-if (eqb w 1) (short-push (some (oneof synthetic r s)) n _ (groups-short r (suc s) none ws))
-    (short-if (eqb w 2) (short-more n _ (groups-short (suc r) s (some (oneof real r s)) ws))
+    short-if (eqb w 0) (short-push None n _ (groups-short r s None ws))
+    (short-if (eqb w 1) (short-push (Some (oneof synthetic r s)) n _ (groups-short r (suc s) None ws))
+    (short-if (eqb w 2) (short-more n _ (groups-short (suc r) s (Some (oneof real r s)) ws))
     (short-if (eqb w 3) (short-joining member n _ (groups-short r s member ws)) (short-refused (bare BadRequest) (suc n)))))
 
 pub groups-present : (ws : List ℕ) → groups ws ≡ nothing → ⊥
-groups-present ws = (groups-short 0 0 none ws).present
+groups-present ws = (groups-short 0 0 None ws).present
 
 pub fields_fit : (numbering reals : ℕ) (ws z z' : List ℕ) (p : Put) (n : ℕ) → Puts (numbered numbering reals (groups ws)) 0 z z' p
     → p ≡ Wrote n → length ws ≤ most_words → Fits w32 n
@@ -74,7 +74,7 @@ fields_fit numbering reals ws z z' p n u e h =
     let g = put-wrote n u e in
     let made = numbered-given numbering reals g.elements (groups ws) g.is in
     let size = ap length made.2 ∙ length-map made.0 (word_of numbering reals) in
-    record { fits = omega (arith, size, (groups-short 0 0 none ws).most made.0 made.1, g.laid.next) }
+    record { fits = omega (arith, size, (groups-short 0 0 None ws).most made.0 made.1, g.laid.next) }
 
 module _ (numbering : ℕ) (ws : List ℕ) where
   module _ (l : List ℕ) (r : Answer) where

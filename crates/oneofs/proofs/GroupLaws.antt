@@ -3,8 +3,8 @@
 --   words numbering reals r s member ws == the words of the fields ws after r real and s synthetic oneofs
 --
 -- Assumes nothing.
-use Rattle.std.specs.Prelude.{◌≡◌, refl, List, [], ◌∷◌, map, ℕ, suc, ◌+◌}
-use Rattle.basis.specs.Kit.{sym, none, some}
+use Rattle.std.specs.Prelude.{◌≡◌, refl, List, [], ◌∷◌, map, ℕ, suc, ◌+◌, None, Some}
+use Rattle.basis.specs.Kit.{sym}
 use Rattle.basis.proofs.Kit.{arith, add-one, eq-eqb, ne_eqb}
 use Rattle.basis.proofs.Never.{never}
 use Rattle.reply.specs.declared.Refusal.TheVariants.{BadRequest}
@@ -31,26 +31,26 @@ module _ (numbering reals : ℕ) where
   numbered-push g (give gs) = refl
 
   joining-none : (group : Group) (o : Outcome Group) → word_of numbering reals group ≡ 0 → joining group o ≡ refuse BadRequest
-  joining-none none o e = refl
-  joining-none (some x) o e = absurd (omega arith)
+  joining-none None o e = refl
+  joining-none (Some x) o e = absurd (omega arith)
 
   joining-some : (group : Group) (o : Outcome Group) → (word_of numbering reals group ≡ 0 → ⊥) → joining group o ≡ push (group ∷ []) o
-  joining-some none o e = absurd (e refl)
-  joining-some (some x) o e = refl
+  joining-some None o e = absurd (e refl)
+  joining-some (Some x) o e = refl
 
   module _ (r s : ℕ) (group : Group) (w : ℕ) (ws : List ℕ) where
-    pub words-plain : w ≡ 0 → words numbering reals r s group (w ∷ ws) ≡ push (0 ∷ []) (words numbering reals r s none ws)
+    pub words-plain : w ≡ 0 → words numbering reals r s group (w ∷ ws) ≡ push (0 ∷ []) (words numbering reals r s None ws)
     unfolding groups_after
-    words-plain e = simp (groups_after, eq-eqb w 0 e, numbered-push none)
+    words-plain e = simp (groups_after, eq-eqb w 0 e, numbered-push None)
 
     module _ (a : w ≡ 0 → ⊥) where
       pub words-optional : w ≡ 1 → words numbering reals r s group (w ∷ ws)
-          ≡ push ((index_of numbering reals (oneof synthetic r s) + 1) ∷ []) (words numbering reals r (suc s) none ws)
+          ≡ push ((index_of numbering reals (oneof synthetic r s) + 1) ∷ []) (words numbering reals r (suc s) None ws)
       unfolding groups_after
-      words-optional e = simp (groups_after, ne_eqb w 0 a, eq-eqb w 1 e, numbered-push (some (oneof synthetic r s)), add-one)
+      words-optional e = simp (groups_after, ne_eqb w 0 a, eq-eqb w 1 e, numbered-push (Some (oneof synthetic r s)), add-one)
 
       module _ (b : w ≡ 1 → ⊥) where
-        pub words-opens : w ≡ 2 → words numbering reals r s group (w ∷ ws) ≡ words numbering reals (suc r) s (some (oneof real r s)) ws
+        pub words-opens : w ≡ 2 → words numbering reals r s group (w ∷ ws) ≡ words numbering reals (suc r) s (Some (oneof real r s)) ws
         unfolding groups_after
         words-opens e = simp (groups_after, ne_eqb w 0 a, ne_eqb w 1 b, eq-eqb w 2 e)
 

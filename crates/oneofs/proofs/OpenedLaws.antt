@@ -8,8 +8,7 @@
 --                       AllOf P o <-> P holds of each oneof that a field of the outcome o belongs to
 --
 -- Assumes nothing.
-use Rattle.std.specs.Prelude.{◌≡◌, refl, Bool, true, false, List, [], ◌∷◌, ℕ, zero, suc, ◌+◌, ◌≤◌, eqb, length}
-use Rattle.basis.specs.Kit.{none, some}
+use Rattle.std.specs.Prelude.{◌≡◌, refl, Bool, true, false, List, [], ◌∷◌, ℕ, zero, suc, ◌+◌, ◌≤◌, eqb, length, None, Some}
 use Rattle.basis.specs.Among.{Among, here, there, Ordered, next}
 use Rattle.basis.specs.Count.{count}
 use Rattle.basis.proofs.Kit.{arith, ne_eqb}
@@ -144,7 +143,7 @@ either-earlier (next h o) (there m) (there n) same before behind = either-earlie
 
 -- ---- every group is one of them
 record AllOf (P : Oneof → Type 0) (o : Outcome Group) : Type 0 where
-  holds : (gs : List Group) → o ≡ give gs → (x : Oneof) → Among (some x) gs → P x
+  holds : (gs : List Group) → o ≡ give gs → (x : Oneof) → Among (Some x) gs → P x
 
 module _ (P : Oneof → Type 0) where
   all-refused : (c : Cause) → AllOf P (refused c)
@@ -158,33 +157,33 @@ module _ (P : Oneof → Type 0) where
   all-unless true o e h = never cc
   all-unless false o e h = h
 
-  first-or : (g : Group) (l : List Group) (x : Oneof) → Among (some x) (g ∷ l) → (g ≡ some x → P x) → (Among (some x) l → P x) → P x
+  first-or : (g : Group) (l : List Group) (x : Oneof) → Among (Some x) (g ∷ l) → (g ≡ Some x → P x) → (Among (Some x) l → P x) → P x
   first-or g l x here p k = p refl
   first-or g l x (there m) p k = k m
 
-  all_push : (g : Group) (o : Outcome Group) → ((x : Oneof) → g ≡ some x → P x) → AllOf P o → AllOf P (push (g ∷ []) o)
+  all_push : (g : Group) (o : Outcome Group) → ((x : Oneof) → g ≡ Some x → P x) → AllOf P o → AllOf P (push (g ∷ []) o)
   all_push g (refused c) p h = all-refused c
   all_push g nothing p h = record { holds = λ gs e. never cc }
   all_push g (give l) p h = record { holds = λ gs e x m. first-or g l x (rw (← (give-inv e)) at m) (p x) (h.holds l refl x) }
 
-  all-joining : (member : Group) (o : Outcome Group) → ((x : Oneof) → member ≡ some x → P x) → AllOf P o → AllOf P (joining member o)
-  all-joining none o p h = all-refused (bare BadRequest)
-  all-joining (some x) o p h = all_push (some x) o p h
+  all-joining : (member : Group) (o : Outcome Group) → ((x : Oneof) → member ≡ Some x → P x) → AllOf P o → AllOf P (joining member o)
+  all-joining None o p h = all-refused (bare BadRequest)
+  all-joining (Some x) o p h = all_push (Some x) o p h
 
   abbrev Given : (r s : ℕ) (ws : List ℕ) → Type 0
-  Given r s ws = (member : Group) → ((x : Oneof) → member ≡ some x → P x) → ((x : Oneof) → Among x (opened_after r s ws) → P x)
+  Given r s ws = (member : Group) → ((x : Oneof) → member ≡ Some x → P x) → ((x : Oneof) → Among x (opened_after r s ws) → P x)
       → AllOf P (groups_after r s member ws)
 
   all-word : (r s w : ℕ) (ws : List ℕ) → Opening w → ((r s : ℕ) → Given r s ws) → Given r s (w ∷ ws)
   unfolding groups_after opened_after
   all-word r s w ws made ih member p h =
-      all_push (some (oneof synthetic r s)) _ (λ x e. let y : oneof synthetic r s ≡ x = cc in rw (← y) (h _ here))
-      (ih r (suc s) none (λ x e. never cc) (λ x m. h x (there m)))
+      all_push (Some (oneof synthetic r s)) _ (λ x e. let y : oneof synthetic r s ≡ x = cc in rw (← y) (h _ here))
+      (ih r (suc s) None (λ x e. never cc) (λ x m. h x (there m)))
   all-word r s w ws declares ih member p h =
-      ih (suc r) s (some (oneof real r s)) (λ x e. let y : oneof real r s ≡ x = cc in rw (← y) (h _ here)) (λ x m. h x (there m))
+      ih (suc r) s (Some (oneof real r s)) (λ x e. let y : oneof real r s ≡ x = cc in rw (← y) (h _ here)) (λ x m. h x (there m))
   all-word r s w ws (neither q t) ih member p h =
       let rest : (x : Oneof) → Among x (opened_after r s ws) → P x = rw (opened-neither r s w ws q t) at h in
-      all-if (eqb w 0) (all_push none _ (λ x e. never cc) (ih r s none (λ x e. never cc) rest))
+      all-if (eqb w 0) (all_push None _ (λ x e. never cc) (ih r s None (λ x e. never cc) rest))
       (all-unless (eqb w 1) _ q
       (all-unless (eqb w 2) _ t (all-if (eqb w 3) (all-joining member _ p (ih r s member p rest)) (all-refused (bare BadRequest)))))
 
@@ -193,5 +192,5 @@ module _ (P : Oneof → Type 0) where
   all-groups r s [] member p h = record { holds = λ gs e x m. among-nil (rw (← (give-inv e)) at m) }
   all-groups r s (w ∷ ws) member p h = all-word r s w ws (opening w) (λ r' s'. all-groups r' s' ws) member p h
 
-pub group-opened : (ws : List ℕ) (gs : List Group) → groups ws ≡ give gs → (x : Oneof) → Among (some x) gs → Among x (opened ws)
-group-opened ws gs e = (all-groups (λ x. Among x (opened ws)) 0 0 ws none (λ x q. never cc) (λ x m. m)).holds gs e
+pub group-opened : (ws : List ℕ) (gs : List Group) → groups ws ≡ give gs → (x : Oneof) → Among (Some x) gs → Among x (opened ws)
+group-opened ws gs e = (all-groups (λ x. Among x (opened ws)) 0 0 ws None (λ x q. never cc) (λ x m. m)).holds gs e

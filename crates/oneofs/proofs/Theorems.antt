@@ -2,8 +2,7 @@
 -- in Among.antt of `basis`. `ws` is a list of fields, any words; a numbering is any number where nothing else is said, though
 -- `lower_fields_by` takes none above `synthetic_last`.
 -- Assumes nothing.
-use Rattle.std.specs.Prelude.{◌≡◌, List, ℕ, ◌≤◌, ◌<◌, length, get_or}
-use Rattle.basis.specs.Kit.{none, some}
+use Rattle.std.specs.Prelude.{◌≡◌, List, ℕ, ◌≤◌, ◌<◌, length, get_or, None, Some}
 use Rattle.basis.specs.Among.{Among, Ordered}
 use Rattle.basis.specs.Count.{count}
 use Rattle.basis.proofs.Kit.{arith}
@@ -39,24 +38,24 @@ pub index-unique : (numbering : ℕ) (ws : List ℕ) (x y : Oneof) → Among x (
 index-unique = order.index-unique
 
 -- Every field's oneof is one of them.
-pub group-opened : (ws : List ℕ) (gs : List Group) → groups ws ≡ give gs → (x : Oneof) → Among (some x) gs → Among x (opened ws)
+pub group-opened : (ws : List ℕ) (gs : List Group) → groups ws ≡ give gs → (x : Oneof) → Among (Some x) gs → Among x (opened ws)
 group-opened = opens.group-opened
 
 -- So a field's word is 0 exactly when its group is none. `gs` are the groups of the fields and `xs` their words; behind the last field
 -- there is no group, and the word is read as 0.
 module _
     (numbering : ℕ) (ws : List ℕ) (gs : List Group) (e : groups ws ≡ give gs) (xs : List ℕ) (f : lower_fields_by numbering ws ≡ give xs) where
-  pub word_none : (i : ℕ) → get_or xs i 0 ≡ 0 → get_or gs i none ≡ none
+  pub word_none : (i : ℕ) → get_or xs i 0 ≡ 0 → get_or gs i None ≡ None
   word_none = fields.word_none numbering ws gs e xs f
 
-  pub none-word : (i : ℕ) → get_or gs i none ≡ none → get_or xs i 0 ≡ 0
+  pub none-word : (i : ℕ) → get_or gs i None ≡ None → get_or xs i 0 ≡ 0
   none-word = fields.none-word numbering ws gs e xs f
 
   -- And two fields have the same word exactly when they have the same group.
-  pub word-group : (i j : ℕ) → get_or xs i 0 ≡ get_or xs j 0 → get_or gs i none ≡ get_or gs j none
+  pub word-group : (i j : ℕ) → get_or xs i 0 ≡ get_or xs j 0 → get_or gs i None ≡ get_or gs j None
   word-group = fields.word-group numbering ws gs e xs f
 
-  pub group-word : (i j : ℕ) → get_or gs i none ≡ get_or gs j none → get_or xs i 0 ≡ get_or xs j 0
+  pub group-word : (i j : ℕ) → get_or gs i None ≡ get_or gs j None → get_or xs i 0 ≡ get_or xs j 0
   group-word = fields.group-word numbering ws gs e xs f
 
 -- Hence fields that share a word in one numbering share one in the other, and what is 0 in one is 0 in the other.

@@ -1,7 +1,7 @@
 -- The words of one list of fields in either numbering: what they are made of, and that they are refused alike.
 -- Assumes nothing.
-use Rattle.std.specs.Prelude.{◌≡◌, refl, Bool, true, false, List, [], ◌∷◌, map, ℕ, zero, suc, ◌≤◌, ltb, length, get_or}
-use Rattle.basis.specs.Kit.{sym, ap, ◌∙◌, none, some}
+use Rattle.std.specs.Prelude.{◌≡◌, refl, Bool, true, false, List, [], ◌∷◌, map, ℕ, zero, suc, ◌≤◌, ltb, length, get_or, None, Some}
+use Rattle.basis.specs.Kit.{sym, ap, ◌∙◌}
 use Rattle.basis.specs.Among.{Among, here, there}
 use Rattle.basis.proofs.Kit.{arith, le-ltb}
 use Rattle.basis.proofs.Never.{never}
@@ -73,39 +73,39 @@ module _ (numbering : ℕ) (ws xs : List ℕ) (e : lower_fields_by numbering ws 
   words_are gs g = sym (give-inv (rw g at taken))
 
 -- ---- a field's group, by its word
-at_some : (gs : List Group) (i : ℕ) (x : Oneof) → get_or gs i none ≡ some x → Among (some x) gs
+at_some : (gs : List Group) (i : ℕ) (x : Oneof) → get_or gs i None ≡ Some x → Among (Some x) gs
 at_some [] i x e = never cc
 at_some (g ∷ gs) zero x e = rw e here
 at_some (g ∷ gs) (suc i) x e = there (at_some gs i x e)
 
-word_some : (numbering reals : ℕ) (g : Group) → word_of numbering reals g ≡ 0 → g ≡ none
-word_some numbering reals none e = refl
-word_some numbering reals (some x) e = absurd (omega arith)
+word_some : (numbering reals : ℕ) (g : Group) → word_of numbering reals g ≡ 0 → g ≡ None
+word_some numbering reals None e = refl
+word_some numbering reals (Some x) e = absurd (omega arith)
 
 module _ (numbering : ℕ) (ws : List ℕ) (gs : List Group) (e : groups ws ≡ give gs) where
   -- two groups of one list have the same word only if they are one
-  group-unique : (g h : Group) → ((x : Oneof) → g ≡ some x → Among (some x) gs) → ((x : Oneof) → h ≡ some x → Among (some x) gs)
+  group-unique : (g h : Group) → ((x : Oneof) → g ≡ Some x → Among (Some x) gs) → ((x : Oneof) → h ≡ Some x → Among (Some x) gs)
       → word_of numbering (real_count ws) g ≡ word_of numbering (real_count ws) h → g ≡ h
-  group-unique none none m m' q = refl
-  group-unique none (some y) m m' q = absurd (omega arith)
-  group-unique (some x) none m m' q = absurd (omega arith)
-  group-unique (some x) (some y) m m' q =
-      ap some (index-unique numbering ws x y (group-opened ws gs e x (m x refl)) (group-opened ws gs e y (m' y refl)) (omega arith))
+  group-unique None None m m' q = refl
+  group-unique None (Some y) m m' q = absurd (omega arith)
+  group-unique (Some x) None m m' q = absurd (omega arith)
+  group-unique (Some x) (Some y) m m' q =
+      ap Some (index-unique numbering ws x y (group-opened ws gs e x (m x refl)) (group-opened ws gs e y (m' y refl)) (omega arith))
 
   module _ (xs : List ℕ) (f : lower_fields_by numbering ws ≡ give xs) where
-    pub word_at : (i : ℕ) → get_or xs i 0 ≡ word_of numbering (real_count ws) (get_or gs i none)
+    pub word_at : (i : ℕ) → get_or xs i 0 ≡ word_of numbering (real_count ws) (get_or gs i None)
     word_at i =
-        ap (λ l. get_or l i 0) (words_are numbering ws xs f gs e) ∙ get_or-map (word_of numbering (real_count ws)) gs i none
+        ap (λ l. get_or l i 0) (words_are numbering ws xs f gs e) ∙ get_or-map (word_of numbering (real_count ws)) gs i None
 
-    pub word_none : (i : ℕ) → get_or xs i 0 ≡ 0 → get_or gs i none ≡ none
-    word_none i q = word_some numbering (real_count ws) (get_or gs i none) (sym (word_at i) ∙ q)
+    pub word_none : (i : ℕ) → get_or xs i 0 ≡ 0 → get_or gs i None ≡ None
+    word_none i q = word_some numbering (real_count ws) (get_or gs i None) (sym (word_at i) ∙ q)
 
-    pub none-word : (i : ℕ) → get_or gs i none ≡ none → get_or xs i 0 ≡ 0
+    pub none-word : (i : ℕ) → get_or gs i None ≡ None → get_or xs i 0 ≡ 0
     none-word i q = word_at i ∙ ap (word_of numbering (real_count ws)) q
 
-    pub word-group : (i j : ℕ) → get_or xs i 0 ≡ get_or xs j 0 → get_or gs i none ≡ get_or gs j none
+    pub word-group : (i j : ℕ) → get_or xs i 0 ≡ get_or xs j 0 → get_or gs i None ≡ get_or gs j None
     word-group i j q =
-        group-unique (get_or gs i none) (get_or gs j none) (at_some gs i) (at_some gs j) (sym (word_at i) ∙ q ∙ word_at j)
+        group-unique (get_or gs i None) (get_or gs j None) (at_some gs i) (at_some gs j) (sym (word_at i) ∙ q ∙ word_at j)
 
-    pub group-word : (i j : ℕ) → get_or gs i none ≡ get_or gs j none → get_or xs i 0 ≡ get_or xs j 0
+    pub group-word : (i j : ℕ) → get_or gs i None ≡ get_or gs j None → get_or xs i 0 ≡ get_or xs j 0
     group-word i j q = word_at i ∙ ap (word_of numbering (real_count ws)) q ∙ sym (word_at j)

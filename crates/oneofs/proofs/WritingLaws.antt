@@ -5,8 +5,8 @@
 --   Numbering numbering reals ws l l' next-real next-synthetic member n i <-> the first i words are read, and n written over l, now l'
 --
 -- Assumes nothing.
-use Rattle.std.specs.Prelude.{◌≡◌, refl, List, [], ◌∷◌, ℕ, suc, ◌+◌, ◌≤◌, ◌<◌, length, get_or, drop}
-use Rattle.basis.specs.Kit.{sym, ap, ◌∙◌, none, some, sets}
+use Rattle.std.specs.Prelude.{◌≡◌, refl, List, [], ◌∷◌, ℕ, suc, ◌+◌, ◌≤◌, ◌<◌, length, get_or, drop, None, Some}
+use Rattle.basis.specs.Kit.{sym, ap, ◌∙◌, sets}
 use Rattle.basis.proofs.Kit.{arith, add-one}
 use lib.ListN.{drop_of_length-le}
 use Rattle.limits.specs.Figures.{most_words}
@@ -29,17 +29,17 @@ pub record Held (numbering reals r s : ℕ) (group : Group) (next-real next-synt
   pub member_is : member ≡ word_of numbering reals group
 
 module _ (numbering reals : ℕ) where
-  held_start : (first : ℕ) → first ≡ index_of numbering reals (oneof synthetic 0 0) → Held numbering reals 0 0 none 0 first 0
+  held_start : (first : ℕ) → first ≡ index_of numbering reals (oneof synthetic 0 0) → Held numbering reals 0 0 None 0 first 0
   held_start first e = record { real-is = omega (arith, (grows numbering reals 0 0).real-few); synthetic-is = e; member_is = refl }
 
   module _
       (r s : ℕ) (group : Group) (next-real next-synthetic member : ℕ)
       (k : Held numbering reals r s group next-real next-synthetic member) where
-    held_plain : Held numbering reals r s none next-real next-synthetic 0
+    held_plain : Held numbering reals r s None next-real next-synthetic 0
     held_plain = record { real-is = k.real-is; synthetic-is = k.synthetic-is; member_is = refl }
 
     module _ (step : ℕ) (t : step ≡ index_of numbering 0 (oneof real 0 1)) where
-      held-optional : Held numbering reals r (suc s) none (next-real + step) (next-synthetic + 1) 0
+      held-optional : Held numbering reals r (suc s) None (next-real + step) (next-synthetic + 1) 0
       held-optional = record {
         real-is = rw (k.real-is, t) (grows numbering reals r s).real-synthetic;
         synthetic-is = rw k.synthetic-is (grows numbering reals r s).synthetic-synthetic;
@@ -47,7 +47,7 @@ module _ (numbering reals : ℕ) where
       }
 
       held-opens : (member' : ℕ) → member' ≡ next-real + 1
-          → Held numbering reals (suc r) s (some (oneof real r s)) (next-real + 1) (next-synthetic + step) member'
+          → Held numbering reals (suc r) s (Some (oneof real r s)) (next-real + 1) (next-synthetic + step) member'
       held-opens member' e = record {
         real-is = rw k.real-is (grows numbering reals r s).real-real;
         synthetic-is = rw (k.synthetic-is, t) (grows numbering reals r s).synthetic-real;
@@ -75,7 +75,7 @@ module _ (numbering reals : ℕ) (ws l : List ℕ) where
   numbering_start first e h h' = record {
     r = 0;
     s = 0;
-    group = none;
+    group = None;
     held = held_start numbering reals first e;
     most = h;
     reals-most = h';
@@ -143,7 +143,7 @@ module _ (numbering reals : ℕ) (ws l : List ℕ) where
       pub numbering-plain : get_or ws i 0 ≡ 0 → (l' : List ℕ) → l' ≡ sets m n (0 ∷ [])
           → Numbering numbering reals ws l l' next-real next-synthetic 0 (n + 1) (i + 1)
       numbering-plain a =
-          wrote u.r u.s none next-real next-synthetic 0 (held_plain numbering reals _ _ _ _ _ _ u.held) (omega arith) 0
+          wrote u.r u.s None next-real next-synthetic 0 (held_plain numbering reals _ _ _ _ _ _ u.held) (omega arith) 0
           (words-plain numbering reals u.r u.s u.group _ _ a)
 
       module _ (a : get_or ws i 0 ≡ 0 → ⊥) (b : get_or ws i 0 ≡ 1 → ⊥) (d : get_or ws i 0 ≡ 2 → ⊥) where
@@ -173,7 +173,7 @@ module _
   numbering-optional b =
       let k = held-optional numbering reals u.r u.s _ _ _ _ u.held step t in
       let e = words-optional numbering reals u.r u.s u.group (get_or ws i 0) (drop (i + 1) ws) a b in
-      wrote numbering reals ws l m next-real next-synthetic member n i u h u.r (suc u.s) none
+      wrote numbering reals ws l m next-real next-synthetic member n i u h u.r (suc u.s) None
       (next-real + step) (next-synthetic + 1) 0 k (omega arith) (next-synthetic + 1) (rw u.held.synthetic-is e)
 
   pub numbering-opens : (get_or ws i 0 ≡ 1 → ⊥) → get_or ws i 0 ≡ 2 → (member' : ℕ) → member' ≡ next-real + 1
@@ -181,7 +181,7 @@ module _
   numbering-opens b d member' g =
       let k = held-opens numbering reals u.r u.s _ _ _ _ u.held step t member' g in
       let e = words-opens numbering reals u.r u.s u.group (get_or ws i 0) (drop (i + 1) ws) a b d in
-      passed numbering reals ws l m next-real next-synthetic member n i u h (suc u.r) u.s (some (oneof real u.r u.s))
+      passed numbering reals ws l m next-real next-synthetic member n i u h (suc u.r) u.s (Some (oneof real u.r u.s))
       (next-real + 1) (next-synthetic + step) member' k (omega arith) e
 
 pub ruleset numbering-laws = (

@@ -23,8 +23,7 @@
 --                    Alike o q <-> o and q are one refusal, or give as many words
 --
 -- Assumes nothing.
-use Rattle.std.specs.Prelude.{◌≡◌, Bool, true, false, List, [], ◌∷◌, map, ℕ, suc, ◌+◌, eqb, ltb, length}
-use Rattle.basis.specs.Kit.{Option, none, some}
+use Rattle.std.specs.Prelude.{◌≡◌, Bool, true, false, List, [], ◌∷◌, map, ℕ, suc, ◌+◌, eqb, ltb, length, Option, None, Some}
 use Rattle.basis.specs.Count.{count}
 use Rattle.limits.specs.Figures.{most_words}
 use Rattle.reply.specs.declared.Cause.{Cause}
@@ -76,26 +75,26 @@ Group = Option Oneof
 
 -- "a 3 not right after a 2 or 3 .. is 2" [LOWER-6]
 abbrev pub joining : (member : Group) (rest : Outcome Group) → Outcome Group
-joining none rest = refuse BadRequest
-joining (some x) rest = push (some x ∷ []) rest
+joining None rest = refuse BadRequest
+joining (Some x) rest = push (Some x ∷ []) rest
 
 -- the same words as above, with what a oneof is in place of its index
 unfoldable pub groups_after : (reals synthetics : ℕ) (member : Group) (ws : List ℕ) → Outcome Group
 groups_after r s member [] = give []
 groups_after r s member (w ∷ ws) =
     elim (eqb w 0) [
-      | true ↦ push (none ∷ []) (groups_after r s none ws)
+      | true ↦ push (None ∷ []) (groups_after r s None ws)
       | false ↦ elim (eqb w 1) [
-        | true ↦ push (some (oneof synthetic r s) ∷ []) (groups_after r (suc s) none ws)
+        | true ↦ push (Some (oneof synthetic r s) ∷ []) (groups_after r (suc s) None ws)
         | false ↦ elim (eqb w 2) [
-          | true ↦ groups_after (suc r) s (some (oneof real r s)) ws
+          | true ↦ groups_after (suc r) s (Some (oneof real r s)) ws
           | false ↦ elim (eqb w 3) [ true ↦ joining member (groups_after r s member ws) | false ↦ refuse BadRequest ]
         ]
       ]
     ]
 
 abbrev pub groups : List ℕ → Outcome Group
-groups ws = groups_after 0 0 none ws
+groups ws = groups_after 0 0 None ws
 
 -- ---- all oneofs of a list, those without a member too
 unfoldable pub opened_after : (reals synthetics : ℕ) (ws : List ℕ) → List Oneof
@@ -131,8 +130,8 @@ index_of numbering reals (oneof kind r s) =
 
 -- "0 for none, else index + 1" [LOWER-8]
 abbrev pub word_of : (numbering reals : ℕ) → Group → ℕ
-word_of numbering reals none = 0
-word_of numbering reals (some x) = suc (index_of numbering reals x)
+word_of numbering reals None = 0
+word_of numbering reals (Some x) = suc (index_of numbering reals x)
 
 abbrev pub numbered : (numbering reals : ℕ) → Outcome Group → Outcome ℕ
 numbered numbering reals (refused c) = refused c

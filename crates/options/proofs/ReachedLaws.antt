@@ -3,8 +3,8 @@
 --   Reached r h n i <-> the n options before the place i are done, and those from there on are fine
 --
 -- Assumes nothing.
-use Rattle.std.specs.Prelude.{◌≡◌, refl, List, [], ◌∷◌, ℕ, zero, suc, ◌+◌, ◌-◌, ◌≤◌, ◌<◌, length, drop}
-use Rattle.basis.specs.Kit.{sym, ap, ◌∙◌, some}
+use Rattle.std.specs.Prelude.{◌≡◌, refl, List, [], ◌∷◌, ℕ, zero, suc, ◌+◌, ◌-◌, ◌≤◌, ◌<◌, length, drop, Some}
+use Rattle.basis.specs.Kit.{sym, ap, ◌∙◌}
 use Rattle.basis.proofs.Kit.{arith, add-one, w64, Fits}
 use lib.ListN.{get_elem?}
 use Rattle.basis.specs.First.{told}
@@ -40,7 +40,7 @@ pub record Reached (r : List ℕ) (h : Start) (n i : ℕ) : Type 0 where
 
 -- ---- what a list has at a place, and what is left behind it
 module _ {A : Type 0} (x : A) (rest : List A) where
-  drop_here : (n : ℕ) (xs : List A) → drop n xs ≡ x ∷ rest → get_elem? xs n ≡ some x
+  drop_here : (n : ℕ) (xs : List A) → drop n xs ≡ x ∷ rest → get_elem? xs n ≡ Some x
   drop_here zero [] e = never cc
   drop_here zero (y ∷ xs) e = cc
   drop_here (suc n) [] e = never cc

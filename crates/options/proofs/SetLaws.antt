@@ -1,7 +1,6 @@
 -- How many bytes the record of the builtin has that an option sets.
 -- Assumes nothing.
-use Rattle.std.specs.Prelude.{◌≡◌, refl, List, ℕ, ◌-◌, ◌≤◌, length}
-use Rattle.basis.specs.Kit.{Option, none, some}
+use Rattle.std.specs.Prelude.{◌≡◌, refl, List, ℕ, ◌-◌, ◌≤◌, length, Option, None, Some}
 use Rattle.basis.proofs.Kit.{arith}
 use Rattle.basis.specs.First.{told}
 use Rattle.limits.specs.Figures.{most_constants}
@@ -11,7 +10,7 @@ use Rattle.field.specs.Walk.{walk}
 use Rattle.field.proofs.FieldLaws.{field-bounds}
 use Rattle.request.specs.declared.name.Part.{Part}
 use Rattle.request.specs.Name.{parts_in, after_parts}
-use Rattle.request.specs.Tree.{Constants, none as no_constant, unnamed, constant_in}
+use Rattle.request.specs.Tree.{Constants, None as no_constant, unnamed, constant_in}
 use Rattle.request.specs.Request.{constant_of_field, option_of}
 use Rattle.request.proofs.RequestLaws.{after-from}
 use Rattle.optionform.specs.inner.Parts.{OptionParts}
@@ -67,5 +66,5 @@ module _ (L : Lookups) (s r : List ℕ) (h : Start) (a e : ℕ) (o : a ≤ e) (k
       steps = option_from L s r (text r h.scope) 0 (message_of r h) (parts_in (walk r a e)) constant
 
       go : (b : Option Part) → length (encode (set_recs (told (settled steps) (built_by constant) b))) ≤ bytes_most (e - a)
-      go none = set-stepped steps (bytes_most (e - a))
-      go (some p) = part-few p
+      go None = set-stepped steps (bytes_most (e - a))
+      go (Some p) = part-few p

@@ -5,8 +5,7 @@
 --               settle o == what the option o comes to
 --
 -- Assumes nothing.
-use Rattle.std.specs.Prelude.{List, [], ◌∷◌, ℕ}
-use Rattle.basis.specs.Kit.{Option, none, some}
+use Rattle.std.specs.Prelude.{List, [], ◌∷◌, ℕ, Option, None, Some}
 use Rattle.basis.specs.First.{only_if, told}
 use Rattle.field.specs.Leaf.{text}
 use Rattle.request.specs.declared.name.Part.{Part}
@@ -39,9 +38,9 @@ settled (wrong f) = fails f
 
 -- "A single direct part is a builtin." [STEP-4]
 abbrev pub builtin_part : List Part → Option Part
-builtin_part [] = none
-builtin_part (p ∷ []) = only_if p.extension none (some p)
-builtin_part (p ∷ q ∷ ps) = none
+builtin_part [] = None
+builtin_part (p ∷ []) = only_if p.extension None (Some p)
+builtin_part (p ∷ q ∷ ps) = None
 
 module _ (L : Lookups) (s r scope : List ℕ) (m : Message) where
   -- "Other names resolve the first part in the options message" [STEP-5]

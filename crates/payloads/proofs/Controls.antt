@@ -1,8 +1,7 @@
 -- Closed cases of the definitions, which the checker computes: the values of each group of types at its limits, and the payload of each
 -- wire type whole and one byte short.
 -- Assumes nothing.
-use Rattle.std.specs.Prelude.{◌≡◌, refl, List, [], ◌∷◌, map, ℕ}
-use Rattle.basis.specs.Kit.{Option, none, some}
+use Rattle.std.specs.Prelude.{◌≡◌, refl, List, [], ◌∷◌, map, ℕ, Option, None, Some}
 use Rattle.types.specs.Types.{TYPE_DOUBLE, TYPE_FLOAT, TYPE_INT64, TYPE_UINT64, TYPE_INT32, TYPE_FIXED64, TYPE_FIXED32, TYPE_BOOL}
 use Rattle.types.specs.Types.{TYPE_UINT32, TYPE_ENUM, TYPE_SFIXED32, TYPE_SFIXED64, TYPE_SINT32, TYPE_SINT64}
 use Rattle.types.specs.Types.{VARINT, I64, LEN, I32}
@@ -62,7 +61,7 @@ plain = refl
 
 -- ---- the payload: as long as the bytes are, one byte short, and with a byte behind it
 abbrev extent : (before size : ℕ) → Option Extent
-extent k n = some (record { before = k; size = n })
+extent k n = Some (record { before = k; size = n })
 
 -- Encoding, "Base 128 Varints": 150 is 96 01; and 1 in ten bytes, the longest form; an eleventh byte, and a tenth above 1
 abbrev long : ℕ → List ℕ
@@ -70,21 +69,21 @@ long last = 0x81 ∷ 0x80 ∷ 0x80 ∷ 0x80 ∷ 0x80 ∷ 0x80 ∷ 0x80 ∷ 0x80 
 
 varints :
     map (payload_at VARINT) ((0x96 ∷ 0x01 ∷ []) ∷ (0x96 ∷ []) ∷ (0x96 ∷ 0x01 ∷ 0x07 ∷ []) ∷ [] ∷ [])
-    ≡ extent 0 2 ∷ none ∷ extent 0 2 ∷ none ∷ []
+    ≡ extent 0 2 ∷ None ∷ extent 0 2 ∷ None ∷ []
 unfolding payload_at read_varint read_within
 varints = refl
 
-overlong : map (payload_at VARINT) (long 0 ∷ long 2 ∷ long 0x80 ∷ []) ≡ extent 0 10 ∷ none ∷ none ∷ []
+overlong : map (payload_at VARINT) (long 0 ∷ long 2 ∷ long 0x80 ∷ []) ≡ extent 0 10 ∷ None ∷ None ∷ []
 unfolding payload_at read_varint read_within
 overlong = refl
 
 fours :
-    map (payload_at I32) ((1 ∷ 2 ∷ 3 ∷ 4 ∷ []) ∷ (1 ∷ 2 ∷ 3 ∷ []) ∷ (1 ∷ 2 ∷ 3 ∷ 4 ∷ 5 ∷ []) ∷ []) ≡ extent 0 4 ∷ none ∷ extent 0 4 ∷ []
+    map (payload_at I32) ((1 ∷ 2 ∷ 3 ∷ 4 ∷ []) ∷ (1 ∷ 2 ∷ 3 ∷ []) ∷ (1 ∷ 2 ∷ 3 ∷ 4 ∷ 5 ∷ []) ∷ []) ≡ extent 0 4 ∷ None ∷ extent 0 4 ∷ []
 unfolding payload_at
 fours = refl
 
 eights :
-    map (payload_at I64) ((1 ∷ 2 ∷ 3 ∷ 4 ∷ 5 ∷ 6 ∷ 7 ∷ 8 ∷ []) ∷ (1 ∷ 2 ∷ 3 ∷ 4 ∷ 5 ∷ 6 ∷ 7 ∷ []) ∷ []) ≡ extent 0 8 ∷ none ∷ []
+    map (payload_at I64) ((1 ∷ 2 ∷ 3 ∷ 4 ∷ 5 ∷ 6 ∷ 7 ∷ 8 ∷ []) ∷ (1 ∷ 2 ∷ 3 ∷ 4 ∷ 5 ∷ 6 ∷ 7 ∷ []) ∷ []) ≡ extent 0 8 ∷ None ∷ []
 unfolding payload_at
 eights = refl
 
@@ -94,7 +93,7 @@ delimited :
     ((7 ∷ 0x74 ∷ 0x65 ∷ 0x73 ∷ 0x74 ∷ 0x69 ∷ 0x6E ∷ 0x67 ∷ [])
     ∷ (7 ∷ 0x74 ∷ 0x65 ∷ 0x73 ∷ 0x74 ∷ 0x69 ∷ 0x6E ∷ [])
     ∷ (0 ∷ []) ∷ (0x81 ∷ 0 ∷ 9 ∷ []) ∷ [] ∷ [])
-    ≡ extent 1 7 ∷ none ∷ extent 1 0 ∷ extent 2 1 ∷ none ∷ []
+    ≡ extent 1 7 ∷ None ∷ extent 1 0 ∷ extent 2 1 ∷ None ∷ []
 unfolding payload_at read_varint read_within
 delimited = refl
 

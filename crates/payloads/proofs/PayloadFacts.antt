@@ -1,7 +1,7 @@
 -- What callers know of a payload: it lies inside the bytes that it is read from, and its own bytes say its size and its number.
 -- Assumes nothing.
-use Rattle.std.specs.Prelude.{◌≡◌, refl, Bool, true, false, List, ℕ, ◌+◌, ◌-◌, ◌≤◌, eqb, leb, length, take, drop}
-use Rattle.basis.specs.Kit.{sym, ◌∙◌, Option, none, some}
+use Rattle.std.specs.Prelude.{◌≡◌, refl, Bool, true, false, List, ℕ, ◌+◌, ◌-◌, ◌≤◌, eqb, leb, length, take, drop, Option, None, Some}
+use Rattle.basis.specs.Kit.{sym, ◌∙◌}
 use Rattle.basis.proofs.Kit.{arith}
 use Rattle.basis.proofs.Never.{never}
 use native.Mathlib.Nat.{min-le_left}
@@ -24,12 +24,12 @@ pub record Given {A : Type 0} (bs : List ℕ) (f : (value size : ℕ) → Option
   pub value : ℕ
   pub size : ℕ
   pub read : read_varint bs ≡ Varint value size
-  pub made : f value size ≡ some x
+  pub made : f value size ≡ Some x
 
-pub read-given : {A : Type 0} (bs : List ℕ) (f : (value size : ℕ) → Option A) (x : A) → on_read (read_varint bs) f ≡ some x → Given bs f x
+pub read-given : {A : Type 0} (bs : List ℕ) (f : (value size : ℕ) → Option A) (x : A) → on_read (read_varint bs) f ≡ Some x → Given bs f x
 read-given {A} bs f x = go (read_varint bs) refl
   where
-    go : (r : Read) → read_varint bs ≡ r → on_read r f ≡ some x → Given bs f x
+    go : (r : Read) → read_varint bs ≡ r → on_read r f ≡ Some x → Given bs f x
     go (Varint v n) e q = record { value = v; size = n; read = e; made = q }
     go Bad e q = never cc
 
@@ -38,28 +38,28 @@ record Held (bs : List ℕ) (k n : ℕ) (x : Extent) : Type 0 where
   pub is : x ≡ record { before = k; size = n }
   pub room : k + n ≤ length bs
 
-within_held : (bs : List ℕ) (k n : ℕ) (x : Extent) → within bs k n ≡ some x → Held bs k n x
+within_held : (bs : List ℕ) (k n : ℕ) (x : Extent) → within bs k n ≡ Some x → Held bs k n x
 within_held bs k n x = go (leb (k + n) (length bs)) refl
   where
     go : (t : Bool) → leb (k + n) (length bs) ≡ t
-        → elim t [ true ↦ some (record { before = k; size = n }) | false ↦ none ] ≡ some x → Held bs k n x
+        → elim t [ true ↦ Some (record { before = k; size = n }) | false ↦ None ] ≡ Some x → Held bs k n x
     go true e q = record { is = cc; room = leb-true (k + n) (length bs) e }
     go false e q = never cc
 
-pub extent-inside : (w : ℕ) (bs : List ℕ) (x : Extent) → payload_at w bs ≡ some x → x.before + x.size ≤ length bs
+pub extent-inside : (w : ℕ) (bs : List ℕ) (x : Extent) → payload_at w bs ≡ Some x → x.before + x.size ≤ length bs
 unfolding payload_at
 extent-inside w bs x = go (eqb w VARINT) (eqb w I64) (eqb w I32)
   where
     Inside : Type 0
     Inside = x.before + x.size ≤ length bs
 
-    by : (k n : ℕ) → within bs k n ≡ some x → Inside
+    by : (k n : ℕ) → within bs k n ≡ Some x → Inside
     by k n e = let h = within_held bs k n x e in rw h.is h.room
 
-    one : on_read (read_varint bs) (λ v n. within bs 0 n) ≡ some x → Inside
+    one : on_read (read_varint bs) (λ v n. within bs 0 n) ≡ Some x → Inside
     one e = let g = read-given bs (λ v n. within bs 0 n) x e in by 0 g.size g.made
 
-    sized : on_read (read_varint bs) (λ k n. within bs n k) ≡ some x → Inside
+    sized : on_read (read_varint bs) (λ k n. within bs n k) ≡ Some x → Inside
     sized e = let g = read-given bs (λ k n. within bs n k) x e in by g.size g.value g.made
 
     go : (a b c : Bool) → elim a [
@@ -68,7 +68,7 @@ extent-inside w bs x = go (eqb w VARINT) (eqb w I64) (eqb w I32)
         | true ↦ within bs 0 8
         | false ↦ elim c [ true ↦ within bs 0 4 | false ↦ on_read (read_varint bs) (λ k n. within bs n k) ]
       ]
-    ] ≡ some x → Inside
+    ] ≡ Some x → Inside
     go true b c = one
     go false true c = by 0 8
     go false false true = by 0 4
@@ -79,7 +79,7 @@ abbrev pub bytes_of : List ℕ → Extent → List ℕ
 bytes_of bs x = take x.size (drop x.before bs)
 
 module _ (bs : List ℕ) (x : Extent) where
-  pub extent-own : payload_at VARINT bs ≡ some x → read_varint (bytes_of bs x) ≡ Varint (said VARINT (bytes_of bs x)) x.size
+  pub extent-own : payload_at VARINT bs ≡ Some x → read_varint (bytes_of bs x) ≡ Varint (said VARINT (bytes_of bs x)) x.size
   unfolding payload_at said
   extent-own e =
       let g = read-given bs (λ v n. within bs 0 n) x e in
@@ -87,15 +87,15 @@ module _ (bs : List ℕ) (x : Extent) where
       let here : read_varint (take g.size bs) ≡ Varint g.value g.size = varint-own bs g.value g.size g.read in
       rw (h.is, here)
 
-  pub extent-eight : payload_at I64 bs ≡ some x → x.size ≡ 8
+  pub extent-eight : payload_at I64 bs ≡ Some x → x.size ≡ 8
   unfolding payload_at
   extent-eight e = rw (within_held bs 0 8 x e).is
 
-  pub extent-four : payload_at I32 bs ≡ some x → x.size ≡ 4
+  pub extent-four : payload_at I32 bs ≡ Some x → x.size ≡ 4
   unfolding payload_at
   extent-four e = rw (within_held bs 0 4 x e).is
 
-  pub extent-length : payload_at LEN bs ≡ some x → read_varint bs ≡ Varint x.size x.before
+  pub extent-length : payload_at LEN bs ≡ Some x → read_varint bs ≡ Varint x.size x.before
   unfolding payload_at
   extent-length e =
       let g = read-given bs (λ k n. within bs n k) x e in
@@ -104,7 +104,7 @@ module _ (bs : List ℕ) (x : Extent) where
 -- ---- a payload at a place
 pub record PlacedAs (w : ℕ) (s : List ℕ) (at end p k v : ℕ) : Type 0 where
   pub extent : Extent
-  pub found : payload_at w (part s at end) ≡ some extent
+  pub found : payload_at w (part s at end) ≡ Some extent
   pub place : p ≡ at + extent.before
   pub size : k ≡ extent.size
   pub number : v ≡ said w (bytes_of (part s at end) extent)
@@ -115,8 +115,8 @@ module _ (w : ℕ) (s : List ℕ) (at end p k v : ℕ) where
   payload-placed = go (payload_at w (part s at end)) refl
     where
       go : (o : Option Extent) → payload_at w (part s at end) ≡ o → placed w (part s at end) at o ≡ Whole p k v → PlacedAs w s at end p k v
-      go none e q = never cc
-      go (some x) e q = record { extent = x; found = e; place = cc; size = cc; number = cc }
+      go None e q = never cc
+      go (Some x) e q = record { extent = x; found = e; place = cc; size = cc; number = cc }
 
   module _ (e : payload_in w s at end ≡ Whole p k v) where
     pub payload-after : at ≤ p

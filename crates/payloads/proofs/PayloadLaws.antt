@@ -1,7 +1,7 @@
 -- The laws of `payload_at` and of its three helpers, one for each way through the code.
 -- Assumes nothing.
-use Rattle.std.specs.Prelude.{◌≡◌, refl, Bool, true, false, List, ℕ, ◌+◌, ◌-◌, ◌≤◌, ◌<◌, eqb, length, take, drop}
-use Rattle.basis.specs.Kit.{sym, ap, ◌∙◌, none, some}
+use Rattle.std.specs.Prelude.{◌≡◌, refl, Bool, true, false, List, ℕ, ◌+◌, ◌-◌, ◌≤◌, ◌<◌, eqb, length, take, drop, None, Some}
+use Rattle.basis.specs.Kit.{sym, ap, ◌∙◌}
 use Rattle.basis.proofs.Kit.{arith, eq-eqb, ne_eqb, not-true, not-false}
 use Rattle.basis.specs.First.{only_if}
 use Rattle.basis.proofs.Never.{never}
@@ -30,18 +30,18 @@ use Rattle.payloads.proofs.VarintOwn.{varint-own}
 -- ---- the definitions as equations
 
 module _ (bs : List ℕ) (k n : ℕ) where
-  pub within-whole : k + n ≤ length bs → within bs k n ≡ some (record { before = k; size = n })
+  pub within-whole : k + n ≤ length bs → within bs k n ≡ Some (record { before = k; size = n })
   within-whole h = rw (le-leb (k + n) (length bs) h, within)
 
-  pub within-cut : length bs < k + n → within bs k n ≡ none
+  pub within-cut : length bs < k + n → within bs k n ≡ None
   within-cut h = rw (lt-leb (k + n) (length bs) h, within)
 
 module _ (w : ℕ) (s : List ℕ) (at end : ℕ) where
-  in_cut : payload_at w (part s at end) ≡ none → Cut ≡ payload_in w s at end
+  in_cut : payload_at w (part s at end) ≡ None → Cut ≡ payload_in w s at end
   unfolding payload_in
   in_cut e = rw e
 
-  in_whole : (k n v : ℕ) → payload_at w (part s at end) ≡ some (record { before = k; size = n })
+  in_whole : (k n v : ℕ) → payload_at w (part s at end) ≡ Some (record { before = k; size = n })
       → said w (take n (drop k (part s at end))) ≡ v → Whole (at + k) n v ≡ payload_in w s at end
   unfolding payload_in
   in_whole k n v e q = rw (e, q)

@@ -7,8 +7,7 @@
 --   payload_at w bs == the payload of the wire type w at the front of bs
 --
 -- Assumes nothing.
-use Rattle.std.specs.Prelude.{true, false, List, ℕ, ◌+◌, eqb, leb, length}
-use Rattle.basis.specs.Kit.{Option, none, some}
+use Rattle.std.specs.Prelude.{true, false, List, ℕ, ◌+◌, eqb, leb, length, Option, None, Some}
 use Rattle.types.specs.Types.{VARINT, I64, I32}
 use Rattle.varint.specs.declared.Read.{Read}
 use Rattle.varint.specs.declared.Read.TheVariants.{Varint, Bad}
@@ -19,11 +18,11 @@ pub record Extent : Type 0 where
   pub size : ℕ
 
 abbrev pub within : (bs : List ℕ) (before size : ℕ) → Option Extent
-within bs k n = elim (leb (k + n) (length bs)) [ true ↦ some (record { before = k; size = n }) | false ↦ none ]
+within bs k n = elim (leb (k + n) (length bs)) [ true ↦ Some (record { before = k; size = n }) | false ↦ None ]
 
 abbrev pub on_read : {A : Type 0} → Read → ((value size : ℕ) → Option A) → Option A
 on_read (Varint v n) f = f v n
-on_read Bad f = none
+on_read Bad f = None
 
 unfoldable pub payload_at : (wire : ℕ) (bs : List ℕ) → Option Extent
 payload_at w bs = elim (eqb w VARINT) [

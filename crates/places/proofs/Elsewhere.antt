@@ -1,7 +1,6 @@
 -- Every other call is refused nowhere, if it is.
 -- Assumes nothing.
-use Rattle.std.specs.Prelude.{◌≡◌, refl, Bool, List, [], ◌∷◌, map, ℕ, suc, ◌%◌, eqb, ltb, length}
-use Rattle.basis.specs.Kit.{none, some}
+use Rattle.std.specs.Prelude.{◌≡◌, refl, Bool, List, [], ◌∷◌, map, ℕ, suc, ◌%◌, eqb, ltb, length, None, Some}
 use lib.IntN.{ℤ}
 use Rattle.limits.specs.Figures.{most_words}
 use Rattle.reply.specs.declared.Refusal.TheVariants.{BadRequest, BeyondLimit, RangeEnd}
@@ -65,17 +64,17 @@ ranges-bare k ws =
     (bare-either (eqb (length ws % 2) 1) (bare-refuse BadRequest) (pairs-bare k ws)))
 
 joining-bare : (member : Group) (o : Outcome Group) → Bare o → Bare (joining member o)
-joining-bare none o h = bare-refuse BadRequest
-joining-bare (some x) o h = bare-push (some x ∷ []) o h
+joining-bare None o h = bare-refuse BadRequest
+joining-bare (Some x) o h = bare-push (Some x ∷ []) o h
 
 groups-bare : (r s : ℕ) (member : Group) (ws : List ℕ) → Bare (groups_after r s member ws)
 unfolding groups_after
 groups-bare r s member [] = bare-give []
 groups-bare r s member (w ∷ ws) =
-    let x = some (oneof synthetic r s) in
-    let y = some (oneof real r s) in
-    bare-either (eqb w 0) (bare-push (none ∷ []) (groups_after r s none ws) (groups-bare r s none ws))
-    (bare-either (eqb w 1) (bare-push (x ∷ []) (groups_after r (suc s) none ws) (groups-bare r (suc s) none ws))
+    let x = Some (oneof synthetic r s) in
+    let y = Some (oneof real r s) in
+    bare-either (eqb w 0) (bare-push (None ∷ []) (groups_after r s None ws) (groups-bare r s None ws))
+    (bare-either (eqb w 1) (bare-push (x ∷ []) (groups_after r (suc s) None ws) (groups-bare r (suc s) None ws))
     (bare-either (eqb w 2) (groups-bare (suc r) s y ws)
     (bare-either (eqb w 3) (joining-bare member (groups_after r s member ws) (groups-bare r s member ws)) (bare-refuse BadRequest))))
 
@@ -89,7 +88,7 @@ unfolding lower_fields_by
 fields-by-bare numbering ws =
     bare-either (ltb synthetic_last numbering) (bare-refuse BadRequest)
     (bare-either (ltb most_words (length ws)) (bare-refuse BeyondLimit)
-    (numbered-bare numbering (real_count ws) (groups ws) (groups-bare 0 0 none ws)))
+    (numbered-bare numbering (real_count ws) (groups ws) (groups-bare 0 0 None ws)))
 
 pub fields-bare : (ws : List ℕ) → Bare (lower_fields ws)
 fields-bare ws = rw (← (declared_same ws)) (fields-by-bare declared ws)

@@ -5,8 +5,8 @@
 --                           refused nowhere, if at all
 --
 -- Assumes nothing.
-use Rattle.std.specs.Prelude.{◌≡◌, refl, List, [], ◌∷◌, ℕ, zero, suc, ◌+◌, ◌<◌, length}
-use Rattle.basis.specs.Kit.{sym, ap, ◌∙◌, Option, none, some}
+use Rattle.std.specs.Prelude.{◌≡◌, refl, List, [], ◌∷◌, ℕ, zero, suc, ◌+◌, ◌<◌, length, Option, None, Some}
+use Rattle.basis.specs.Kit.{sym, ap, ◌∙◌}
 use Rattle.basis.specs.Among.{Among, here, there}
 use Rattle.basis.proofs.Kit.{arith}
 use Rattle.basis.proofs.AmongLaws.{among-nil}
@@ -43,22 +43,22 @@ use Rattle.places.specs.Places.{scope_of, options_type, options_at, settled_in, 
 -- ---- the options in order
 pub record FirstFault (f : tree.Option → Settled) (os : List tree.Option) (k : ℕ) (e : Fault) : Type 0 where
   pub option : tree.Option
-  pub at : get_elem? os k ≡ some option
+  pub at : get_elem? os k ≡ Some option
   pub fault : f option ≡ fails e
-  pub before : (j : ℕ) → j < k → (o : tree.Option) → get_elem? os j ≡ some o → fault_of (f o) ≡ none
+  pub before : (j : ℕ) → j < k → (o : tree.Option) → get_elem? os j ≡ Some o → fault_of (f o) ≡ None
 
-pub at-below : (os : List tree.Option) (k : ℕ) (o : tree.Option) → get_elem? os k ≡ some o → k < length os
+pub at-below : (os : List tree.Option) (k : ℕ) (o : tree.Option) → get_elem? os k ≡ Some o → k < length os
 at-below [] zero o e = never cc
 at-below [] (suc k) o e = never cc
 at-below (x ∷ os) zero o e = omega arith
 at-below (x ∷ os) (suc k) o e = let h = at-below os k o e in omega (arith, h)
 
-pub at_some : (os : List tree.Option) (k : ℕ) → k < length os → (o : tree.Option) × (get_elem? os k ≡ some o)
+pub at_some : (os : List tree.Option) (k : ℕ) → k < length os → (o : tree.Option) × (get_elem? os k ≡ Some o)
 at_some [] k h = absurd (omega (arith, h))
 at_some (x ∷ os) zero h = (x, refl)
 at_some (x ∷ os) (suc k) h = at_some os k (omega (arith, h))
 
-pub at-among : (os : List tree.Option) (k : ℕ) (o : tree.Option) → get_elem? os k ≡ some o → Among o os
+pub at-among : (os : List tree.Option) (k : ℕ) (o : tree.Option) → get_elem? os k ≡ Some o → Among o os
 at-among [] zero o e = never cc
 at-among [] (suc k) o e = never cc
 at-among (x ∷ os) zero o e = let y : x ≡ o = cc in subst (λ (z : tree.Option). Among z (x ∷ os)) y here
@@ -66,29 +66,29 @@ at-among (x ∷ os) (suc k) o e = there (at-among os k o e)
 
 -- all options pass, or one is the first that does not
 pub data Searched (f : tree.Option → Settled) (os : List tree.Option) : Type 0 where
-  passed : ((o : tree.Option) → Among o os → fault_of (f o) ≡ none) → Searched f os
+  passed : ((o : tree.Option) → Among o os → fault_of (f o) ≡ None) → Searched f os
   fault : (k : ℕ) (e : Fault) → FirstFault f os k e → Searched f os
 
 module _ (f : tree.Option → Settled) where
-  pub fails-none : {v : Settled} {e : Fault} → v ≡ fails e → fault_of v ≡ none → ⊥
-  fails-none {v} {e} g h = let y : some e ≡ none = sym (ap fault_of g) ∙ h in never cc
+  pub fails-none : {v : Settled} {e : Fault} → v ≡ fails e → fault_of v ≡ None → ⊥
+  fails-none {v} {e} g h = let y : Some e ≡ None = sym (ap fault_of g) ∙ h in never cc
 
   pub first-here : (x : tree.Option) (os : List tree.Option) (e : Fault) → f x ≡ fails e → FirstFault f (x ∷ os) 0 e
   first-here x os e g = record { option = x; at = refl; fault = g; before = λ j h. absurd (omega (arith, h)) }
 
-  module _ (x : tree.Option) (os : List tree.Option) (g : fault_of (f x) ≡ none) where
+  module _ (x : tree.Option) (os : List tree.Option) (g : fault_of (f x) ≡ None) where
     first-there : {k : ℕ} {e : Fault} → FirstFault f os k e → FirstFault f (x ∷ os) (suc k) e
     first-there {k} {e} u = record { option = u.option; at = u.at; fault = u.fault; before = earlier }
       where
-        earlier : (j : ℕ) → j < suc k → (o : tree.Option) → get_elem? (x ∷ os) j ≡ some o → fault_of (f o) ≡ none
-        earlier zero h o y = let z : x ≡ o = cc in subst (λ (v : tree.Option). fault_of (f v) ≡ none) z g
+        earlier : (j : ℕ) → j < suc k → (o : tree.Option) → get_elem? (x ∷ os) j ≡ Some o → fault_of (f o) ≡ None
+        earlier zero h o y = let z : x ≡ o = cc in subst (λ (v : tree.Option). fault_of (f v) ≡ None) z g
         earlier (suc j) h o y = u.before j (omega (arith, h)) o y
 
     searched-there : Searched f os → Searched f (x ∷ os)
     searched-there (fault k e u) = fault (suc k) e (first-there u)
     searched-there (passed h) = passed all
       where
-        all : (o : tree.Option) → Among o (x ∷ os) → fault_of (f o) ≡ none
+        all : (o : tree.Option) → Among o (x ∷ os) → fault_of (f o) ≡ None
         all o here = g
         all o (there m) = h o m
 
@@ -116,13 +116,13 @@ module _ (L : Lookups) (s r scope : List ℕ) (m : Message) where
         → gather L s r scope m i ks x (o ∷ os) ≡ next i ks x v (λ ks' x'. gather L s r scope m (i + 1) ks' x' os)
     gather-next v g = ap (λ (z : Settled). next i ks x z (λ ks' x'. gather L s r scope m (i + 1) ks' x' os)) g
 
-  pub gather-passed : (os : List tree.Option) → ((o : tree.Option) → Among o os → fault_of (come o) ≡ none) → (i : ℕ) (ks : List Known)
+  pub gather-passed : (os : List tree.Option) → ((o : tree.Option) → Among o os → fault_of (come o) ≡ None) → (i : ℕ) (ks : List Known)
       (x : Recs) → Gathers (gather L s r scope m i ks x os)
   gather-passed [] h i ks x = record { knowns = ks; rest = x; is = refl }
   gather-passed (o ∷ os) h i ks x =
       go (come o) refl (h o here) (λ ks' x'. gather-passed os (λ y z. h y (there z)) (i + 1) ks' x')
     where
-      go : (v : Settled) → come o ≡ v → fault_of (come o) ≡ none
+      go : (v : Settled) → come o ≡ v → fault_of (come o) ≡ None
           → ((ks' : List Known) (x' : Recs) → Gathers (gather L s r scope m (i + 1) ks' x' os)) → Gathers (gather L s r scope m i ks x (o ∷ os))
       go (known k) g n more = subst Gathers (sym (gather-next i ks x o os (known k) g)) (more _ x)
       go (others y) g n more = subst Gathers (sym (gather-next i ks x o os (others y) g)) (more ks _)
@@ -144,7 +144,7 @@ module _ (L : Lookups) (s r scope : List ℕ) (m : Message) where
       behind : stopped (cause_at (i + 1 + k) e) ≡ stopped (cause_at (i + suc k) e)
       behind = let n : i + 1 + k ≡ i + suc k = omega arith in ap (λ (z : ℕ). stopped (cause_at z e)) n
 
-      go : (v : Settled) → come o ≡ v → fault_of (come o) ≡ none
+      go : (v : Settled) → come o ≡ v → fault_of (come o) ≡ None
           → ((ks' : List Known) (x' : Recs) → gather L s r scope m (i + 1) ks' x' os ≡ stopped (cause_at (i + 1 + k) e))
           → gather L s r scope m i ks x (o ∷ os) ≡ stopped (cause_at (i + suc k) e)
       go (known y) g n more = gather-next i ks x o os (known y) g ∙ more _ x ∙ behind

@@ -1,7 +1,7 @@
 -- An option in a request of its own, of the same scope and options type: it is refused there as it is here, or comes to records.
 -- Assumes nothing.
-use Rattle.std.specs.Prelude.{◌≡◌, List, [], ◌∷◌, ℕ}
-use Rattle.basis.specs.Kit.{ap, ◌∙◌, none, some}
+use Rattle.std.specs.Prelude.{◌≡◌, List, [], ◌∷◌, ℕ, None, Some}
+use Rattle.basis.specs.Kit.{ap, ◌∙◌}
 use Rattle.basis.specs.Among.{Among, here, there}
 use Rattle.basis.proofs.AmongLaws.{among-nil}
 use Rattle.basis.proofs.Never.{never}
@@ -40,7 +40,7 @@ module _ (s r : List ℕ) (f : judge_sheet s ≡ Fine) (p : LookupScope) (t : (w
   own-gathers =
       own-steps ∙ ap (λ (os : List tree.Option). steps_in (gather (walking s) s own (scope_of own) (options_at own p) 0 [] nil os)) k.options
 
-  faulty : (v : Settled) (e : Fault) → fault_of v ≡ some e → v ≡ fails e
+  faulty : (v : Settled) (e : Fault) → fault_of v ≡ Some e → v ≡ fails e
   faulty (known x) e h = never cc
   faulty (others x) e h = never cc
   faulty (fails x) e h = let y : x ≡ e = cc in ap fails y
@@ -56,11 +56,11 @@ module _ (s r : List ℕ) (f : judge_sheet s ≡ Fine) (p : LookupScope) (t : (w
     pub recs : Recs
     pub is : resolving s own ≡ records recs
 
-  pub own-written : fault_of (settled_in s r p o) ≡ none → Written
+  pub own-written : fault_of (settled_in s r p o) ≡ None → Written
   own-written h =
       let g = gather-passed (walking s) s own (scope_of own) (options_at own p) (k.own ∷ []) all 0 [] nil in
       record { recs = _; is = own-gathers ∙ ap steps_in g.is }
     where
-      all : (x : tree.Option) → Among x (k.own ∷ []) → fault_of (settled_in s own p x) ≡ none
+      all : (x : tree.Option) → Among x (k.own ∷ []) → fault_of (settled_in s own p x) ≡ None
       all x here = own_same ∙ h
       all x (there m) = among-nil m

@@ -3,8 +3,8 @@
 --   PartFault Ends i m ps k w <-> w is the refusal of the k-th part, where the parts ps begin with the i-th, from the message m on
 --
 -- Assumes nothing.
-use Rattle.std.specs.Prelude.{◌≡◌, refl, Bool, true, false, List, [], ◌∷◌, ℕ, suc, ◌+◌, ◌<◌, eqb, length}
-use Rattle.basis.specs.Kit.{sym, ap, ◌∙◌, Option, none, some}
+use Rattle.std.specs.Prelude.{◌≡◌, refl, Bool, true, false, List, [], ◌∷◌, ℕ, suc, ◌+◌, ◌<◌, eqb, length, Option, None, Some}
+use Rattle.basis.specs.Kit.{sym, ap, ◌∙◌}
 use Rattle.basis.specs.First.{told}
 use Rattle.basis.proofs.Kit.{arith, eq-eqb}
 use mathlib.Core.Path.{subst}
@@ -149,7 +149,7 @@ module _ (L : Lookups) (s r scope : List ℕ) where
 
   -- ---- what an option comes to
   module _ (m : Message) (o : tree.Option) (f : Fault) where
-    built-fault : (p : Part) → builtin_part o.parts ≡ some p → (v : Built)
+    built-fault : (p : Part) → builtin_part o.parts ≡ Some p → (v : Built)
         → builtin_of L s r m (text r p.name) o.constant ≡ v → settled_built r v ≡ fails f → FaultOf L s r scope m o f
     built-fault p g Skipped h e = never cc
     built-fault p g (Sets x y) h e = never cc
@@ -157,7 +157,7 @@ module _ (L : Lookups) (s r scope : List ℕ) where
         let y : fault_at 0 w ≡ f = cc in
         subst (FaultOf L s r scope m o) y (builtin g h)
 
-    named-fault : builtin_part o.parts ≡ none → (v : Made Fault) → option_from L s r scope 0 m o.parts o.constant ≡ v
+    named-fault : builtin_part o.parts ≡ None → (v : Made Fault) → option_from L s r scope 0 m o.parts o.constant ≡ v
         → settled v ≡ fails f → FaultOf L s r scope m o f
     named-fault g (made x) h e = never cc
     named-fault g (wrong k) h e =
@@ -168,15 +168,15 @@ module _ (L : Lookups) (s r scope : List ℕ) where
     settled-fault : (v : Option Part) → builtin_part o.parts ≡ v
         → told (settled (option_from L s r scope 0 m o.parts o.constant))
         (λ p. settled_built r (builtin_of L s r m (text r p.name) o.constant)) v ≡ fails f → FaultOf L s r scope m o f
-    settled-fault none g e = named-fault g (option_from L s r scope 0 m o.parts o.constant) refl e
-    settled-fault (some p) g e = built-fault p g (builtin_of L s r m (text r p.name) o.constant) refl e
+    settled-fault None g e = named-fault g (option_from L s r scope 0 m o.parts o.constant) refl e
+    settled-fault (Some p) g e = built-fault p g (builtin_of L s r m (text r p.name) o.constant) refl e
 
     pub settle-fault : settle L s r scope m o ≡ fails f → FaultOf L s r scope m o f
     unfolding settle
     settle-fault e = settled-fault (builtin_part o.parts) refl e
 
   -- its part is one of the option's name
-  whole_parts : (ps : List Part) (p : Part) → builtin_part ps ≡ some p → 0 < length ps
+  whole_parts : (ps : List Part) (p : Part) → builtin_part ps ≡ Some p → 0 < length ps
   whole_parts [] p g = never cc
   whole_parts (q ∷ qs) p g = omega arith
 

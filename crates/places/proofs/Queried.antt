@@ -1,7 +1,7 @@
 -- What the two positions of an answer of `query` say.
 -- Assumes nothing.
-use Rattle.std.specs.Prelude.{◌≡◌, refl, List, [], ℕ, ◌<◌, length}
-use Rattle.basis.specs.Kit.{sym, ap, ◌∙◌, Option, none, some}
+use Rattle.std.specs.Prelude.{◌≡◌, refl, List, [], ℕ, ◌<◌, length, Option, None, Some}
+use Rattle.basis.specs.Kit.{sym, ap, ◌∙◌}
 use Rattle.basis.proofs.Kit.{arith}
 use Rattle.basis.proofs.Never.{never}
 use Rattle.reply.specs.declared.Refusal.{Refusal}
@@ -54,8 +54,8 @@ module _ (s type q bs : List ℕ) where
   query-not e h c g = h c (sym e ∙ g)
 
   bare-answered : (x : Option Row) → Bare (answered x)
-  bare-answered none = bare-nothing
-  bare-answered (some y) = bare-give (words y)
+  bare-answered None = bare-nothing
+  bare-answered (Some y) = bare-give (words y)
 
   module _ (f : judge_inputs (judge_sheet s) type q bs ≡ Fine) where
     of-records : (u : Under) → records_of (walking s) s type bs ≡ u → come ≡ on_records joins_none (walking s) s q u

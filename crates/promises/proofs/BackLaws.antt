@@ -1,8 +1,7 @@
 -- What a request writes reads back: by Encoding as these records, and under the same sheet, where that declares each number once, as rows
 -- that hold what they hold. The statements stand at the end.
 -- Assumes nothing.
-use Rattle.std.specs.Prelude.{◌≡◌, true, ◌&&◌, List, ℕ, ◌≤◌, length}
-use Rattle.basis.specs.Kit.{some}
+use Rattle.std.specs.Prelude.{◌≡◌, true, ◌&&◌, List, ℕ, ◌≤◌, length, Some}
 use Rattle.basis.proofs.Kit.{arith}
 use mathlib.Core.Bool.{and-eq-true_iff}
 use borrow.Author.Tests.{le-leb}
@@ -77,7 +76,7 @@ module _ (s r : List ℕ) (octets : Bytes s) (octets' : Bytes r) (x : Recs) (e :
   resolved-proper = written.written.proper
 
   -- which reads its bytes as these records;
-  pub resolved-reads-back : raw_of (encode x) ≡ some (raws_of x)
+  pub resolved-reads-back : raw_of (encode x) ≡ Some (raws_of x)
   resolved-reads-back = read_back resolved-proper (omega (arith, resolve-few (judge_sheet s) s r x e))
 
   -- the sheet types them where it declares each number once,

@@ -5,8 +5,7 @@
 --       Steady L s <-> every step in a message that L finds comes to a usable declaration, and enum values are of 32 bits
 --
 -- Assumes nothing.
-use Rattle.std.specs.Prelude.{◌≡◌, refl, Bool, true, ◌&&◌, List, [], ◌∷◌, ◌++◌, ℕ, ◌+◌, ◌^◌, ◌≤◌, ◌<◌, leb}
-use Rattle.basis.specs.Kit.{some}
+use Rattle.std.specs.Prelude.{◌≡◌, refl, Bool, true, ◌&&◌, List, [], ◌∷◌, ◌++◌, ℕ, ◌+◌, ◌^◌, ◌≤◌, ◌<◌, leb, Some}
 use Rattle.basis.specs.First.{first}
 use Rattle.basis.specs.Among.{Among, here, there}
 use Rattle.basis.proofs.FirstLaws.{Every, none_of, one_of, every_append, every-onto, every-collect}
@@ -48,15 +47,15 @@ use Rattle.readback.proofs.OnceLaws.{declared-once}
 use Rattle.promises.proofs.SizedLaws.{value-small}
 
 pub record Usable (L : Lookups) (s : List ℕ) (m : Message) (d : Declaration) : Type 0 where
-  pub declares : Once L s → declared s m d.shape.number ≡ some d
+  pub declares : Once L s → declared s m d.shape.number ≡ Some d
   pub range : (1 ≤ d.shape.number) × (d.shape.number ≤ most_number)
 
 pub record Steady (L : Lookups) (s : List ℕ) : Type 0 where
-  pub field : (m : Message) → L.message m.name ≡ Found m.place → (n : List ℕ) (d : Declaration) → field_named s n m.place ≡ some d
+  pub field : (m : Message) → L.message m.name ≡ Found m.place → (n : List ℕ) (d : Declaration) → field_named s n m.place ≡ Some d
       → Usable L s m d
   pub extension : (m : Message) → L.message m.name ≡ Found m.place → (scope n : List ℕ) (c : Candidate)
       → L.extension scope m.name n ≡ Extends c → Usable L s m c.found.declaration
-  pub value : (n : List ℕ) (vs : Span) (v : Value) → value_in s n vs ≡ some v → v.number < 2 ^ 32
+  pub value : (n : List ℕ) (vs : Span) (v : Value) → value_in s n vs ≡ Some v → v.number < 2 ^ 32
 
 every-among : {A : Type 0} {P : A → Type 0} {x : A} {xs : List A} → Every P xs → Among x xs → P x
 every-among {A = A} {P = P} none_of x4 = elim x4 [ ]
@@ -69,14 +68,14 @@ both_true a b h = (and-eq-true_iff a b).0 h
 -- ---- what holds of the items of each file and of a message wherever it holds of what holds the message, holds of all scopes
 module _ (s : List ℕ) (P : Items → Type 0)
     (inner : (i : Items) → P i → (m : members.Message) → Among m (messages_of i) → P m.inside) where
-  down_holds : (n : List ℕ) (c d : Scope) → P c.items → down s n c ≡ some d → P d.items
+  down_holds : (n : List ℕ) (c d : Scope) → P c.items → down s n c ≡ Some d → P d.items
   down_holds n c d h q =
       let named : members.Message → Bool = λ m. is_text s n m.name in
-      let (m, p, e) = given-some (first named (messages_of c.items)) (λ m. some (message_scope c m)) d q in
+      let (m, p, e) = given-some (first named (messages_of c.items)) (λ m. Some (message_scope c m)) d q in
       let same : d ≡ message_scope c m = cc in
       rw same (inner c.items h m (behind-among (first-some named (messages_of c.items) p).behind))
 
-  follow-holds : (ns : Path) (c d : Scope) → P c.items → follow s ns c ≡ some d → P d.items
+  follow-holds : (ns : Path) (c d : Scope) → P c.items → follow s ns c ≡ Some d → P d.items
   follow-holds [] c d h q = let same : d ≡ c = cc in rw same h
   follow-holds (n ∷ ns) c d h q =
       let (e, p, g) = given-some (down s n c) (follow s ns) d q in
@@ -104,7 +103,7 @@ module _ (s : List ℕ) (P : Items → Type 0)
     unfolding messages_at
     messages-hold p =
         every-collect (λ c. P c.items) message_of (λ c. P c.items)
-        (λ c h d q. let u : some c ≡ some d = (only-some c.place.message (some c) d q).1 in let v : d ≡ c = cc in rw v h)
+        (λ c h d q. let u : Some c ≡ Some d = (only-some c.place.message (Some c) d q).1 in let v : d ≡ c = cc in rw v h)
         (scopes-hold p)
 
     -- so of what stands where a message was found
@@ -215,7 +214,7 @@ module _ (s : List ℕ) (fine : judge_sheet s ≡ Fine) where
   ranged = files-ranged s (tree_of s) (fine-good s fine)
 
   module _ (m : Message) (at : (walking s).message m.name ≡ Found m.place) where
-    field-usable : (n : List ℕ) (d : Declaration) → field_named s n m.place ≡ some d → Usable (walking s) s m d
+    field-usable : (n : List ℕ) (d : Declaration) → field_named s n m.place ≡ Some d → Usable (walking s) s m d
     field-usable n d q =
         let items = (holding s m.place).items in
         let k = behind-among (first-some (λ x. is_text s n x.name) (fields_of items) q).behind in

@@ -4,8 +4,8 @@
 --   One s t m m' <-> the messages m of the older sheet s and m' of the newer one t have one full name, by which both are found
 --
 -- Assumes nothing.
-use Rattle.std.specs.Prelude.{◌≡◌, refl, Bool, true, ◌&&◌, List, [], ◌∷◌, ℕ, eqb}
-use Rattle.basis.specs.Kit.{sym, ap, ◌∙◌, some}
+use Rattle.std.specs.Prelude.{◌≡◌, refl, Bool, true, ◌&&◌, List, [], ◌∷◌, ℕ, eqb, Some}
+use Rattle.basis.specs.Kit.{sym, ap, ◌∙◌}
 use Rattle.basis.specs.Among.{Among, here}
 use Rattle.basis.proofs.CountLaws.{any-passing, every-among}
 use mathlib.Core.Path.{subst}
@@ -158,7 +158,7 @@ module _ (s t : List ℕ) (fine : judge_sheet s ≡ Fine) (clear : clean s ≡ t
         eqb-true d.shape.typ e.shape.typ
         ((and-eq-true_iff (eqb d.shape.number e.shape.number) (eqb d.shape.typ e.shape.typ)).0 like-types).1
 
-  module _ (m m' : Message) (one : One m m') (n : ℕ) (d d' : Declaration) (q : declared s m n ≡ some d) (q' : declared t m' n ≡ some d') where
+  module _ (m m' : Message) (one : One m m') (n : ℕ) (d d' : Declaration) (q : declared s m n ≡ Some d) (q' : declared t m' n ≡ Some d') where
     older : Among (number m.name d) (every_number s)
     older = declared-number s fine clear m one.found one.path d (declared-only s m n d q).0
 

@@ -7,8 +7,8 @@
 -- `after` it. `Bytes s` says that every element of s is below 256, as those of a slice of bytes are.
 --
 -- Assumes nothing.
-use Rattle.std.specs.Prelude.{◌≡◌, Bool, true, false, List, [], ◌∷◌, ◌++◌, map, ℕ, ◌+◌, ◌≤◌, ◌<◌, ◌^◌, length, take, drop}
-use Rattle.basis.specs.Kit.{ap, ◌∙◌, none, some}
+use Rattle.std.specs.Prelude.{◌≡◌, Bool, true, false, List, [], ◌∷◌, ◌++◌, map, ℕ, ◌+◌, ◌≤◌, ◌<◌, ◌^◌, length, take, drop, None, Some}
+use Rattle.basis.specs.Kit.{ap, ◌∙◌}
 use Rattle.basis.specs.Among.{Among, Ordered}
 use Rattle.basis.proofs.Kit.{lt-ltb, le-ltb}
 use lib.IntN.{ℤ}
@@ -195,11 +195,11 @@ pub examples-hold : map answer examples.p1-to-p9 ≡ map (λ x. x.says) examples
 examples-hold = examples.table
 
 -- Records read back by Encoding: numbers, wire types and payloads, record by record, inside each message again.
-pub written-reads-back : (rs : Recs) → Proper rs → length (encode rs) < 2 ^ 64 → raw_of (encode rs) ≡ some (raws_of rs)
+pub written-reads-back : (rs : Recs) → Proper rs → length (encode rs) < 2 ^ 64 → raw_of (encode rs) ≡ Some (raws_of rs)
 written-reads-back rs p h = encoding.read_back p h
 
 -- So does what a request writes.
-pub resolved-reads-back : (s r : List ℕ) → Bytes s → Bytes r → (x : Recs) → resolving s r ≡ records x → raw_of (encode x) ≡ some (raws_of x)
+pub resolved-reads-back : (s r : List ℕ) → Bytes s → Bytes r → (x : Recs) → resolving s r ≡ records x → raw_of (encode x) ≡ Some (raws_of x)
 resolved-reads-back = back.resolved-reads-back
 
 -- An extension part that is reached gets ExtensionNotFound exactly when none of 01's scopes at its candidate paths declares that name.
@@ -254,7 +254,7 @@ module _ (s r before after : List ℕ) (a : Answer) (k : Answered (resolve_bytes
 
 -- A request of its own: `alone r i` is the heading of r and the field of its i-th option. It is a fine request, of the same scope and options
 -- type, and has that option alone, with the fault that it has in r, or none.
-pub option-own : (r : List ℕ) → judge_request r ≡ Fine → (i : ℕ) (o : Option) → get_elem? (request_of r).options i ≡ some o → Own r i o
+pub option-own : (r : List ℕ) → judge_request r ≡ Fine → (i : ℕ) (o : Option) → get_elem? (request_of r).options i ≡ Some o → Own r i o
 option-own = apart.own-request
 
 -- Of `query` the option is 65,535, and the part is a position exactly when its name is refused by its steps: that of the part at fault.
@@ -374,10 +374,10 @@ module _ (L : Lookups) (s type bs : List ℕ) (m : Message) (t : Tree) (read : r
 
 -- A number is declared at a message exactly if a field of the message, or an extension of it, has it.
 module _ (s : List ℕ) (m : Message) (n : ℕ) where
-  pub declared-only : (d : Declaration) → declared s m n ≡ some d → DeclaredAt s m d × (d.shape.number ≡ n)
+  pub declared-only : (d : Declaration) → declared s m n ≡ Some d → DeclaredAt s m d × (d.shape.number ≡ n)
   declared-only = once.declared-only s m n
 
-  pub declared-none : declared s m n ≡ none → (d : Declaration) → DeclaredAt s m d → d.shape.number ≡ n → ⊥
+  pub declared-none : declared s m n ≡ None → (d : Declaration) → DeclaredAt s m d → d.shape.number ≡ n → ⊥
   declared-none = once.declared-none s m n
 
 -- ==== Demand 2, the value query
@@ -398,10 +398,10 @@ module _ (s type q bs : List ℕ) where
   query-of-none = calls.query-of-none s type bs q
 
 -- It reaches exactly the row that 01 follows: at each part the last record that the part's declaration lists.
-pub reached-follows : (ds : List Declaration) (l : ℕ) (t : Tree) (x : Row) → reached never l ds t ≡ some x → Follows l ds t x
+pub reached-follows : (ds : List Declaration) (l : ℕ) (t : Tree) (x : Row) → reached never l ds t ≡ Some x → Follows l ds t x
 reached-follows = follows.reached-follows
 
-pub follows-reached : {l : ℕ} {ds : List Declaration} {t : Tree} {x : Row} → Follows l ds t x → reached never l ds t ≡ some x
+pub follows-reached : {l : ℕ} {ds : List Declaration} {t : Tree} {x : Row} → Follows l ds t x → reached never l ds t ≡ Some x
 follows-reached = follows.follows-reached
 
 -- Whatever is joined:
@@ -443,7 +443,7 @@ module _ (s : List ℕ) (c : CleanSheet s) where
   clean-enum-found = finds.enum-found s c.fine (cleanly.clean-name s c.clear)
 
   pub clean-extension-found : (t : List ℕ) (d : Declaration) → Among (named t (extension d)) (every_declared s)
-      → (f : FoundExtension) × (found_at s (components t) ≡ some f) × (f.declaration ≡ d)
+      → (f : FoundExtension) × (found_at s (components t) ≡ Some f) × (f.declaration ≡ d)
   clean-extension-found = finds.extension-found s c.fine (cleanly.clean-name s c.clear)
 
   -- It declares each number once for a message.
@@ -458,7 +458,7 @@ module _ (s t : List ℕ) (p : all_ident (components t) ≡ true) where
   pub found-enum-declared : (e : Enumeration) → Among e (enums_at s (components t)) → Among (named t (enumeration e)) (every_declared s)
   found-enum-declared = finds.enum-declared s t p
 
-  pub found-extension-declared : (f : FoundExtension) → found_at s (components t) ≡ some f
+  pub found-extension-declared : (f : FoundExtension) → found_at s (components t) ≡ Some f
       → Among (named t (extension f.declaration)) (every_declared s)
   found-extension-declared = finds.extension-declared s t p
 

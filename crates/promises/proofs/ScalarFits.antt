@@ -4,8 +4,7 @@
 --     BodyFits t b <-> the body b is a value of the type t, by its wire type
 --
 -- Assumes nothing.
-use Rattle.std.specs.Prelude.{◌≡◌, refl, Bool, true, false, ◌||◌, List, [], ◌∷◌, ℕ, zero, suc, ◌+◌, ◌-◌, ◌*◌, ◌%◌, ◌^◌, ◌≤◌, ◌<◌, eqb, ltb, leb}
-use Rattle.basis.specs.Kit.{Option, none, some}
+use Rattle.std.specs.Prelude.{◌≡◌, refl, Bool, true, false, ◌||◌, List, [], ◌∷◌, ℕ, zero, suc, ◌+◌, ◌-◌, ◌*◌, ◌%◌, ◌^◌, ◌≤◌, ◌<◌, eqb, ltb, leb, Option, None, Some}
 use Rattle.basis.proofs.Kit.{arith}
 use mathlib.Core.Logic.{inl, inr}
 use borrow.Author.Tests.{eqb-true, leb-true, ltb-true, ltb-false}
@@ -231,7 +230,7 @@ module _ (t : ℕ) where
       go false y false e f = tt
 
 -- ---- any constant, the enums of the sheet having numbers of 32 bits
-module _ (L : Lookups) (s r : List ℕ) (small : (n : List ℕ) (vs : Span) (v : Value) → value_in s n vs ≡ some v → v.number < 2 ^ 32)
+module _ (L : Lookups) (s r : List ℕ) (small : (n : List ℕ) (vs : Span) (v : Value) → value_in s n vs ≡ Some v → v.number < 2 ^ 32)
     (u : Refusal) (h : Shape) where
   ident-fits : (p : Span) → ScalarFits h.typ (ident_on L s r u h p)
   unfolding ident_on
@@ -239,8 +238,8 @@ module _ (L : Lookups) (s r : List ℕ) (small : (n : List ℕ) (vs : Span) (v :
     where
       named : eqb h.typ TYPE_ENUM ≡ true → (vs : Span) (o : Option Value) → value_in s (text r p) vs ≡ o
           → ScalarFits h.typ (listed u o)
-      named e vs none q = tt
-      named e vs (some v) q = enum-number h.typ v.number (small (text r p) vs v q) e
+      named e vs None q = tt
+      named e vs (Some v) q = enum-number h.typ v.number (small (text r p) vs v q) e
 
       go : (x : Bool) → eqb h.typ TYPE_ENUM ≡ x → (v : LookedUpEnum)
           → ScalarFits h.typ (elim x [ true ↦ among u s (text r p) v | false ↦ unsupported ])

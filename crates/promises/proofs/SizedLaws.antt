@@ -4,8 +4,7 @@
 --   SizedOptions os <-> and among the constants of the options os
 --
 -- Assumes nothing.
-use Rattle.std.specs.Prelude.{◌≡◌, Bool, true, false, List, [], ◌∷◌, ℕ, zero, suc, ◌+◌, ◌-◌, ◌^◌, ◌<◌, eqb, ltb, get_or, length}
-use Rattle.basis.specs.Kit.{some}
+use Rattle.std.specs.Prelude.{◌≡◌, Bool, true, false, List, [], ◌∷◌, ℕ, zero, suc, ◌+◌, ◌-◌, ◌^◌, ◌<◌, eqb, ltb, get_or, length, Some}
 use Rattle.basis.proofs.Kit.{arith}
 use Rattle.basis.proofs.FirstLaws.{Every, none_of, one_of, first_holds}
 use native.Mathlib.Nat.{pow-suc, pow-zero}
@@ -239,5 +238,5 @@ module _ (s : List ℕ) (bytes : Bytes s) where
       go true (Values v) k u = one_of k u
       go false v k u = u
 
-  pub value-small : (n : List ℕ) (vs : Span) (v : Value) → value_in s n vs ≡ some v → v.number < 2 ^ 32
+  pub value-small : (n : List ℕ) (vs : Span) (v : Value) → value_in s n vs ≡ Some v → v.number < 2 ^ 32
   value-small n vs = first_holds SizedValue _ (values-sized (walk s vs.from vs.to))

@@ -9,8 +9,7 @@
 --            On L s m k <-> what holds constants at the message m: a field of it, or the message itself
 --
 -- Assumes nothing.
-use Rattle.std.specs.Prelude.{◌≡◌, refl, Bool, true, false, List, [], ◌∷◌, ℕ, ◌+◌, eqb, ltb}
-use Rattle.basis.specs.Kit.{Option}
+use Rattle.std.specs.Prelude.{◌≡◌, refl, Bool, true, false, List, [], ◌∷◌, ℕ, ◌+◌, eqb, ltb, Option}
 use Rattle.basis.specs.First.{told}
 use Rattle.basis.proofs.Never.{never}
 use mathlib.Core.Option as option

@@ -6,8 +6,7 @@
 --                                  found, and where a request or a query's name is refused, are Encoding's, 01's and 02's
 --
 -- Assumes nothing.
-use Rattle.std.specs.Prelude.{◌≡◌, true, List, ◌++◌, ℕ, ◌≤◌, ◌<◌, length, drop}
-use Rattle.basis.specs.Kit.{some}
+use Rattle.std.specs.Prelude.{◌≡◌, true, List, ◌++◌, ℕ, ◌≤◌, ◌<◌, length, drop, Some}
 use Rattle.basis.specs.Among.{Among}
 use Rattle.octets.proofs.Bytes.{Bytes}
 use Rattle.reply.specs.declared.Refusal.TheVariants.{ExtensionNotFound, NoRoom}
@@ -55,7 +54,7 @@ pub record ByRule (s : List ℕ) : Type 0 where
   pub looked-up-only : (scope name : List ℕ) (c : Candidate) → tried s scope name ≡ Answers c → AnswersAt s scope name c
   pub looked-up-whenever : (scope name : List ℕ) → is_path name ≡ true → (c : Candidate) → AnswersAt s scope name c
       → tried s scope name ≡ Answers c
-  pub written : (r : List ℕ) → Bytes s → Bytes r → (x : Recs) → resolving s r ≡ records x → raw_of (encode x) ≡ some (raws_of x)
+  pub written : (r : List ℕ) → Bytes s → Bytes r → (x : Recs) → resolving s r ≡ records x → raw_of (encode x) ≡ Some (raws_of x)
   pub listed : (type bs : List ℕ) (m : Message) (t : Tree) → records_of (walking s) s type bs ≡ under m t
       → Encoded bs bs t × Knows (walking s) s m t
   pub not-found-only : (r scope : List ℕ) (m : Message) (p : Part) → p.extension ≡ true → is_path (text r p.name) ≡ true

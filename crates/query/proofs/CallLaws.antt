@@ -2,8 +2,8 @@
 -- options type is, and that what was seen of its rows is the query; and that of a sheet of the right form the whole test says no more than
 -- its length's.
 -- Assumes nothing.
-use Rattle.std.specs.Prelude.{◌≡◌, refl, List, ℕ, ◌≤◌, ◌<◌, length}
-use Rattle.basis.specs.Kit.{sym, ap, ◌∙◌, Option, none, some, sets}
+use Rattle.std.specs.Prelude.{◌≡◌, refl, List, ℕ, ◌≤◌, ◌<◌, length, Option, None, Some}
+use Rattle.basis.specs.Kit.{sym, ap, ◌∙◌, sets}
 use borrow.Author.Tests.{leb-true}
 use Rattle.limits.specs.Figures.{most_option_bytes, most_levels}
 use Rattle.reply.specs.declared.Refusal.{Refusal}
@@ -98,8 +98,8 @@ pub ruleset query-message-laws = (message-long, message-bad-type, message-bad-na
 
 -- ---- what was seen is the query
 answered-best : (o : Option Row) → answered o ≡ outcome_of (All (best_of o))
-answered-best none = refl
-answered-best (some x) = refl
+answered-best None = refl
+answered-best (Some x) = refl
 
 named-seen : (n : Named) (t : Tree) → on_named never n t ≡ outcome_of (of_named n t)
 named-seen (names ds) t = answered-best (reached never 0 ds t)

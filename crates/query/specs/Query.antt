@@ -10,8 +10,7 @@
 --       query_tested s t q bs == what `query_tested` comes to, where of the sheet the length alone is judged
 --
 -- Assumes nothing.
-use Rattle.std.specs.Prelude.{Bool, List, ℕ, length}
-use Rattle.basis.specs.Kit.{Option, none, some}
+use Rattle.std.specs.Prelude.{Bool, List, ℕ, length, Option, None, Some}
 use Rattle.reply.specs.declared.Verdict.{Verdict}
 use Rattle.reply.specs.Verdicts.{first_fault}
 use Rattle.reply.specs.Outcome.{Outcome, refused, refuse, unless, nothing, give}
@@ -30,8 +29,8 @@ use Rattle.naming.specs.Name.{Named, names, group, refused_at, of_part, declarat
 
 -- "It answers that record's eight words, or Absent where there is none or parts are left on a group." [QUERY-6]
 abbrev pub answered : Option Row → Outcome ℕ
-answered none = nothing
-answered (some r) = give (words r)
+answered None = nothing
+answered (Some r) = give (words r)
 
 module _ (joins : Declaration → Bool) where
   abbrev pub on_named : Named → Tree → Outcome ℕ

@@ -1,8 +1,8 @@
 -- Closed cases, which the checker computes: records that one sheet types, as that sheet, an older and a still older one see them. Bytes and
 -- words are those of compare/options_reader.py, a second implementation of 01.
 -- Assumes nothing.
-use Rattle.std.specs.Prelude.{◌≡◌, refl, true, List, [], ◌∷◌, ◌++◌, map, ℕ, ◌-◌, ◌^◌, ◌≤◌, length}
-use Rattle.basis.specs.Kit.{sym, ap, ◌∙◌, Option, none, some}
+use Rattle.std.specs.Prelude.{◌≡◌, refl, true, List, [], ◌∷◌, ◌++◌, map, ℕ, ◌-◌, ◌^◌, ◌≤◌, length, Option, None, Some}
+use Rattle.basis.specs.Kit.{sym, ap, ◌∙◌}
 use Rattle.basis.proofs.Kit.{arith}
 use mathlib.Core.Logic.{inl, inr}
 use Rattle.octets.specs.Octets.{big_at, same_bytes}
@@ -152,13 +152,13 @@ told-oldest = refl
 
 -- ---- the newer sheet does type them
 abbrev Is : Option Declaration → (typ : ℕ) → Type 0
-Is none t = ⊥
-Is (some d) t = d.shape.typ ≡ t
+Is None t = ⊥
+Is (Some d) t = d.shape.typ ≡ t
 
 module _ (n t : ℕ) where
   declared-as : (o : Option Declaration) → declared newer (m newer) n ≡ o → Is o t → DeclaredAs newer (m newer) n t
-  declared-as none q e = absurd e
-  declared-as (some d) q e = record { by = d; declares = q; typ = e }
+  declared-as None q e = absurd e
+  declared-as (Some d) q e = record { by = d; declares = q; typ = e }
 
   known : Is (declared newer (m newer) n) t → DeclaredAs newer (m newer) n t
   known = declared-as (declared newer (m newer) n) refl

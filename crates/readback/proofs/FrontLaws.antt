@@ -1,8 +1,8 @@
 -- A record at the front of bytes, as it is written: its tag, the bytes of a length, its payload. What one reading step makes of it, by what
 -- declares its number.
 -- Assumes nothing.
-use Rattle.std.specs.Prelude.{◌≡◌, refl, true, List, [], ◌∷◌, ◌++◌, ℕ, ◌+◌, ◌^◌, ◌≤◌, ◌<◌, length, take, drop}
-use Rattle.basis.specs.Kit.{sym, ap, ◌∙◌, none, some as is}
+use Rattle.std.specs.Prelude.{◌≡◌, refl, true, List, [], ◌∷◌, ◌++◌, ℕ, ◌+◌, ◌^◌, ◌≤◌, ◌<◌, length, take, drop, None}
+use Rattle.basis.specs.Kit.{sym, ap, ◌∙◌, some as is}
 use Rattle.basis.proofs.Kit.{arith, eq-eqb, ne_eqb}
 use mathlib.Core.Path.{ap₂}
 use mathlib.Core.List.{append_assoc}
@@ -96,8 +96,8 @@ module _ {n w : ℕ} {lead body ys : List ℕ} (f : Front n w lead body ys) wher
           let same : wire_of d.shape.typ ≡ wire_type_of (tag_of n w) = e ∙ sym (wire-type-of-tag-of n w (wire-read-lt w f.good)) in
           rw (known, eq-eqb _ _ same)
 
-    item-undeclared : declared s m n ≡ none
-        → item L s m place all ≡ some (entry_by none n w at body ∷ []) (length (record_bytes n w lead body))
+    item-undeclared : declared s m n ≡ None
+        → item L s m place all ≡ some (entry_by None n w at body ∷ []) (length (record_bytes n w lead body))
     item-undeclared q =
         let low = wire-read-lt w f.good in
         item-is ∙ rw (q, number-of-tag-of n w low, wire-type-of-tag-of n w low, size_is) refl
@@ -129,11 +129,11 @@ module _ {n w : ℕ} {lead body ys : List ℕ} (f : Front n w lead body ys) wher
       leaf-read e q = step_is (some (e ∷ []) (length (record_bytes n w lead body))) q ∙ rw (drop-append_seam (record_bytes n w lead body) ys)
 
       -- an undeclared number
-      pub undeclared-read : declared s m n ≡ none
+      pub undeclared-read : declared s m n ≡ None
           → records_from L s inner m place 0 (record_bytes n w lead body ++ ys)
-          ≡ onward (one (entry_by none n w (place + head_size n w lead) body))
+          ≡ onward (one (entry_by None n w (place + head_size n w lead) body))
           (records_from L s inner m (place + length (record_bytes n w lead body)) 0 ys)
-      undeclared-read q = leaf-read (entry_by none n w at body) (item-undeclared q)
+      undeclared-read q = leaf-read (entry_by None n w at body) (item-undeclared q)
 
       -- a declared number on its own wire type: no message, or a message that is found
       module _ (d : Declaration) (q : declared s m n ≡ is d) (e : wire_of d.shape.typ ≡ w) where

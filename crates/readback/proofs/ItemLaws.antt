@@ -1,7 +1,7 @@
 -- What the item at the front of bytes is made of, where it is none that is refused: a tag, a payload, and what declares the number.
 -- Assumes nothing.
-use Rattle.std.specs.Prelude.{◌≡◌, refl, Bool, true, false, List, [], ◌∷◌, ℕ, ◌+◌, ◌≤◌, eqb, length, drop}
-use Rattle.basis.specs.Kit.{Option, none, some as is}
+use Rattle.std.specs.Prelude.{◌≡◌, refl, Bool, true, false, List, [], ◌∷◌, ℕ, ◌+◌, ◌≤◌, eqb, length, drop, Option, None}
+use Rattle.basis.specs.Kit.{some as is}
 use Rattle.basis.proofs.Kit.{arith}
 use borrow.Author.Tests.{eqb-true, eqb-false}
 use lib.ListN.{length-drop}
@@ -36,7 +36,7 @@ fronted-inside xs t n x f =
 module _ (L : Lookups) (s : List ℕ) (m : Message) (place : ℕ) (xs : List ℕ) where
   pub data Made : Item → Type 0 where
     made-wrong : {w : Refusal} → Made (wrong w)
-    made-unknown : {t n : ℕ} {x : Extent} → Fronted xs t n x → declared s m (number_of t) ≡ none → Made (unknown L s m place xs t n (is x))
+    made-unknown : {t n : ℕ} {x : Extent} → Fronted xs t n x → declared s m (number_of t) ≡ None → Made (unknown L s m place xs t n (is x))
     made_plain : {t n : ℕ} {x : Extent} {d : Declaration} → Fronted xs t n x → declared s m (number_of t) ≡ is d
         → wire_of d.shape.typ ≡ wire_type_of t → (d.shape.typ ≡ TYPE_MESSAGE → ⊥)
         → Made (some (entry L s m place xs d t n x ∷ []) (n + x.before + x.size))
@@ -48,9 +48,9 @@ module _ (L : Lookups) (s : List ℕ) (m : Message) (place : ℕ) (xs : List ℕ
     abbrev extent : Option Extent
     extent = payload_at (wire_type_of t) (drop n xs)
 
-    unknown-made : declared s m (number_of t) ≡ none → (o : Option Extent) → payload_at (wire_type_of t) (drop n xs) ≡ o
+    unknown-made : declared s m (number_of t) ≡ None → (o : Option Extent) → payload_at (wire_type_of t) (drop n xs) ≡ o
         → Made (unknown L s m place xs t n o)
-    unknown-made q none e = made-wrong
+    unknown-made q None e = made-wrong
     unknown-made q (is x) e = made-unknown (record { tag = tag; good = good; found = e }) q
 
     module _ (d : Declaration) (q : declared s m (number_of t) ≡ is d) (w : wire_of d.shape.typ ≡ wire_type_of t) where
@@ -67,7 +67,7 @@ module _ (L : Lookups) (s : List ℕ) (m : Message) (place : ℕ) (xs : List ℕ
       extent-made x f false g = made_plain f q w (eqb-false _ _ g)
 
       plain-made : (o : Option Extent) → payload_at (wire_type_of t) (drop n xs) ≡ o → Made (plain L s m place xs d t n o)
-      plain-made none e = made-wrong
+      plain-made None e = made-wrong
       plain-made (is x) e = extent-made x (record { tag = tag; good = good; found = e }) (eqb d.shape.typ TYPE_MESSAGE) refl
 
     known-made : (d : Declaration) → declared s m (number_of t) ≡ is d → (b : Bool) → eqb (wire_of d.shape.typ) (wire_type_of t) ≡ b
@@ -76,7 +76,7 @@ module _ (L : Lookups) (s : List ℕ) (m : Message) (place : ℕ) (xs : List ℕ
     known-made d q false g = made-wrong
 
     declared-made : (o : Option Declaration) → declared s m (number_of t) ≡ o → Made (by_declaration L s m place xs o t n extent)
-    declared-made none q = unknown-made q extent refl
+    declared-made None q = unknown-made q extent refl
     declared-made (is d) q = known-made d q (eqb (wire_of d.shape.typ) (wire_type_of t)) refl
 
   good-made : (t n : ℕ) → read_varint xs ≡ Varint t n → (b : Bool) → tag_good t ≡ b → Made (elim b [

@@ -1,7 +1,7 @@
 -- Which records of every listed reading are known, by what, and which are entered. The statement stands at the end.
 -- Assumes nothing.
-use Rattle.std.specs.Prelude.{◌≡◌, refl, List, [], ◌∷◌, ℕ}
-use Rattle.basis.specs.Kit.{none, some as is}
+use Rattle.std.specs.Prelude.{◌≡◌, refl, List, [], ◌∷◌, ℕ, None}
+use Rattle.basis.specs.Kit.{some as is}
 use Rattle.basis.proofs.Kit.{arith}
 use Rattle.basis.proofs.Never.{never}
 use mathlib.Core.Path.{subst}
@@ -23,7 +23,7 @@ use Rattle.readback.proofs.ItemLaws.{Made, made-wrong, made-unknown, made_plain,
 
 -- ---- one record
 module _ (s : List ℕ) (m : Message) (e : Entry) where
-  known-none : declared s m e.number ≡ none → e.by ≡ NoDeclaration → e.typ ≡ 0 → KnownBy s m e
+  known-none : declared s m e.number ≡ None → e.by ≡ NoDeclaration → e.typ ≡ 0 → KnownBy s m e
   known-none q b t = record { by = rw q b; typ = rw q t; wire = λ d g. never cc }
 
   known_some : (d : Declaration) → declared s m e.number ≡ is d → e.by ≡ Declares d → e.typ ≡ d.shape.typ

@@ -1,7 +1,7 @@
 -- Records that a sheet types are not contradicted by an older one that keeps to it: their bytes are read under the older too.
 -- Assumes nothing.
-use Rattle.std.specs.Prelude.{◌≡◌, List, ℕ, ◌^◌, ◌<◌, length}
-use Rattle.basis.specs.Kit.{sym, ap, ◌∙◌, some}
+use Rattle.std.specs.Prelude.{◌≡◌, List, ℕ, ◌^◌, ◌<◌, length, Some}
+use Rattle.basis.specs.Kit.{sym, ap, ◌∙◌}
 use Rattle.types.specs.Types.{wire_of}
 use Rattle.sheet.specs.declared.declaration.Declaration.{Declaration}
 use Rattle.lookups.specs.Lookups.{Lookups, Message}
@@ -16,10 +16,10 @@ use Rattle.readback.proofs.RecordsRead.{names-all, reading-of-records}
 
 module _ (L : Lookups) (s : List ℕ) (L' : Lookups) (s' : List ℕ) (Same : Message → Message → Type 0) (keeps : Keeps L s L' s' Same) where
   module _ {m m' : Message} (one : Same m m') where
-    pub kept : {n t : ℕ} (a : DeclaredAs s' m' n t) (d : Declaration) → declared s m n ≡ some d → Kept L s L' s' Same d a.by
+    pub kept : {n t : ℕ} (a : DeclaredAs s' m' n t) (d : Declaration) → declared s m n ≡ Some d → Kept L s L' s' Same d a.by
     kept {n} {t} a d q = keeps m m' one n d a.by q a.declares
 
-    pub kept-typ : {n t : ℕ} (a : DeclaredAs s' m' n t) (d : Declaration) → declared s m n ≡ some d → d.shape.typ ≡ t
+    pub kept-typ : {n t : ℕ} (a : DeclaredAs s' m' n t) (d : Declaration) → declared s m n ≡ Some d → d.shape.typ ≡ t
     kept-typ a d q = (kept a d q).typ ∙ a.typ
 
   pub older-readable : (rs : Recs) (m m' : Message) → Same m m' → Typed L' s' m' rs → Readable L s m rs

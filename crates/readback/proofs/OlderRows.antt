@@ -1,7 +1,7 @@
 -- The rows of records that a sheet types, listed under an older one that keeps to it: these records in order, as the older has them.
 -- Assumes nothing.
-use Rattle.std.specs.Prelude.{◌≡◌, refl, List, [], ◌∷◌, ◌++◌, map, ℕ, suc, ◌+◌, length, drop}
-use Rattle.basis.specs.Kit.{sym, ◌∙◌, Option, none, some}
+use Rattle.std.specs.Prelude.{◌≡◌, refl, List, [], ◌∷◌, ◌++◌, map, ℕ, suc, ◌+◌, length, drop, Option, None, Some}
+use Rattle.basis.specs.Kit.{sym, ◌∙◌}
 use mathlib.Core.Path.{ap₂}
 use mathlib.Core.List.{append-nil, append_assoc, map-append}
 use Rattle.types.specs.Types.{wire_of, LEN, TYPE_MESSAGE}
@@ -23,15 +23,15 @@ use Rattle.readback.proofs.OlderBytes.{kept, kept-typ}
 
 -- ---- the row of a record whose payload stands behind its head
 module _ (all : List ℕ) where
-  entry-content : (l n t w v place : ℕ) (head body ys : List ℕ) (o : Option Declaration) → ((d : Declaration) → o ≡ some d → d.shape.typ ≡ t)
+  entry-content : (l n t w v place : ℕ) (head body ys : List ℕ) (o : Option Declaration) → ((d : Declaration) → o ≡ Some d → d.shape.typ ≡ t)
       → value_of t (said w body) ≡ v → drop place all ≡ head ++ (body ++ ys)
       → content_of all (row l (entry_by o n w (place + length head) body)) ≡ told_as o (content_at l n t v body)
-  entry-content l n t w v place head body ys none e g h =
+  entry-content l n t w v place head body ys None e g h =
       rw (part_at all (place + length head) body ys (drop-behind all place head (body ++ ys) h)) refl
-  entry-content l n t w v place head body ys (some d) e g h =
+  entry-content l n t w v place head body ys (Some d) e g h =
       rw (e d refl, g, part_at all (place + length head) body ys (drop-behind all place head (body ++ ys) h)) refl
 
-  sized-content : (l n t place : ℕ) (bs xs ys : List ℕ) (o : Option Declaration) → ((d : Declaration) → o ≡ some d → d.shape.typ ≡ t)
+  sized-content : (l n t place : ℕ) (bs xs ys : List ℕ) (o : Option Declaration) → ((d : Declaration) → o ≡ Some d → d.shape.typ ≡ t)
       → drop place all ≡ (sized n bs ++ xs) ++ ys
       → content_of all (row l (entry_by o n LEN (place + length (head_of n (length bs))) bs)) ≡ told_as o (content_at l n t 0 bs)
   sized-content l n t place bs xs ys o e h =
@@ -41,10 +41,10 @@ module _ (L : Lookups) (s : List ℕ) (L' : Lookups) (s' : List ℕ) (Same : Mes
   module _ (all : List ℕ) where
     held-told : {l : ℕ} (o : Option Declaration) (e : Entry) (f : Message → Tree) (t : Tree) (x : Content) (g : Message → List Content)
         (later : List Content) → content_of all (row l e) ≡ told_as o x → map (content_of all) (rows l t) ≡ later
-        → ((d : Declaration) → o ≡ some d → Names L s d (λ k. map (content_of all) (rows (suc l) (f k)) ≡ g k))
+        → ((d : Declaration) → o ≡ Some d → Names L s d (λ k. map (content_of all) (rows (suc l) (f k)) ≡ g k))
         → map (content_of all) (rows l (holds L s o e f t)) ≡ told_as o x ∷ (inside_of L s o g ++ later)
-    held-told none e f t x g later first rest inside = ap₂ ◌∷◌ first rest
-    held-told {l} (some d) e f t x g later first rest inside =
+    held-told None e f t x g later first rest inside = ap₂ ◌∷◌ first rest
+    held-told {l} (Some d) e f t x g later first rest inside =
         let k = inside d refl in
         rw (k.found, map-append (content_of all)) (ap₂ ◌∷◌ first (ap₂ ◌++◌ k.inside rest))
 

@@ -1,8 +1,8 @@
 -- What a value query answers: the words of a row of the listing, that of the part's declaration; Absent exactly where nothing is reached or
 -- parts are left on a group. The statements stand at the end.
 -- Assumes nothing.
-use Rattle.std.specs.Prelude.{◌≡◌, refl, Bool, List, [], ◌∷◌, ◌++◌, ℕ, suc}
-use Rattle.basis.specs.Kit.{sym, ap, ◌∙◌, Option, none, some}
+use Rattle.std.specs.Prelude.{◌≡◌, refl, Bool, List, [], ◌∷◌, ◌++◌, ℕ, suc, Option, None, Some}
+use Rattle.basis.specs.Kit.{sym, ap, ◌∙◌}
 use Rattle.basis.specs.Among.{Among, here, there}
 use Rattle.basis.proofs.Never.{never}
 use Rattle.basis.proofs.AmongLaws.{among-nil, among-append-left, among-append-right, among-append-cases}
@@ -69,21 +69,21 @@ module _ (x : Row) (l : ℕ) where
       (λ m. listed-among d t (joined-among (listed_by d t) m))
       (λ m. listed-among d t (after-among end (listed_by d t) among-nil (λ k. k) m))
 
-  first-among : (e : Entry) (xs : List Row) → some (row l e) ≡ some x → Among x (row l e ∷ xs)
+  first-among : (e : Entry) (xs : List Row) → Some (row l e) ≡ Some x → Among x (row l e ∷ xs)
   first-among e xs q = let same : x ≡ row l e = cc in rw same here
 
-  last-among : {C : Type 0} (o : Option Row) (t : Tree) → (o ≡ some x → C) → (Among x (rows l t) → C) → last_after o l t ≡ some x → C
+  last-among : {C : Type 0} (o : Option Row) (t : Tree) → (o ≡ Some x → C) → (Among x (rows l t) → C) → last_after o l t ≡ Some x → C
   last-among o end f g = f
-  last-among o (one e t) f g = last-among (some (row l e)) t (λ q. g (first-among e (rows l t) q)) (λ m. g (there m))
+  last-among o (one e t) f g = last-among (Some (row l e)) t (λ q. g (first-among e (rows l t) q)) (λ m. g (there m))
   last-among o (held e i t) f g =
-      last-among (some (row l e)) t (λ q. g (first-among e (rows (suc l) i ++ rows l t) q))
+      last-among (Some (row l e)) t (λ q. g (first-among e (rows (suc l) i ++ rows l t) q))
       (λ m. g (there (among-append-right (rows (suc l) i) m)))
 
 module _ (joins : Declaration → Bool) (x : Row) where
   -- The row that a name's declarations lead to is a row of the listing.
-  pub reached-listed : (ds : List Declaration) (l : ℕ) (t : Tree) → reached joins l ds t ≡ some x → Among x (rows l t)
+  pub reached-listed : (ds : List Declaration) (l : ℕ) (t : Tree) → reached joins l ds t ≡ Some x → Among x (rows l t)
   reached-listed [] l t e = never cc
-  reached-listed (d ∷ []) l t e = listed-among x l d t (last-among x l none (listed_by d t) (λ q. never cc) (λ m. m) e)
+  reached-listed (d ∷ []) l t e = listed-among x l d t (last-among x l None (listed_by d t) (λ q. never cc) (λ m. m) e)
   reached-listed (d ∷ f ∷ ds) l t e = inside-among x l joins d t (reached-listed (f ∷ ds) (suc l) (inside joins d t) e)
 
 -- ---- the call
@@ -94,8 +94,8 @@ module _ (joins : Declaration → Bool) (L : Lookups) (s type q bs : List ℕ) w
   module _ {m : Message} {t : Tree} (read : records_of L s type bs ≡ under m t) where
     reached-answers : (ws : List ℕ) (ds : List Declaration) → parts_named L s q m ≡ names ds → (o : Option Row) → reached joins 0 ds t ≡ o
         → answered o ≡ give ws → Answers ws
-    reached-answers ws ds g none f e = never cc
-    reached-answers ws ds g (some x) f e =
+    reached-answers ws ds g None f e = never cc
+    reached-answers ws ds g (Some x) f e =
         let same : ws ≡ words x = cc in
         (x, record { message = m; tree = t; read = read; parts = ds; by = g; to = f }, same)
 
@@ -106,8 +106,8 @@ module _ (joins : Declaration → Bool) (L : Lookups) (s type q bs : List ℕ) w
 
     reached-lacks : (ds : List Declaration) → parts_named L s q m ≡ names ds → (o : Option Row) → reached joins 0 ds t ≡ o
         → answered o ≡ nothing → Lacks joins L s type q bs
-    reached-lacks ds g none f e = no_record read g f
-    reached-lacks ds g (some x) f e = never cc
+    reached-lacks ds g None f e = no_record read g f
+    reached-lacks ds g (Some x) f e = never cc
 
     named-lacks : (n : Named) → parts_named L s q m ≡ n → on_named joins n t ≡ nothing → Lacks joins L s type q bs
     named-lacks (names ds) g e = reached-lacks ds g (reached joins 0 ds t) refl e

@@ -1,8 +1,8 @@
 -- The bytes of typed records, read under any sheet that does not contradict them, are those records as that sheet sees them. The statement
 -- stands at the end. Its proof meets the reading step through the laws of a declared and of an undeclared number alone.
 -- Assumes nothing.
-use Rattle.std.specs.Prelude.{◌≡◌, refl, true, List, [], ◌∷◌, ◌++◌, ℕ, zero, suc, ◌+◌, ◌^◌, ◌≤◌, ◌<◌, length}
-use Rattle.basis.specs.Kit.{sym, ap, ◌∙◌, Option, none, some as is}
+use Rattle.std.specs.Prelude.{◌≡◌, refl, true, List, [], ◌∷◌, ◌++◌, ℕ, zero, suc, ◌+◌, ◌^◌, ◌≤◌, ◌<◌, length, Option, None}
+use Rattle.basis.specs.Kit.{sym, ap, ◌∙◌, some as is}
 use Rattle.basis.proofs.Kit.{arith}
 use mathlib.Core.Bool.{false≢true}
 use mathlib.Core.List.{append_assoc}
@@ -78,7 +78,7 @@ module _ (L : Lookups) (s : List ℕ) (m : Message) (place : ℕ) {n w : ℕ} {l
       → ((d : Declaration) → declared s m n ≡ is d → d.shape.typ ≡ TYPE_MESSAGE → ⊥)
       → (t : Tree) → records_from L s inner m next 0 ys ≡ listed t
       → records_from L s inner m place 0 all ≡ listed (one (entry_by o n w at body) t)
-  leaf-case none q e h t rest = undeclared-read f L s m place inner q ∙ ap (onward (one (entry_by none n w at body))) rest
+  leaf-case None q e h t rest = undeclared-read f L s m place inner q ∙ ap (onward (one (entry_by None n w at body))) rest
   leaf-case (is d) q e h t rest =
       declared-read f L s m place inner d q (e d q) (h d q) ∙ ap (onward (one (entry_by (is d) n w at body))) rest
 
@@ -87,7 +87,7 @@ module _ (L : Lookups) (s : List ℕ) (m : Message) (place : ℕ) {n w : ℕ} {l
       → (d.shape.typ ≡ TYPE_MESSAGE) × Names L s d (λ p. inner p at body ≡ listed (inside p)))
       → (t : Tree) → records_from L s inner m next 0 ys ≡ listed t
       → records_from L s inner m place 0 all ≡ listed (holds L s o (entry_by o n w at body) inside t)
-  message-case none q e inside h t rest = undeclared-read f L s m place inner q ∙ ap (onward (one (entry_by none n w at body))) rest
+  message-case None q e inside h t rest = undeclared-read f L s m place inner q ∙ ap (onward (one (entry_by None n w at body))) rest
   message-case (is d) q e inside h t rest =
       let g = (h d q).0 in
       let x = (h d q).1 in

@@ -6,8 +6,7 @@
 --                       known message exactly what it holds
 --
 -- Assumes nothing.
-use Rattle.std.specs.Prelude.{◌≡◌, List, [], ◌∷◌, ℕ}
-use Rattle.basis.specs.Kit.{some}
+use Rattle.std.specs.Prelude.{◌≡◌, List, [], ◌∷◌, ℕ, Some}
 use Rattle.records.specs.Raw.{Raw, raw_of}
 use Rattle.entries.specs.declared.Entry.{Entry}
 use Rattle.entries.specs.Tree.{Tree, end, one, held}
@@ -24,9 +23,9 @@ raws bs (held e i t) = raw_entry bs e ∷ raws bs t
 abbrev pub Insides : List ℕ → Tree → Type 0
 Insides bs end = Unit {0}
 Insides bs (one e t) = Insides bs t
-Insides bs (held e i t) = (raw_of (payload_of bs e) ≡ some (raws bs i)) × Insides bs i × Insides bs t
+Insides bs (held e i t) = (raw_of (payload_of bs e) ≡ Some (raws bs i)) × Insides bs i × Insides bs t
 
 -- Encoding, "Message Structure": a message is its records in a row; 01, Listing: "Order is that of the bytes" [LIST-2]
 pub record Encoded (bs xs : List ℕ) (t : Tree) : Type 0 where
-  pub here : raw_of xs ≡ some (raws bs t)
+  pub here : raw_of xs ≡ Some (raws bs t)
   pub inside : Insides bs t

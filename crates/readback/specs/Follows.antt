@@ -11,8 +11,7 @@
 --           OwnRow s t bs ws <-> the words ws are those of a row that `list` writes of the same bytes
 --
 -- Assumes nothing.
-use Rattle.std.specs.Prelude.{◌≡◌, Bool, true, false, List, [], ◌∷◌, ℕ, suc, length}
-use Rattle.basis.specs.Kit.{none, some}
+use Rattle.std.specs.Prelude.{◌≡◌, Bool, true, false, List, [], ◌∷◌, ℕ, suc, length, None, Some}
 use Rattle.basis.specs.Among.{Among}
 use Rattle.reply.specs.Outcome.{give}
 use Rattle.field.specs.Walk.{walk}
@@ -53,13 +52,13 @@ module _ (joins : Declaration → Bool) (L : Lookups) (s type q bs : List ℕ) w
     pub read : records_of L s type bs ≡ under message tree
     pub parts : List Declaration
     pub by : parts_named L s q message ≡ names parts
-    pub to : reached joins 0 parts tree ≡ some x
+    pub to : reached joins 0 parts tree ≡ Some x
 
   -- "Absent where there is none or parts are left on a group" [QUERY-6]
   pub data Lacks : Type 0 where
     on-group : {m : Message} {t : Tree} → records_of L s type bs ≡ under m t → parts_named L s q m ≡ group → Lacks
     no_record : {m : Message} {t : Tree} {ds : List Declaration} → records_of L s type bs ≡ under m t → parts_named L s q m ≡ names ds
-        → reached joins 0 ds t ≡ none → Lacks
+        → reached joins 0 ds t ≡ None → Lacks
 
 -- 01, Listing: "It answers that record's eight words" [QUERY-6]
 pub record OwnRow (s type bs ws : List ℕ) : Type 0 where

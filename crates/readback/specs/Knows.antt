@@ -6,8 +6,7 @@
 --   Knows L s m t <-> so are all records of t; every known message is entered, at the message that its type path names, and nothing else
 --
 -- Assumes nothing.
-use Rattle.std.specs.Prelude.{◌≡◌, List, ℕ}
-use Rattle.basis.specs.Kit.{Option, none, some}
+use Rattle.std.specs.Prelude.{◌≡◌, List, ℕ, Option, None, Some}
 use Rattle.types.specs.Types.{wire_of, TYPE_MESSAGE}
 use Rattle.sheet.specs.declared.declaration.Declaration.{Declaration}
 use Rattle.sheet.specs.declared.declaration.Declared.{Declared}
@@ -20,12 +19,12 @@ use Rattle.readback.specs.Seen.{Names}
 use Rattle.readback.specs.Typed.{DeclaredAs}
 
 abbrev pub by_of : Option Declaration → Declared
-by_of none = NoDeclaration
-by_of (some d) = Declares d
+by_of None = NoDeclaration
+by_of (Some d) = Declares d
 
 abbrev pub type_of : Option Declaration → ℕ
-type_of none = 0
-type_of (some d) = d.shape.typ
+type_of None = 0
+type_of (Some d) = d.shape.typ
 
 -- 01, Listing: "A number is known if the message, or an extension of it, declares it"; "a known number on another wire type is 19"
 -- [LIST-3, LIST-9]

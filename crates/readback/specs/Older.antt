@@ -12,8 +12,7 @@
 --   told L s m l rs ==  what the records rs, at the level l inside the message m, hold as the older has it
 --
 -- Assumes nothing.
-use Rattle.std.specs.Prelude.{◌≡◌, List, [], ◌∷◌, ◌++◌, ℕ, suc}
-use Rattle.basis.specs.Kit.{Option, none, some}
+use Rattle.std.specs.Prelude.{◌≡◌, List, [], ◌∷◌, ◌++◌, ℕ, suc, Option, None, Some}
 use Rattle.types.specs.Types.{TYPE_MESSAGE}
 use Rattle.sheet.specs.declared.declaration.Declaration.{Declaration}
 use Rattle.scope.specs.declared.lookup.LookupScope.{LookupScope}
@@ -33,13 +32,13 @@ module _ (L : Lookups) (s : List ℕ) (L' : Lookups) (s' : List ℕ) (Same : Mes
         → Names L s d (λ m. Same m (reached_by s' d' p))
 
   abbrev pub Keeps : Type 0
-  Keeps = (m m' : Message) → Same m m' → (n : ℕ) (d d' : Declaration) → declared s m n ≡ some d → declared s' m' n ≡ some d' → Kept d d'
+  Keeps = (m m' : Message) → Same m m' → (n : ℕ) (d d' : Declaration) → declared s m n ≡ Some d → declared s' m' n ≡ Some d' → Kept d d'
 
 -- ---- what is told under the older
 -- The mission, 3: "each number the older doesn't declare at that message is marked unknown"; "Every other record keeps type, number and value"
 abbrev pub told_as : Option Declaration → Content → Content
-told_as none x = record { level = x.level; number = x.number; typ = 0; value = 0; payload = x.payload }
-told_as (some d) x = x
+told_as None x = record { level = x.level; number = x.number; typ = 0; value = 0; payload = x.payload }
+told_as (Some d) x = x
 
 abbrev pub within : (s : List ℕ) → Declaration → LookedUp → (Message → List Content) → List Content
 within s d (Found p) f = f (reached_by s d p)
@@ -48,8 +47,8 @@ within s d (NoMessage w) f = []
 module _ (L : Lookups) (s : List ℕ) where
   -- "and what lies inside it is left out"
   abbrev pub inside_of : Option Declaration → (Message → List Content) → List Content
-  inside_of none f = []
-  inside_of (some d) f = within s d (L.message (path_of s d)) f
+  inside_of None f = []
+  inside_of (Some d) f = within s d (L.message (path_of s d)) f
 
   -- "The list is the newer's typed records in order, as 01's steps make them from the request, save .."
   abbrev pub told : Message → (level : ℕ) → Recs → List Content

@@ -15,8 +15,7 @@
 --                           names one, inside which it is so again. Of a number that is not declared nothing is asked
 --
 -- Assumes nothing.
-use Rattle.std.specs.Prelude.{◌≡◌, List, ◌++◌, ℕ, suc, ◌+◌, length, max}
-use Rattle.basis.specs.Kit.{Option, none, some}
+use Rattle.std.specs.Prelude.{◌≡◌, List, ◌++◌, ℕ, suc, ◌+◌, length, max, Option, None, Some}
 use Rattle.field.specs.Leaf.{text}
 use Rattle.types.specs.Types.{wire_of, LEN, TYPE_MESSAGE}
 use Rattle.payloads.specs.Value.{said, value_of}
@@ -33,8 +32,8 @@ use Rattle.entries.specs.Item.{declared}
 
 -- 01, Listing: "type (0 unknown)"; "Length-delimited and unknown records have value 0" [LIST-1, LIST-7]
 abbrev pub entry_by : Option Declaration → (number wire place : ℕ) (payload : List ℕ) → Entry
-entry_by none n w at bs = record { number = n; typ = 0; wire = w; place = at; size = length bs; value = 0; by = NoDeclaration }
-entry_by (some d) n w at bs = record {
+entry_by None n w at bs = record { number = n; typ = 0; wire = w; place = at; size = length bs; value = 0; by = NoDeclaration }
+entry_by (Some d) n w at bs = record {
   number = n;
   typ = d.shape.typ;
   wire = w;
@@ -57,8 +56,8 @@ on_path s d (NoMessage w) f t = t
 module _ (L : Lookups) (s : List ℕ) where
   -- 01, Listing: "a known message's inside directly after it; unknown ones are not entered" [LIST-2]
   abbrev pub holds : Option Declaration → Entry → (inside : Message → Tree) → (rest : Tree) → Tree
-  holds none e f t = one e t
-  holds (some d) e f t = on_path s d (L.message (path_of s d)) (λ n. held e (f n) t) (one e t)
+  holds None e f t = one e t
+  holds (Some d) e f t = on_path s d (L.message (path_of s d)) (λ n. held e (f n) t) (one e t)
 
   abbrev pub seen : Message → Recs → (place : ℕ) → Tree
   seen m nil at = end
@@ -79,10 +78,10 @@ nested (message n i r) = max (suc (nested i)) (nested r)
 
 -- ---- what is asked of records
 abbrev pub OnWire : (s : List ℕ) → Message → (number typ : ℕ) → Type 0
-OnWire s m n t = (d : Declaration) → declared s m n ≡ some d → wire_of d.shape.typ ≡ wire_of t
+OnWire s m n t = (d : Declaration) → declared s m n ≡ Some d → wire_of d.shape.typ ≡ wire_of t
 
 abbrev pub Plain : (s : List ℕ) → Message → (number : ℕ) → Type 0
-Plain s m n = (d : Declaration) → declared s m n ≡ some d → d.shape.typ ≡ TYPE_MESSAGE → ⊥
+Plain s m n = (d : Declaration) → declared s m n ≡ Some d → d.shape.typ ≡ TYPE_MESSAGE → ⊥
 
 pub record Names (L : Lookups) (s : List ℕ) (d : Declaration) (P : Message → Type 0) : Type 0 where
   pub place : LookupScope
@@ -95,4 +94,4 @@ module _ (L : Lookups) (s : List ℕ) where
   Readable m (number n t v r) = OnWire s m n t × Readable m r
   Readable m (bytes n t bs r) = OnWire s m n t × Plain s m n × Readable m r
   Readable m (message n i r) =
-      ((d : Declaration) → declared s m n ≡ some d → (d.shape.typ ≡ TYPE_MESSAGE) × Names L s d (λ p. Readable p i)) × Readable m r
+      ((d : Declaration) → declared s m n ≡ Some d → (d.shape.typ ≡ TYPE_MESSAGE) × Names L s d (λ p. Readable p i)) × Readable m r

@@ -9,8 +9,7 @@
 --         content_of bs r ==  what the row r of the option bytes bs holds
 --
 -- Assumes nothing.
-use Rattle.std.specs.Prelude.{◌≡◌, List, [], ◌∷◌, ◌++◌, ℕ, suc, ◌+◌}
-use Rattle.basis.specs.Kit.{some}
+use Rattle.std.specs.Prelude.{◌≡◌, List, [], ◌∷◌, ◌++◌, ℕ, suc, ◌+◌, Some}
 use Rattle.octets.specs.Octets.{part}
 use Rattle.types.specs.Types.{TYPE_MESSAGE}
 use Rattle.sheet.specs.declared.declaration.Declaration.{Declaration}
@@ -23,7 +22,7 @@ use Rattle.readback.specs.Seen.{Names}
 
 pub record DeclaredAs (s : List ℕ) (m : Message) (n t : ℕ) : Type 0 where
   pub by : Declaration
-  pub declares : declared s m n ≡ some by
+  pub declares : declared s m n ≡ Some by
   pub typ : by.shape.typ ≡ t
 
 module _ (L : Lookups) (s : List ℕ) where

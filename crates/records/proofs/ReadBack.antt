@@ -1,8 +1,8 @@
 -- Records read back: by Encoding alone the bytes of typed records are those records in their order, with their numbers, their wire types
 -- and their payloads, and no varint among them has a shorter form.
 -- Assumes nothing.
-use Rattle.std.specs.Prelude.{◌≡◌, refl, Bool, true, false, ◌||◌, List, [], ◌∷◌, ◌++◌, ℕ, ◌+◌, ◌-◌, ◌^◌, ◌≤◌, ◌<◌, eqb, length, drop}
-use Rattle.basis.specs.Kit.{sym, ap, ◌∙◌, Option, some}
+use Rattle.std.specs.Prelude.{◌≡◌, refl, Bool, true, false, ◌||◌, List, [], ◌∷◌, ◌++◌, ℕ, ◌+◌, ◌-◌, ◌^◌, ◌≤◌, ◌<◌, eqb, length, drop, Option, Some}
+use Rattle.basis.specs.Kit.{sym, ap, ◌∙◌}
 use Rattle.basis.proofs.Kit.{arith}
 use mathlib.Core.Path.{subst}
 use mathlib.Core.Bool.{false≢true}
@@ -33,7 +33,7 @@ raw-skip [] ys = refl
 raw-skip (x ∷ xs) ys = raw-skip xs ys
 
 raw-next : (xs ys : List ℕ) (r : Raw) (rs : List Raw) → 1 ≤ length xs
-    → front_of (xs ++ ys) ≡ some (record { first = r; more = length xs - 1 }) → raw_of ys ≡ some rs → raw_of (xs ++ ys) ≡ some (r ∷ rs)
+    → front_of (xs ++ ys) ≡ Some (record { first = r; more = length xs - 1 }) → raw_of ys ≡ Some rs → raw_of (xs ++ ys) ≡ Some (r ∷ rs)
 unfolding raw_from
 raw-next [] ys r rs h f e = absurd (omega arith)
 raw-next (x ∷ xs) ys r rs h f e =
@@ -52,7 +52,7 @@ module _ (w : ℕ) (P : ℕ → Type 0) (a : P VARINT) (b : P I64) (c : P I32) w
       go false false false p q r h = absurd (false≢true h)
 
 abbrev extent : (before size : ℕ) → Option Extent
-extent k n = some (record { before = k; size = n })
+extent k n = Some (record { before = k; size = n })
 
 within-is : (xs ys : List ℕ) (k n : ℕ) → length xs ≡ k + n → within (xs ++ ys) k n ≡ extent k n
 within-is xs ys k n e =
@@ -103,7 +103,7 @@ module _ (n w : ℕ) (range : (1 ≤ n) × (n ≤ most_number)) (good : wire_rea
   module _ (lead body ys : List ℕ) where
     front-is : payload_at w (lead ++ (body ++ ys)) ≡ extent (length lead) (length body)
         → front_of ((varint (tag_of n w) ++ (lead ++ body)) ++ ys)
-        ≡ some (record {
+        ≡ Some (record {
           first = record { number = n; wire = w; payload = body };
           more = length (varint (tag_of n w) ++ (lead ++ body)) - 1;
         })
@@ -118,16 +118,16 @@ module _ (n w : ℕ) (range : (1 ≤ n) × (n ≤ most_number)) (good : wire_rea
         ap front_of joined ∙ tag_at rest ∙ rw (tag-of-good n w range.0 range.1 good, behind_tag, here)
         (rw (number-of-tag-of n w low, wire-type-of-tag-of n w low, drop-append_seam lead (body ++ ys), take-append_seam body ys, size))
 
-    record-next : payload_at w (lead ++ (body ++ ys)) ≡ extent (length lead) (length body) → (rs : List Raw) → raw_of ys ≡ some rs
-        → raw_of ((varint (tag_of n w) ++ (lead ++ body)) ++ ys) ≡ some (record { number = n; wire = w; payload = body } ∷ rs)
+    record-next : payload_at w (lead ++ (body ++ ys)) ≡ extent (length lead) (length body) → (rs : List Raw) → raw_of ys ≡ Some rs
+        → raw_of ((varint (tag_of n w) ++ (lead ++ body)) ++ ys) ≡ Some (record { number = n; wire = w; payload = body } ∷ rs)
     record-next e rs q =
         let v = varint (tag_of n w) in
-        let some : 1 ≤ length (v ++ (lead ++ body)) = rw length-append (omega (arith, varint-some (tag_of n w))) in
-        raw-next (v ++ (lead ++ body)) ys (record { number = n; wire = w; payload = body }) rs some (front-is e) q
+        let Some : 1 ≤ length (v ++ (lead ++ body)) = rw length-append (omega (arith, varint-some (tag_of n w))) in
+        raw-next (v ++ (lead ++ body)) ys (record { number = n; wire = w; payload = body }) rs Some (front-is e) q
 
 -- a length-delimited record
-sized-next : (n : ℕ) (bs ys : List ℕ) (rs : List Raw) → (1 ≤ n) × (n ≤ most_number) → length (sized n bs ++ ys) < 2 ^ 64 → raw_of ys ≡ some rs
-    → raw_of (sized n bs ++ ys) ≡ some (record { number = n; wire = LEN; payload = bs } ∷ rs)
+sized-next : (n : ℕ) (bs ys : List ℕ) (rs : List Raw) → (1 ≤ n) × (n ≤ most_number) → length (sized n bs ++ ys) < 2 ^ 64 → raw_of ys ≡ Some rs
+    → raw_of (sized n bs ++ ys) ≡ Some (record { number = n; wire = LEN; payload = bs } ∷ rs)
 unfolding head_of
 sized-next n bs ys rs range h q =
     let small : length bs < 2 ^ 64 = omega (arith, length-append (sized n bs) ys, length-append (head_of n (length bs)) bs) in
@@ -135,7 +135,7 @@ sized-next n bs ys rs range h q =
     (record-next n LEN range refl (varint (length bs)) bs ys (bytes-at bs ys small) rs q)
 
 -- ---- the statement
-pub read_back : {rs : Recs} → Proper rs → length (encode rs) < 2 ^ 64 → raw_of (encode rs) ≡ some (raws_of rs)
+pub read_back : {rs : Recs} → Proper rs → length (encode rs) < 2 ^ 64 → raw_of (encode rs) ≡ Some (raws_of rs)
 unfolding encode raw_from wire_of
 read_back proper-nil h = refl
 read_back (proper-number {n} {t} {v} {r} range k b p) h =
@@ -150,7 +150,7 @@ read_back (proper-message {n} {i} {r} range q p) h =
 
 -- and so on inside a message
 pub read-inside : {n : ℕ} {i r : Recs} → Proper (message n i r) → length (encode (message n i r)) < 2 ^ 64
-    → raw_of (encode i) ≡ some (raws_of i)
+    → raw_of (encode i) ≡ Some (raws_of i)
 unfolding encode
 read-inside {n} {i} {r} (proper-message range q p) h =
     read_back q (omega (arith, length-append (sized n (encode i)) (encode r), length-append (head_of n (length (encode i))) (encode i)))

@@ -1,7 +1,6 @@
 -- Typed records as bytes and back: the examples of the encoding document, and bytes that are no records.
 -- Assumes nothing.
-use Rattle.std.specs.Prelude.{◌≡◌, refl, List, [], ◌∷◌, map, ℕ}
-use Rattle.basis.specs.Kit.{none, some}
+use Rattle.std.specs.Prelude.{◌≡◌, refl, List, [], ◌∷◌, map, ℕ, None, Some}
 use Rattle.types.specs.Types.{TYPE_INT32, TYPE_STRING, TYPE_SINT32, TYPE_FIXED32, TYPE_FIXED64, wire_of, VARINT, I64, I32, LEN}
 use Rattle.varint.specs.Varint.{varint, varint_within, read_varint, read_within}
 use Rattle.wire.specs.Fixed.{little_of}
@@ -66,7 +65,7 @@ raws =
     ∷ []
     ∷ []
 
-back : map raw_of encoded ≡ map some raws
+back : map raw_of encoded ≡ map Some raws
 unfolding raw_from front_of payload_at read_varint read_within tag_good
 back = refl
 
@@ -77,8 +76,8 @@ same = refl
 -- the largest number, and an overlong tag, length and number
 taken :
     map raw_of ((0xF8 ∷ 0xFF ∷ 0xFF ∷ 0xFF ∷ 0x0F ∷ 0x00 ∷ []) ∷ (0x88 ∷ 0x00 ∷ 0x81 ∷ 0x00 ∷ 0x92 ∷ 0x00 ∷ 0x81 ∷ 0x00 ∷ 0x07 ∷ []) ∷ [])
-    ≡ some (raw 536870911 VARINT (0x00 ∷ []) ∷ [])
-    ∷ some (raw 1 VARINT (0x81 ∷ 0x00 ∷ []) ∷ raw 2 LEN (0x07 ∷ []) ∷ []) ∷ []
+    ≡ Some (raw 536870911 VARINT (0x00 ∷ []) ∷ [])
+    ∷ Some (raw 1 VARINT (0x81 ∷ 0x00 ∷ []) ∷ raw 2 LEN (0x07 ∷ []) ∷ []) ∷ []
 unfolding raw_from front_of payload_at read_varint read_within tag_good
 taken = refl
 
@@ -89,6 +88,6 @@ refused :
     ((0x0B ∷ []) ∷ (0x0C ∷ []) ∷ (0x0E ∷ []) ∷ (0x0F ∷ []) ∷ (0x00 ∷ 0x00 ∷ []) ∷ (0x80 ∷ 0x80 ∷ 0x80 ∷ 0x80 ∷ 0x10 ∷ 0x00 ∷ [])
     ∷ (0x88 ∷ []) ∷ (0x08 ∷ 0x96 ∷ []) ∷ (0x09 ∷ 1 ∷ 2 ∷ 3 ∷ 4 ∷ 5 ∷ 6 ∷ 7 ∷ []) ∷ (0x0D ∷ 1 ∷ 2 ∷ 3 ∷ []) ∷ (0x12 ∷ [])
     ∷ (0x12 ∷ 0x02 ∷ 0x61 ∷ []) ∷ (0x08 ∷ 0x01 ∷ 0x08 ∷ []) ∷ [])
-    ≡ none ∷ none ∷ none ∷ none ∷ none ∷ none ∷ none ∷ none ∷ none ∷ none ∷ none ∷ none ∷ none ∷ []
+    ≡ None ∷ None ∷ None ∷ None ∷ None ∷ None ∷ None ∷ None ∷ None ∷ None ∷ None ∷ None ∷ None ∷ []
 unfolding raw_from front_of payload_at read_varint read_within tag_good
 refused = refl

@@ -12,8 +12,7 @@
 --                        length-delimited, and no group
 --
 -- Assumes nothing.
-use Rattle.std.specs.Prelude.{◌≡◌, true, false, List, [], ◌∷◌, ℕ, zero, suc, ◌+◌, ◌-◌, ◌^◌, ◌≤◌, ◌<◌, take, drop}
-use Rattle.basis.specs.Kit.{Option, none, some}
+use Rattle.std.specs.Prelude.{◌≡◌, true, false, List, [], ◌∷◌, ℕ, zero, suc, ◌+◌, ◌-◌, ◌^◌, ◌≤◌, ◌<◌, take, drop, Option, None, Some}
 use Rattle.basis.specs.First.{given}
 use Rattle.limits.specs.Figures.{most_number}
 use Rattle.types.specs.Types.{is_any, wire_of, VARINT, I64, I32, LEN, TYPE_MESSAGE}
@@ -38,16 +37,16 @@ front_on bs t n p = record {
 }
 
 abbrev pub behind_tag : (bs : List ℕ) (tag size : ℕ) → Option Front
-behind_tag bs t n = elim (tag_good t) [ true ↦ given (payload_at (wire_type_of t) bs) (λ p. some (front_on bs t n p)) | false ↦ none ]
+behind_tag bs t n = elim (tag_good t) [ true ↦ given (payload_at (wire_type_of t) bs) (λ p. Some (front_on bs t n p)) | false ↦ None ]
 
 -- Encoding, "Message Structure": a tag, then a payload by its wire type; a tag of another number or wire type is none
 unfoldable pub front_of : List ℕ → Option Front
 front_of bs = on_read (read_varint bs) λ t n. behind_tag (drop n bs) t n
 
 unfoldable pub raw_from : (skip : ℕ) → List ℕ → Option (List Raw)
-raw_from k [] = some []
+raw_from k [] = Some []
 raw_from (suc k) (b ∷ bs) = raw_from k bs
-raw_from zero (b ∷ bs) = given (front_of (b ∷ bs)) λ f. given (raw_from f.more bs) λ rs. some (f.first ∷ rs)
+raw_from zero (b ∷ bs) = given (front_of (b ∷ bs)) λ f. given (raw_from f.more bs) λ rs. Some (f.first ∷ rs)
 
 abbrev pub raw_of : List ℕ → Option (List Raw)
 raw_of bs = raw_from 0 bs

@@ -1,7 +1,7 @@
 -- What a scalar constant that fits holds: bytes are a string's own, all others are numbers.
 -- Assumes nothing.
-use Rattle.std.specs.Prelude.{◌≡◌, Bool, true, false, List, ℕ, eqb, leb}
-use Rattle.basis.specs.Kit.{sym, ap, ◌∙◌, Option, none, some}
+use Rattle.std.specs.Prelude.{◌≡◌, Bool, true, false, List, ℕ, eqb, leb, Option, None, Some}
+use Rattle.basis.specs.Kit.{sym, ap, ◌∙◌}
 use Rattle.basis.proofs.Never.{never}
 use Rattle.reply.specs.declared.Refusal.{Refusal}
 use Rattle.field.specs.declared.Span.{Span}
@@ -78,8 +78,8 @@ module _ (p : Span) where
       go false false a b e = never cc
 
   no-bytes-listed : (u : Refusal) (o : Option Value) → listed u o ≡ Fits (Bytes p) → ⊥
-  no-bytes-listed u none e = never cc
-  no-bytes-listed u (some v) e = never cc
+  no-bytes-listed u None e = never cc
+  no-bytes-listed u (Some v) e = never cc
 
   no-bytes-among : (u : Refusal) (s n : List ℕ) (v : LookedUpEnum) → among u s n v ≡ Fits (Bytes p) → ⊥
   no-bytes-among u s n (NoEnum w) e = never cc

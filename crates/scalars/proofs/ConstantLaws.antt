@@ -1,7 +1,7 @@
 -- Identifiers on enums and scalar constants on fields, over any look-ups: the ways through `ident_on` and `scalar_on`.
 -- Assumes nothing.
-use Rattle.std.specs.Prelude.{◌≡◌, refl, Bool, List, ℕ, ◌≤◌, length}
-use Rattle.basis.specs.Kit.{sym, ap, ◌∙◌, Option, none, some}
+use Rattle.std.specs.Prelude.{◌≡◌, refl, Bool, List, ℕ, ◌≤◌, length, Option, None, Some}
+use Rattle.basis.specs.Kit.{sym, ap, ◌∙◌}
 use Rattle.basis.proofs.Kit.{eq-eqb, ne_eqb}
 use Rattle.basis.proofs.Never.{never}
 use mathlib.Core.Bool.{not}
@@ -33,13 +33,13 @@ use Rattle.scalars.specs.inner.Inside.{Inside}
 
 -- ---- ident_on
 listed_of : (u : Refusal) (o : Option Value) (z : Valued) → z ≡ valued o → z ≡ NoValue → Misfit u ≡ listed u o
-listed_of u none z m g = refl
-listed_of u (some v) z m g = never cc
+listed_of u None z m g = refl
+listed_of u (Some v) z m g = never cc
 
 listed-is : (u : Refusal) (o : Option Value) (z : Valued) → z ≡ valued o → (v : Value) → z ≡ Is v → (b : ℕ) → b ≡ widen32_of v.number
     → Fits (Bits b) ≡ listed u o
-listed-is u none z m v g b e = never cc
-listed-is u (some x) z m v g b e = let y : x ≡ v = cc in rw (y, e) refl
+listed-is u None z m v g b e = never cc
+listed-is u (Some x) z m v g b e = let y : x ≡ v = cc in rw (y, e) refl
 
 module _ (L : Lookups) (s r : List ℕ) (u : Refusal) (h : Shape) (p : Span) (t : ℕ) (k : t ≡ h.typ) where
   pub ident-other : (t ≡ TYPE_ENUM → ⊥) → Misfit UnsupportedExtensionType ≡ ident_on L s r u h p

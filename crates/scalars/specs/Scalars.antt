@@ -11,8 +11,7 @@
 --   scalar_on unlisted h c ==  the constant c on a field of the shape h
 --
 -- Assumes nothing.
-use Rattle.std.specs.Prelude.{Bool, true, false, ◌||◌, List, ℕ, ◌-◌, ◌%◌, ◌^◌, eqb, leb}
-use Rattle.basis.specs.Kit.{Option, none, some}
+use Rattle.std.specs.Prelude.{Bool, true, false, ◌||◌, List, ℕ, ◌-◌, ◌%◌, ◌^◌, eqb, leb, Option, None, Some}
 use Rattle.std.specs.Float.{binary32, binary64}
 use Rattle.std.specs.Float.Ieee.{to_bits}
 use Rattle.reply.specs.declared.Refusal.{Refusal}
@@ -95,8 +94,8 @@ bool_on t b = elim (eqb t TYPE_BOOL) [ true ↦ elim b [ true ↦ fits 1 | false
 
 -- an enum's number is an int32: it widens by sign
 abbrev pub listed : Refusal → Option Value → Scalar
-listed unlisted none = Misfit unlisted
-listed unlisted (some v) = fits (widen32_of v.number)
+listed unlisted None = Misfit unlisted
+listed unlisted (Some v) = fits (widen32_of v.number)
 
 abbrev pub among : Refusal → List ℕ → List ℕ → LookedUpEnum → Scalar
 among unlisted s n (NoEnum w) = Misfit w

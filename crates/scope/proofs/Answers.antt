@@ -1,8 +1,8 @@
 -- The answers of the functions: what an answer tells of that which it stands for, the first of two that tells of something, and a
 -- declaration where it passes a test.
 -- Assumes nothing.
-use Rattle.std.specs.Prelude.{◌≡◌, refl, Bool, true, false, List, ◌++◌}
-use Rattle.basis.specs.Kit.{sym, ap, ◌∙◌, Option, none, some}
+use Rattle.std.specs.Prelude.{◌≡◌, refl, Bool, true, false, List, ◌++◌, Option, None, Some}
+use Rattle.basis.specs.Kit.{sym, ap, ◌∙◌}
 use Rattle.basis.proofs.Never.{never}
 use Rattle.sheet.specs.declared.declaration.Declaration.{Declaration}
 use Rattle.sheet.specs.declared.declaration.Declared.{Declared}
@@ -19,31 +19,31 @@ use Rattle.basis.proofs.FirstLaws.{first-append}
 
 -- ---- what there is, of which the answer tells
 module _ (r : Reached) where
-  pub placed-nowhere : (o : Option Scope) → r ≡ placed o → r ≡ Nowhere → o ≡ none
-  placed-nowhere none q g = refl
-  placed-nowhere (some c) q g = never cc
+  pub placed-nowhere : (o : Option Scope) → r ≡ placed o → r ≡ Nowhere → o ≡ None
+  placed-nowhere None q g = refl
+  placed-nowhere (Some c) q g = never cc
 
   -- of a scope the answer is the place alone
   pub placed-to : (o : Option Scope) → r ≡ placed o → (p : LookupScope) → r ≡ To p → (P : Type 0)
-      → ((c : Scope) → o ≡ some c → p ≡ c.place → P) → P
-  placed-to none q p g P k = never cc
-  placed-to (some c) q p g P k = let u : p ≡ c.place = cc in k c refl u
+      → ((c : Scope) → o ≡ Some c → p ≡ c.place → P) → P
+  placed-to None q p g P k = never cc
+  placed-to (Some c) q p g P k = let u : p ≡ c.place = cc in k c refl u
 
 module _ (r : Declared) where
-  pub declared-none : (o : Option Declaration) → r ≡ declared o → r ≡ NoDeclaration → o ≡ none
-  declared-none none q g = refl
-  declared-none (some d) q g = never cc
+  pub declared-none : (o : Option Declaration) → r ≡ declared o → r ≡ NoDeclaration → o ≡ None
+  declared-none None q g = refl
+  declared-none (Some d) q g = never cc
 
-  pub declared-some : (o : Option Declaration) → r ≡ declared o → (d : Declaration) → r ≡ Declares d → o ≡ some d
-  declared-some none q d g = never cc
-  declared-some (some x) q d g = let u : x ≡ d = cc in rw u
+  pub declared-some : (o : Option Declaration) → r ≡ declared o → (d : Declaration) → r ≡ Declares d → o ≡ Some d
+  declared-some None q d g = never cc
+  declared-some (Some x) q d g = let u : x ≡ d = cc in rw u
 
 -- ---- the first of two lists: an answer that tells of something is the first of two, and one that does not is passed over
 module _ {A B R : Type 0} (nothing : R) (thing : B → R) (tells : R → Option A)
     (passed : (q : R) → first_of tells nothing q ≡ q) (taken : (b : B) (q : R) → first_of tells (thing b) q ≡ thing b) where
   pub told-or-else : (o p : Option B) → told nothing thing (or_else o p) ≡ first_of tells (told nothing thing o) (told nothing thing p)
-  told-or-else none p = sym (passed (told nothing thing p))
-  told-or-else (some b) p = sym (taken b (told nothing thing p))
+  told-or-else None p = sym (passed (told nothing thing p))
+  told-or-else (Some b) p = sym (taken b (told nothing thing p))
 
   pub told-append : (good : B → Bool) (xs ys : List B)
       → told nothing thing (first good (xs ++ ys)) ≡ first_of tells (told nothing thing (first good xs)) (told nothing thing (first good ys))
@@ -62,7 +62,7 @@ module _ (good : Declaration → Bool) where
   declared-listed NoDeclaration = refl
   declared-listed (Declares d) = go (good d)
     where
-      go : (b : Bool) → declared (only_if b (some d) none) ≡ only_if b (Declares d) NoDeclaration
+      go : (b : Bool) → declared (only_if b (Some d) None) ≡ only_if b (Declares d) NoDeclaration
       go true = refl
       go false = refl
 

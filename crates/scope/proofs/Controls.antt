@@ -1,8 +1,7 @@
 -- Closed cases of the definitions, which the checker computes: of each rule one that finds, one that finds the first of two, and one that
 -- finds nothing.
 -- Assumes nothing.
-use Rattle.std.specs.Prelude.{◌≡◌, refl, List, [], ◌∷◌, map, ℕ}
-use Rattle.basis.specs.Kit.{Option, none, some}
+use Rattle.std.specs.Prelude.{◌≡◌, refl, List, [], ◌∷◌, map, ℕ, Option, None, Some}
 use Rattle.basis.specs.First.{given}
 use Rattle.sheet.specs.Table.{message_tag, extension_tag, field_tag}
 use Rattle.sheet.specs.Members.{Enumeration}
@@ -11,10 +10,10 @@ use Rattle.scope.proofs.Sample.{sheet, file, in_m, in_n, declares}
 
 -- ---- messages: where the body stands, and the levels left. N in M, the first M, a name of another level, and with no level left
 abbrev reached : Option Scope → List ℕ
-reached none = []
-reached (some c) = c.place.body.from ∷ c.place.body.to ∷ c.place.left ∷ []
+reached None = []
+reached (Some c) = c.place.body.from ∷ c.place.body.to ∷ c.place.left ∷ []
 
-messages : map reached (in_n some ∷ in_m some ∷ down sheet (78 ∷ []) (file 16) ∷ []) ≡ (142 ∷ 142 ∷ 14 ∷ []) ∷ (14 ∷ 142 ∷ 15 ∷ []) ∷ [] ∷ []
+messages : map reached (in_n Some ∷ in_m Some ∷ down sheet (78 ∷ []) (file 16) ∷ []) ≡ (142 ∷ 142 ∷ 14 ∷ []) ∷ (14 ∷ 142 ∷ 15 ∷ []) ∷ [] ∷ []
 unfolding file
 messages = refl
 
@@ -39,8 +38,8 @@ members = refl
 
 -- ---- enums: where the body stands. E of M, the first D, and E, which the file itself lacks
 abbrev body : Option Enumeration → List ℕ
-body none = []
-body (some e) = e.body.from ∷ e.body.to ∷ []
+body None = []
+body (Some e) = e.body.from ∷ e.body.to ∷ []
 
 enums : map body (in_m (enum_named sheet (69 ∷ [])) ∷ enum_named sheet (68 ∷ []) (file 16) ∷ enum_named sheet (69 ∷ []) (file 16) ∷ [])
     ≡ (93 ∷ 135 ∷ []) ∷ (156 ∷ 156 ∷ []) ∷ [] ∷ []
@@ -52,8 +51,8 @@ numbered : ℕ → Option ℕ
 unfolding file
 numbered n =
     given (in_m (enum_named sheet (69 ∷ []))) λ e.
-    given (value_named sheet (n ∷ []) e.values) λ v. some v.number
+    given (value_named sheet (n ∷ []) e.values) λ v. Some v.number
 
-values : map numbered (98 ∷ 97 ∷ 99 ∷ []) ≡ some 3 ∷ some 1 ∷ none ∷ []
+values : map numbered (98 ∷ 97 ∷ 99 ∷ []) ≡ Some 3 ∷ Some 1 ∷ None ∷ []
 unfolding numbered
 values = refl

@@ -6,8 +6,8 @@
 --   FoundEnum s n c p <-> the first enum of the name n in the scope c has the body p
 --
 -- Assumes nothing.
-use Rattle.std.specs.Prelude.{◌≡◌, refl, List, ℕ, ◌-◌, ◌≤◌, length}
-use Rattle.basis.specs.Kit.{sym, ap, ◌∙◌, Option, none, some}
+use Rattle.std.specs.Prelude.{◌≡◌, refl, List, ℕ, ◌-◌, ◌≤◌, length, Option, None, Some}
+use Rattle.basis.specs.Kit.{sym, ap, ◌∙◌}
 use Rattle.basis.proofs.Kit.{arith}
 use mathlib.Core.Path.{subst}
 use Rattle.basis.proofs.Never.{never}
@@ -67,14 +67,14 @@ module _ (d : ℕ) (s : List ℕ) (end : ℕ) where
 
 -- ---- a scope that is gone down to
 module _ (s n : List ℕ) (p : LookupScope) where
-  module _ (c : Scope) (q : down s n (holding s p) ≡ some c) where
+  module _ (c : Scope) (q : down s n (holding s p) ≡ Some c) where
     down-message : (P : Type 0) → ((m : Message) → Held p.left s p.body.to m → c ≡ message_scope (holding s p) m → P) → P
     down-message P k =
         given_holds (first (λ m. is_text s n m.name) (messages_of (holding s p).items))
-        (λ m. some (message_scope (holding s p) m)) c P found q
+        (λ m. Some (message_scope (holding s p) m)) c P found q
       where
-        found : (m : Message) → first (λ m. is_text s n m.name) (messages_of (holding s p).items) ≡ some m
-            → some (message_scope (holding s p) m) ≡ some c → P
+        found : (m : Message) → first (λ m. is_text s n m.name) (messages_of (holding s p).items) ≡ Some m
+            → Some (message_scope (holding s p) m) ≡ Some c → P
         found m f g =
             let u : c ≡ message_scope (holding s p) m = cc in
             k m (first_holds (Held p.left s p.body.to) (λ m. is_text s n m.name)
@@ -90,14 +90,14 @@ module _ (s n : List ℕ) (p : LookupScope) where
 
   -- the same, of what `down` answers
   module _ (r : Reached) (q : r ≡ placed (down s n (holding s p))) where
-    pub down-nowhere : r ≡ Nowhere → down s n (holding s p) ≡ none
+    pub down-nowhere : r ≡ Nowhere → down s n (holding s p) ≡ None
     down-nowhere = placed-nowhere r (down s n (holding s p)) q
 
     module _ (x : LookupScope) (g : r ≡ To x) where
-      pub down_to : down s n (holding s p) ≡ some (holding s x)
+      pub down_to : down s n (holding s p) ≡ Some (holding s x)
       down_to =
-          placed-to r (down s n (holding s p)) q x g (down s n (holding s p) ≡ some (holding s x))
-          λ c f u. rw u (f ∙ ap some (down-held c f))
+          placed-to r (down s n (holding s p)) q x g (down s n (holding s p) ≡ Some (holding s x))
+          λ c f u. rw u (f ∙ ap Some (down-held c f))
 
       pub down-to-lies : InSheet s p → InSheet s x
       down-to-lies = down-lies (holding s x) down_to
@@ -107,11 +107,11 @@ pub ruleset down-to-laws = (down-nowhere, down_to, down-to-lies)
 -- ---- an enum that is found
 pub record FoundEnum (s n : List ℕ) (c : Scope) (p : Span) : Type 0 where
   pub next : Enumeration
-  pub is : enum_named s n c ≡ some next
+  pub is : enum_named s n c ≡ Some next
   pub body : p ≡ next.body
 
 module _ (s n : List ℕ) (p : LookupScope) where
-  module _ (x : Enumeration) (q : enum_named s n (holding s p) ≡ some x) where
+  module _ (x : Enumeration) (q : enum_named s n (holding s p) ≡ Some x) where
     enum-stands : HeldEnum s p.body.to x
     enum-stands =
         first_holds (HeldEnum s p.body.to) (λ x. is_text s n x.name)
@@ -128,20 +128,20 @@ module _ (s n : List ℕ) (p : LookupScope) where
 
   -- the same, of what `enum_named` answers
   module _ (r : Leaf) (q : r ≡ bodied (enum_named s n (holding s p))) where
-    pub enum-not : r ≡ Not → enum_named s n (holding s p) ≡ none
+    pub enum-not : r ≡ Not → enum_named s n (holding s p) ≡ None
     enum-not = go (enum_named s n (holding s p)) q
       where
-        go : (o : Option Enumeration) → r ≡ bodied o → r ≡ Not → o ≡ none
-        go none q g = refl
-        go (some x) q g = never cc
+        go : (o : Option Enumeration) → r ≡ bodied o → r ≡ Not → o ≡ None
+        go None q g = refl
+        go (Some x) q g = never cc
 
     module _ (a e : ℕ) (g : r ≡ At a e) where
       pub enum_at : FoundEnum s n (holding s p) (span a e)
       enum_at = go (enum_named s n (holding s p)) refl q
         where
           go : (o : Option Enumeration) → enum_named s n (holding s p) ≡ o → r ≡ bodied o → FoundEnum s n (holding s p) (span a e)
-          go none f q = never cc
-          go (some x) f q =
+          go None f q = never cc
+          go (Some x) f q =
               let u : a ≡ x.body.from = cc in
               let v : e ≡ x.body.to = cc in
               record { next = x; is = f; body = rw (u, v) }

@@ -5,8 +5,8 @@
 --          inner p a e == the place of a message of the scope p whose body is from a to e
 --
 -- Assumes nothing.
-use Rattle.std.specs.Prelude.{◌≡◌, refl, Bool, true, false, List, [], ◌∷◌, ℕ, ◌-◌, eqb}
-use Rattle.basis.specs.Kit.{sym, ap, ◌∙◌, Option, some}
+use Rattle.std.specs.Prelude.{◌≡◌, refl, Bool, true, false, List, [], ◌∷◌, ℕ, ◌-◌, eqb, Option, Some}
+use Rattle.basis.specs.Kit.{sym, ap, ◌∙◌}
 use Rattle.basis.proofs.Kit.{eq-eqb, ne_eqb, not-true, not-false}
 use mathlib.Core.Option as option
 use borrow.Author.Tests.{eqb-true, eqb-false}
@@ -146,9 +146,9 @@ module _ (s n : List ℕ) (p : LookupScope) where
         rw (q, ← message-named p.left s n z (walk s p.body.from p.body.to)) (go (message_among s n (holding s p).items))
       where
         go : (o : Option Message)
-            → placed (given o λ m. some (message_scope (holding s p) m)) ≡ on_leaf Nowhere (body_of o) λ a e. To (inner p a e)
+            → placed (given o λ m. Some (message_scope (holding s p) m)) ≡ on_leaf Nowhere (body_of o) λ a e. To (inner p a e)
         go option.none = refl
-        go (some m) = refl
+        go (Some m) = refl
 
     pub down-none : l ≡ Not → Nowhere ≡ placed (down s n (holding s p))
     down-none g = rw (down_is, g)

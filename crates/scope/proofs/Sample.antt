@@ -1,7 +1,6 @@
 -- The sheet of the controls of scopes and of numbers, and how it is looked into.
 -- Assumes nothing.
-use Rattle.std.specs.Prelude.{false, List, [], ◌∷◌, ◌++◌, ℕ, length}
-use Rattle.basis.specs.Kit.{Option, none, some}
+use Rattle.std.specs.Prelude.{false, List, [], ◌∷◌, ◌++◌, ℕ, length, Option, None, Some}
 use Rattle.octets.specs.Octets.{same_bytes, big_at}
 use Rattle.basis.specs.First.{given}
 use Rattle.field.specs.Field.{field_at}
@@ -61,5 +60,5 @@ in_n k = in_m λ c. given (down sheet (78 ∷ []) c) k
 
 -- of a declaration where its name stands, and its number
 abbrev pub declares : Option Declaration → List ℕ
-declares none = []
-declares (some d) = d.name.from ∷ d.shape.number ∷ []
+declares None = []
+declares (Some d) = d.name.from ∷ d.shape.number ∷ []

@@ -12,8 +12,7 @@
 --          value_named s n vs ==  the first value of that name
 --
 -- Assumes nothing.
-use Rattle.std.specs.Prelude.{Bool, true, false, List, ℕ, ◌-◌}
-use Rattle.basis.specs.Kit.{Option, some}
+use Rattle.std.specs.Prelude.{Bool, true, false, List, ℕ, ◌-◌, Option, Some}
 use Rattle.limits.specs.Figures.{most_messages}
 use Rattle.field.specs.Leaf.{is_text}
 use Rattle.field.specs.Walk.{walk}
@@ -41,7 +40,7 @@ message_scope c m = record {
 }
 
 abbrev pub down : (s name : List ℕ) → Scope → Option Scope
-down s n c = given (first (λ m. is_text s n m.name) (messages_of c.items)) λ m. some (message_scope c m)
+down s n c = given (first (λ m. is_text s n m.name) (messages_of c.items)) λ m. Some (message_scope c m)
 
 abbrev pub declaration_named : (tag : ℕ) (s name : List ℕ) → Scope → Option Declaration
 declaration_named k s n c = first (λ d. is_text s n d.name) (declarations_of k c.items)

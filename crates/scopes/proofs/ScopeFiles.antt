@@ -1,7 +1,7 @@
 -- The scopes that files give, of one package: which file gives which, and that the files stand in their order.
 -- Assumes nothing.
-use Rattle.std.specs.Prelude.{◌≡◌, refl, Bool, true, false, List, [], ◌∷◌, ℕ, zero, suc, ◌+◌, ◌<◌}
-use Rattle.basis.specs.Kit.{sym, ap, ◌∙◌, Option, none, some}
+use Rattle.std.specs.Prelude.{◌≡◌, refl, Bool, true, false, List, [], ◌∷◌, ℕ, zero, suc, ◌+◌, ◌<◌, Option, None, Some}
+use Rattle.basis.specs.Kit.{sym, ap, ◌∙◌}
 use Rattle.basis.proofs.Kit.{arith}
 use lib.ListN.{get_elem?}
 use Rattle.basis.proofs.Never.{never}
@@ -27,19 +27,19 @@ pub components-same : (t : List ℕ) (p : Path) → components t ≡ p → same_
 components-same t p e = rw (← e, spell-components t) (same_refl t)
 
 -- ---- the scope that a file gives
-pub only-some : {A : Type 0} (b : Bool) (o : Option A) (x : A) → only_if b o none ≡ some x → (b ≡ true) × (o ≡ some x)
+pub only-some : {A : Type 0} (b : Bool) (o : Option A) (x : A) → only_if b o None ≡ Some x → (b ≡ true) × (o ≡ Some x)
 only-some true o x e = (refl, e)
 only-some false o x e = never cc
 
 module _ (s : List ℕ) where
   -- a message is in the file of the scope that it stands in
-  pub down-file : (n : Name) (c d : Scope) → down s n c ≡ some d → d.place.file ≡ c.place.file
+  pub down-file : (n : Name) (c d : Scope) → down s n c ≡ Some d → d.place.file ≡ c.place.file
   down-file n c d e =
-      let r = given-some (first (λ m. is_text s n m.name) (messages_of c.items)) (λ m. some (message_scope c m)) d e in
+      let r = given-some (first (λ m. is_text s n m.name) (messages_of c.items)) (λ m. Some (message_scope c m)) d e in
       let q : message_scope c r.0 ≡ d = cc in
       ap (λ (x : Scope). x.place.file) (sym q)
 
-  follow-file : (ns : Path) (c d : Scope) → follow s ns c ≡ some d → d.place.file ≡ c.place.file
+  follow-file : (ns : Path) (c d : Scope) → follow s ns c ≡ Some d → d.place.file ≡ c.place.file
   follow-file [] c d e = let q : c ≡ d = cc in ap (λ (x : Scope). x.place.file) (sym q)
   follow-file (n ∷ ns) c d e =
       let r = given-some (down s n c) (follow s ns) d e in
@@ -52,14 +52,14 @@ module _ (s : List ℕ) where
       pub at : ℕ
       pub counted : i + k ≡ at
       pub file : File
-      pub is : get_elem? fs k ≡ some file
-      pub gives : scope_in s t ns at file ≡ some c
+      pub is : get_elem? fs k ≡ Some file
+      pub gives : scope_in s t ns at file ≡ Some c
 
     pub comes : (i : ℕ) (fs : List File) (c : Scope) → Among c (scopes_in s t ns i fs) → Comes i fs c
     comes i [] c m = among-nil m
     comes i (f ∷ fs) c m = among-onto-cases (scope_in s t ns i f) now (λ j. later (comes (i + 1) fs c j)) m
       where
-        now : scope_in s t ns i f ≡ some c → Comes i (f ∷ fs) c
+        now : scope_in s t ns i f ≡ Some c → Comes i (f ∷ fs) c
         now e = record { k = 0; at = i; counted = omega arith; file = f; is = refl; gives = e }
 
         later : Comes (i + 1) fs c → Comes i (f ∷ fs) c
@@ -68,7 +68,7 @@ module _ (s : List ℕ) where
     pub goes : (i : ℕ) (fs : List File) (c : Scope) → Comes i fs c → Among c (scopes_in s t ns i fs)
     goes i fs c r = go i fs r.k r.counted r.is
       where
-        go : (i : ℕ) (fs : List File) (k : ℕ) → i + k ≡ r.at → get_elem? fs k ≡ some r.file → Among c (scopes_in s t ns i fs)
+        go : (i : ℕ) (fs : List File) (k : ℕ) → i + k ≡ r.at → get_elem? fs k ≡ Some r.file → Among c (scopes_in s t ns i fs)
         go i [] k n e = never cc
         go i (f ∷ fs) zero n e =
             let q : f ≡ r.file = cc in
@@ -76,8 +76,8 @@ module _ (s : List ℕ) where
             among-onto-first (scope_in s t ns i f) (scopes_in s t ns (i + 1) fs) (rw (q, p) r.gives)
         go i (f ∷ fs) (suc k) n e = among-onto (scope_in s t ns i f) (go (i + 1) fs k (omega arith) e)
 
-    module _ (i : ℕ) (f : File) (c : Scope) (e : scope_in s t ns i f ≡ some c) where
-      pub follows : (is_text s t f.package_name ≡ true) × (follow s ns (file_scope i f) ≡ some c)
+    module _ (i : ℕ) (f : File) (c : Scope) (e : scope_in s t ns i f ≡ Some c) where
+      pub follows : (is_text s t f.package_name ≡ true) × (follow s ns (file_scope i f) ≡ Some c)
       follows = only-some (is_text s t f.package_name) (follow s ns (file_scope i f)) c e
 
       pub index : c.place.file ≡ i
@@ -88,7 +88,7 @@ module _ (s : List ℕ) where
     files-rise i [] = Ordered.none
     files-rise i (f ∷ fs) = ordered-onto (scope_in s t ns i f) rises (files-rise (i + 1) fs)
       where
-        rises : (c d : Scope) → scope_in s t ns i f ≡ some c → Among d (scopes_in s t ns (i + 1) fs) → c.place.file < d.place.file
+        rises : (c d : Scope) → scope_in s t ns i f ≡ Some c → Among d (scopes_in s t ns (i + 1) fs) → c.place.file < d.place.file
         rises c d e m =
             let r = comes (i + 1) fs d m in
             omega (arith, index i f c e, index r.at r.file d r.gives)

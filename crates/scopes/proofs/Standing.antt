@@ -4,8 +4,8 @@
 --   Standing s c <-> the scope c is what stands at its place, its place is one of s, and its file is counted no further than s is long
 --
 -- Assumes nothing.
-use Rattle.std.specs.Prelude.{◌≡◌, List, [], ◌∷◌, ◌++◌, ℕ, ◌+◌, ◌≤◌, length}
-use Rattle.basis.specs.Kit.{ap, some}
+use Rattle.std.specs.Prelude.{◌≡◌, List, [], ◌∷◌, ◌++◌, ℕ, ◌+◌, ◌≤◌, length, Some}
+use Rattle.basis.specs.Kit.{ap}
 use Rattle.basis.proofs.Kit.{arith}
 use Rattle.path.specs.Path.{Path, spell}
 use Rattle.sheet.specs.Tree.{Items, File, tree_of}
@@ -31,7 +31,7 @@ module _ (s : List ℕ) where
       }
 
   scope-in-stands : (p : List ℕ) (ns : Path) (i : ℕ) (f : File) → FileLies s f → i ≤ length s
-      → (c : Scope) → scope_in s p ns i f ≡ some c → Standing s c
+      → (c : Scope) → scope_in s p ns i f ≡ Some c → Standing s c
   scope-in-stands p ns i f k h c q =
       let r = followed-placed s ns (file_scope i f) (file-placed i f k) c (follows s p ns i f c q).1 in
       record { held = r.held; lies = r.lies; counted = rw (index s p ns i f c q) h }

@@ -7,8 +7,7 @@
 --              scopes s p == the scopes at the path p, in order
 --
 -- Assumes nothing.
-use Rattle.std.specs.Prelude.{List, [], ◌∷◌, ◌++◌, ℕ, ◌+◌}
-use Rattle.basis.specs.Kit.{Option, none, some}
+use Rattle.std.specs.Prelude.{List, [], ◌∷◌, ◌++◌, ℕ, ◌+◌, Option, None, Some}
 use Rattle.field.specs.Leaf.{is_text}
 use Rattle.path.specs.Path.{Path, spell}
 use Rattle.sheet.specs.Tree.{File, tree_of}
@@ -17,12 +16,12 @@ use Rattle.scope.specs.Scope.{Scope, file_scope, down}
 
 -- "follows the rest as message names, the first of that name at each level; if all are found, it gives one scope" [SEARCH-1, SEARCH-2]
 abbrev pub follow : (s : List ℕ) (names : Path) → Scope → Option Scope
-follow s [] c = some c
+follow s [] c = Some c
 follow s (n ∷ ns) c = given (down s n c) (follow s ns)
 
 -- paths are compared as they are written: two paths of identifiers are the same where their texts are
 abbrev pub scope_in : (s front : List ℕ) (names : Path) (index : ℕ) → File → Option Scope
-scope_in s p ns i f = only_if (is_text s p f.package_name) (follow s ns (file_scope i f)) none
+scope_in s p ns i f = only_if (is_text s p f.package_name) (follow s ns (file_scope i f)) None
 
 abbrev pub scopes_in : (s front : List ℕ) (names : Path) (index : ℕ) → List File → List Scope
 scopes_in s p ns i [] = []

@@ -1,7 +1,7 @@
 -- What is found against what is declared: in a scope, at a path, and by a whole search.
 -- Assumes nothing.
-use Rattle.std.specs.Prelude.{◌≡◌, refl, Bool, true, false, List, [], ◌∷◌, ℕ, zero, suc, ◌+◌, ◌<◌, ltb, length, get_or}
-use Rattle.basis.specs.Kit.{sym, ap, ◌∙◌, Option, none, some}
+use Rattle.std.specs.Prelude.{◌≡◌, refl, Bool, true, false, List, [], ◌∷◌, ℕ, zero, suc, ◌+◌, ◌<◌, ltb, length, get_or, Option, None, Some}
+use Rattle.basis.specs.Kit.{sym, ap, ◌∙◌}
 use Rattle.basis.proofs.Kit.{arith}
 use borrow.Author.Tests.{ltb-true, ltb-false}
 use Rattle.basis.proofs.Never.{never}
@@ -27,9 +27,9 @@ use Rattle.search.proofs.CandidateOrder.{candidates-fall, candidates-some}
 use Rattle.search.proofs.TriedLaws.{tried-some, unplaced, among-unplaced, by-path-some, some-by-path}
 
 -- ---- in a scope
-given-none : {A B : Type 0} (o : Option A) (g : A → B) → given o (λ a. some (g a)) ≡ none → o ≡ none
-given-none none g e = refl
-given-none (some a) g e = never cc
+given-none : {A B : Type 0} (o : Option A) (g : A → B) → given o (λ a. Some (g a)) ≡ None → o ≡ None
+given-none None g e = refl
+given-none (Some a) g e = never cc
 
 module _ (s : List ℕ) (p : Path) (c : Scope) where
   abbrev named : Declaration → Bool
@@ -38,30 +38,30 @@ module _ (s : List ℕ) (p : Path) (c : Scope) where
   abbrev extensions : List Declaration
   extensions = extensions_of c.items
 
-  pub found_none : found_in s (last p) c ≡ none → (d : Declaration) → Declares s p d c → ⊥
+  pub found_none : found_in s (last p) c ≡ None → (d : Declaration) → Declares s p d c → ⊥
   found_none e d h = first-none named (given-none (first named extensions) _ e) h.extension h.name
 
-  pub none_found : Among c (scopes s (parent p)) → ((d : Declaration) → Declares s p d c → ⊥) → found_in s (last p) c ≡ none
+  pub none_found : Among c (scopes s (parent p)) → ((d : Declaration) → Declares s p d c → ⊥) → found_in s (last p) c ≡ None
   none_found m h = rw (none_first named extensions λ d k q. h d (record { scope = m; extension = k; name = q }))
 
   module _ (f : Found) where
     abbrev at : Declaration → Found
     at d = record { file = c.place.file; declaration = d }
 
-    found : found_in s (last p) c ≡ some f → (d : Declaration) × (first named extensions ≡ some d) × (some (at d) ≡ some f)
-    found e = given-some (first named extensions) (λ d. some (at d)) f e
+    found : found_in s (last p) c ≡ Some f → (d : Declaration) × (first named extensions ≡ Some d) × (Some (at d) ≡ Some f)
+    found e = given-some (first named extensions) (λ d. Some (at d)) f e
 
-    pub found-file : found_in s (last p) c ≡ some f → f.file ≡ c.place.file
+    pub found-file : found_in s (last p) c ≡ Some f → f.file ≡ c.place.file
     found-file e = let r = found e in let q : at r.0 ≡ f = cc in ap (λ (g : Found). g.file) (sym q)
 
-    pub found-passes : found_in s (last p) c ≡ some f → Passes named f.declaration extensions
+    pub found-passes : found_in s (last p) c ≡ Some f → Passes named f.declaration extensions
     found-passes e =
         let r = found e in
         let q : at r.0 ≡ f = cc in
-        first-some named extensions (r.1 ∙ ap (λ (g : Found). some g.declaration) q)
+        first-some named extensions (r.1 ∙ ap (λ (g : Found). Some g.declaration) q)
 
     pub declares-found : f.file ≡ c.place.file → Declares s p f.declaration c
-        → Behind (λ d. Declares s p d c → ⊥) f.declaration extensions → found_in s (last p) c ≡ some f
+        → Behind (λ d. Declares s p d c → ⊥) f.declaration extensions → found_in s (last p) c ≡ Some f
     declares-found e k b =
         let others : Behind (λ d. named d ≡ true → ⊥) f.declaration extensions =
         behind-map (λ d m h q. h (record { scope = k.scope; extension = m; name = q })) b in
@@ -74,21 +74,21 @@ module _ (s : List ℕ) where
   find-scopes [] h = absurd (omega arith)
   find-scopes (n ∷ p) h = refl
 
-  pub find_none : (p : Path) → 0 < length p → found_at s p ≡ none → Undeclared s p
+  pub find_none : (p : Path) → 0 < length p → found_at s p ≡ None → Undeclared s p
   find_none p h e d c k = found_none s p c (firsts-none (found_in s (last p)) (sym (find-scopes p h) ∙ e) k.scope) d k
 
-  pub none-find : (p : Path) → Undeclared s p → found_at s p ≡ none
+  pub none-find : (p : Path) → Undeclared s p → found_at s p ≡ None
   unfolding found_at
   none-find [] h = refl
   none-find (n ∷ p) h = none-firsts (found_in s (last (n ∷ p))) (scopes s (parent (n ∷ p))) λ c m. none_found s (n ∷ p) c m λ d. h d c
 
-  pub find-some : (p : Path) (f : Found) → found_at s p ≡ some f → Makes (found_in s (last p)) f (scopes s (parent p))
+  pub find-some : (p : Path) (f : Found) → found_at s p ≡ Some f → Makes (found_in s (last p)) f (scopes s (parent p))
   unfolding found_at
   find-some [] f e = never cc
   find-some (n ∷ p) f e = firsts-some (found_in s (last (n ∷ p))) (scopes s (parent (n ∷ p))) e
 
-  pub some-find : (p : Path) (c : Scope) (f : Found) → 0 < length p → found_in s (last p) c ≡ some f
-      → Behind (λ c. (d : Declaration) → Declares s p d c → ⊥) c (scopes s (parent p)) → found_at s p ≡ some f
+  pub some-find : (p : Path) (c : Scope) (f : Found) → 0 < length p → found_in s (last p) c ≡ Some f
+      → Behind (λ c. (d : Declaration) → Declares s p d c → ⊥) c (scopes s (parent p)) → found_at s p ≡ Some f
   some-find p c f h e b = find-scopes p h ∙ some-firsts (found_in s (last p)) (behind-map (none_found s p) b) e
 
 -- ---- a whole search
@@ -114,14 +114,14 @@ module _ (s scope name : List ℕ) (f : Found) where
   pub found-answers : find_extension_by_path s scope name ≡ Field f → Answers s scope name f
   found-answers e = (makes-answers (firsts-some (found_at s) (candidates scope name) (by-path-some s scope name f e))).0
 
-  answers-some : is_path name ≡ true → Answers s scope name f → first_some (found_at s) (candidates scope name) ≡ some f
+  answers-some : is_path name ≡ true → Answers s scope name f → first_some (found_at s) (candidates scope name) ≡ Some f
   answers-some h a =
       let p = a.path in
       let c = a.holder in
-      let some : 0 < length p = candidates-some scope name h p (behind-among a.first-candidate) in
+      let Some : 0 < length p = candidates-some scope name h p (behind-among a.first-candidate) in
       some-firsts (found_at s)
       (behind-map (λ q m. none-find s q) a.first-candidate)
-      (some-find s p c f some (declares-found s p c f a.file a.declares a.first-declared) a.first-scope)
+      (some-find s p c f Some (declares-found s p c f a.file a.declares a.first-declared) a.first-scope)
 
   pub answers-found : is_path name ≡ true → Answers s scope name f → find_extension_by_path s scope name ≡ Field f
   answers-found h a = some-by-path s scope name f (answers-some h a)
@@ -129,34 +129,34 @@ module _ (s scope name : List ℕ) (f : Found) where
 -- ---- the position of the candidate that answers: the first of the paths at which something is found
 record Reaches (s : List ℕ) (ps : List Path) (i : ℕ) (f : Found) : Type 0 where
   within : i < length ps
-  makes : found_at s (get_or ps i []) ≡ some f
-  behind : Behind (λ p. found_at s p ≡ none) (get_or ps i []) ps
-  before : (j : ℕ) → j < i → found_at s (get_or ps j []) ≡ none
+  makes : found_at s (get_or ps i []) ≡ Some f
+  behind : Behind (λ p. found_at s p ≡ None) (get_or ps i []) ps
+  before : (j : ℕ) → j < i → found_at s (get_or ps j []) ≡ None
 
 module _ (s : List ℕ) (p : Path) (ps : List Path) (f : Found) where
-  reaches_here : found_at s p ≡ some f → Reaches s (p ∷ ps) 0 f
+  reaches_here : found_at s p ≡ Some f → Reaches s (p ∷ ps) 0 f
   reaches_here h = record { within = omega arith; makes = h; behind = behind-here p ps; before = λ j k. absurd (omega arith) }
 
-  reaches-next : found_at s p ≡ none → (i : ℕ) → Reaches s ps i f → Reaches s (p ∷ ps) (suc i) f
+  reaches-next : found_at s p ≡ None → (i : ℕ) → Reaches s ps i f → Reaches s (p ∷ ps) (suc i) f
   reaches-next h i r = record { within = omega (arith, r.within); makes = r.makes; behind = behind-next h r.behind; before = before }
     where
-      before : (j : ℕ) → j < suc i → found_at s (get_or (p ∷ ps) j []) ≡ none
+      before : (j : ℕ) → j < suc i → found_at s (get_or (p ∷ ps) j []) ≡ None
       before zero k = h
       before (suc j) k = r.before j (omega arith)
 
-among-reaches : (s : List ℕ) (at : ℕ) (ps : List Path) (c : Candidate) → found_among s at ps ≡ some c
+among-reaches : (s : List ℕ) (at : ℕ) (ps : List Path) (c : Candidate) → found_among s at ps ≡ Some c
     → (i : ℕ) × (c.position ≡ at + i) × Reaches s ps i c.found
 among-reaches s at [] c e = never cc
 among-reaches s at (p ∷ ps) c e = go (found_at s p) refl e (among-reaches s (at + 1) ps c)
   where
     go : (o : Option Found) → found_at s p ≡ o
-        → or_else (given o λ f. some (record { position = at; found = f })) (found_among s (at + 1) ps) ≡ some c
-        → (found_among s (at + 1) ps ≡ some c → (i : ℕ) × (c.position ≡ at + 1 + i) × Reaches s ps i c.found)
+        → or_else (given o λ f. Some (record { position = at; found = f })) (found_among s (at + 1) ps) ≡ Some c
+        → (found_among s (at + 1) ps ≡ Some c → (i : ℕ) × (c.position ≡ at + 1 + i) × Reaches s ps i c.found)
         → (i : ℕ) × (c.position ≡ at + i) × Reaches s (p ∷ ps) i c.found
-    go (some f) h q ih =
+    go (Some f) h q ih =
         let u : c ≡ record { position = at; found = f } = cc in
         rw u (zero, omega arith, reaches_here s p ps f h)
-    go none h q ih =
+    go None h q ih =
         let r = ih q in
         (suc r.0, omega (arith, r.1), reaches-next s p ps c.found h r.0 r.2)
 
@@ -173,7 +173,7 @@ ordered_at d (next {x} {xs} b o) zero (suc j) h k = b (get_or xs j d) (among-at 
 ordered_at d (next {x} {xs} b o) (suc i) (suc j) h k = ordered_at d o i j (omega arith) (omega arith)
 
 module _ (s scope name : List ℕ) where
-  reaches : (c : Candidate) → found_among s 0 (candidates scope name) ≡ some c → Reaches s (candidates scope name) c.position c.found
+  reaches : (c : Candidate) → found_among s 0 (candidates scope name) ≡ Some c → Reaches s (candidates scope name) c.position c.found
   reaches c e =
       let r = among-reaches s 0 (candidates scope name) c e in
       let same : c.position ≡ r.0 = omega (arith, r.1) in
@@ -195,14 +195,14 @@ module _ (s scope name : List ℕ) where
       }
 
   module _ (h : is_path name ≡ true) (c : Candidate) (a : AnswersAt s scope name c) where
-    at_some : found_at s (candidate scope name c.position) ≡ none → ⊥
+    at_some : found_at s (candidate scope name c.position) ≡ None → ⊥
     at_some e =
         let p = a.answers.path in
-        let some : 0 < length p = candidates-some scope name h p (behind-among a.answers.first-candidate) in
-        find_none s p some (ap (found_at s) a.path ∙ e) c.found.declaration a.answers.holder a.answers.declares
+        let Some : 0 < length p = candidates-some scope name h p (behind-among a.answers.first-candidate) in
+        find_none s p Some (ap (found_at s) a.path ∙ e) c.found.declaration a.answers.holder a.answers.declares
 
     -- there is one such position only
-    position-same : (d : Candidate) → found_among s 0 (candidates scope name) ≡ some d → d.position ≡ c.position
+    position-same : (d : Candidate) → found_among s 0 (candidates scope name) ≡ Some d → d.position ≡ c.position
     unfolding candidate
     position-same d e = go (ltb d.position c.position) refl (ltb c.position d.position) refl
       where
@@ -222,9 +222,9 @@ module _ (s scope name : List ℕ) where
     answers-tried = go (found_among s 0 (candidates scope name)) refl
         (among-unplaced s 0 (candidates scope name) ∙ answers-some s scope name c.found h a.answers)
       where
-        go : (o : Option Candidate) → found_among s 0 (candidates scope name) ≡ o → unplaced o ≡ some c.found
+        go : (o : Option Candidate) → found_among s 0 (candidates scope name) ≡ o → unplaced o ≡ Some c.found
             → or_not_found attempt.Answers attempt.Refused o ≡ attempt.Answers c
-        go none e q = never cc
-        go (some d) e q =
+        go None e q = never cc
+        go (Some d) e q =
             let u : d.found ≡ c.found = cc in
             rw (position-same d e, u)

@@ -5,8 +5,8 @@
 --   FoundLies s f <-> the places of the extension that was found are of s, and its file is counted no further than s is long
 --
 -- Assumes nothing.
-use Rattle.std.specs.Prelude.{◌≡◌, refl, List, [], ◌∷◌, ℕ, ◌≤◌, length}
-use Rattle.basis.specs.Kit.{sym, ap, ◌∙◌, some}
+use Rattle.std.specs.Prelude.{◌≡◌, refl, List, [], ◌∷◌, ℕ, ◌≤◌, length, Some}
+use Rattle.basis.specs.Kit.{sym, ap, ◌∙◌}
 use Rattle.basis.proofs.Never.{never}
 use Rattle.path.specs.Path.{Name, Path, parent, last}
 use Rattle.candidates.specs.Candidates.{candidates}
@@ -32,15 +32,15 @@ pub record FoundLies (s : List ℕ) (f : Found) : Type 0 where
   pub counted : f.file ≤ length s
 
 module _ (s : List ℕ) (f : Found) where
-  found-in-lies : (n : Name) (c : Scope) → Standing s c → found_in s n c ≡ some f → FoundLies s f
+  found-in-lies : (n : Name) (c : Scope) → Standing s c → found_in s n c ≡ Some f → FoundLies s f
   found-in-lies n c k =
-      given_holds (declaration_named extension_tag s n c) (λ d. some (record { file = c.place.file; declaration = d })) f (FoundLies s f)
+      given_holds (declaration_named extension_tag s n c) (λ d. Some (record { file = c.place.file; declaration = d })) f (FoundLies s f)
       λ d p q.
       let u : f ≡ record { file = c.place.file; declaration = d } = cc in
       let p' = ap (declaration_named extension_tag s n) (sym k.held) ∙ p in
       rw u record { places = declaration-lies s c.place k.lies extension_tag _ d p'; counted = k.counted }
 
-  pub found-abs-lies : (p : Path) → found_at s p ≡ some f → FoundLies s f
+  pub found-abs-lies : (p : Path) → found_at s p ≡ Some f → FoundLies s f
   unfolding found_at
   found-abs-lies [] q = never cc
   found-abs-lies (n ∷ ns) q =
@@ -49,8 +49,8 @@ module _ (s : List ℕ) (f : Found) where
 
   pub found-lies : (scope name : List ℕ) → find_extension_by_path s scope name ≡ Field f → FoundLies s f
   found-lies scope name q =
-      first-some-holds (λ p. found_at s p ≡ some f → FoundLies s f) (found_at s) f (FoundLies s f)
-      (λ p k q. k q) (every-all (λ p. found_at s p ≡ some f → FoundLies s f) found-abs-lies (candidates scope name))
+      first-some-holds (λ p. found_at s p ≡ Some f → FoundLies s f) (found_at s) f (FoundLies s f)
+      (λ p k q. k q) (every-all (λ p. found_at s p ≡ Some f → FoundLies s f) found-abs-lies (candidates scope name))
       (by-path-some s scope name f q)
 
 -- what `try_candidates` answers

@@ -1,7 +1,7 @@
 -- What a look-up of an extension answers against what there is: back from the answer, and the search with its positions left out.
 -- Assumes nothing.
-use Rattle.std.specs.Prelude.{◌≡◌, refl, Bool, true, false, List, [], ◌∷◌, ℕ, ◌+◌}
-use Rattle.basis.specs.Kit.{ap, ◌∙◌, Option, none, some}
+use Rattle.std.specs.Prelude.{◌≡◌, refl, Bool, true, false, List, [], ◌∷◌, ℕ, ◌+◌, Option, None, Some}
+use Rattle.basis.specs.Kit.{ap, ◌∙◌}
 use Rattle.basis.proofs.Never.{never}
 use Rattle.basis.specs.First.{given, or_else, first_some}
 use Rattle.reply.specs.declared.Refusal.{Refusal}
@@ -21,30 +21,30 @@ use Rattle.search.specs.Lookup.{found_at, found_among, or_not_found, tried, reso
 
 -- ---- back from an answer
 module _ (o : Option Found) (r : Resolved) (q : r ≡ or_not_found Field Refused o) where
-  pub resolved-none : (w : Refusal) → r ≡ Refused w → o ≡ none
+  pub resolved-none : (w : Refusal) → r ≡ Refused w → o ≡ None
   resolved-none w g = go o q
     where
-      go : (o : Option Found) → r ≡ or_not_found Field Refused o → o ≡ none
-      go none q = refl
-      go (some f) q = never cc
+      go : (o : Option Found) → r ≡ or_not_found Field Refused o → o ≡ None
+      go None q = refl
+      go (Some f) q = never cc
 
   pub resolved-why : (w : Refusal) → r ≡ Refused w → w ≡ ExtensionNotFound
   resolved-why w g = go o q
     where
       go : (o : Option Found) → r ≡ or_not_found Field Refused o → w ≡ ExtensionNotFound
-      go none q = cc
-      go (some f) q = never cc
+      go None q = cc
+      go (Some f) q = never cc
 
-  pub resolved-some : (f : Found) → r ≡ Field f → o ≡ some f
+  pub resolved-some : (f : Found) → r ≡ Field f → o ≡ Some f
   resolved-some f g = go o q
     where
-      go : (o : Option Found) → r ≡ or_not_found Field Refused o → o ≡ some f
-      go none q = never cc
-      go (some x) q = let u : x ≡ f = cc in rw u
+      go : (o : Option Found) → r ≡ or_not_found Field Refused o → o ≡ Some f
+      go None q = never cc
+      go (Some x) q = let u : x ≡ f = cc in rw u
 
-pub tried-some : (o : Option Candidate) (c : Candidate) → or_not_found attempt.Answers attempt.Refused o ≡ attempt.Answers c → o ≡ some c
-tried-some none c q = never cc
-tried-some (some x) c q = let u : x ≡ c = cc in rw u
+pub tried-some : (o : Option Candidate) (c : Candidate) → or_not_found attempt.Answers attempt.Refused o ≡ attempt.Answers c → o ≡ Some c
+tried-some None c q = never cc
+tried-some (Some x) c q = let u : x ≡ c = cc in rw u
 
 pub resolved-tried : (t : Tried) (w : Refusal) → resolved t ≡ Refused w → t ≡ attempt.Refused w
 resolved-tried (attempt.Answers c) w q = never cc
@@ -86,20 +86,20 @@ extended-other c false q = refl
 
 -- ---- without positions
 abbrev pub unplaced : Option Candidate → Option Found
-unplaced o = given o λ c. some c.found
+unplaced o = given o λ c. Some c.found
 
 pub among-unplaced : (s : List ℕ) (at : ℕ) (ps : List Path) → unplaced (found_among s at ps) ≡ first_some (found_at s) ps
 among-unplaced s at [] = refl
 among-unplaced s at (p ∷ ps) = go (found_at s p) (found_among s (at + 1) ps) (among-unplaced s (at + 1) ps)
   where
     go : (o : Option Found) (x : Option Candidate) → unplaced x ≡ first_some (found_at s) ps
-        → unplaced (or_else (given o λ f. some (record { position = at; found = f })) x) ≡ or_else o (first_some (found_at s) ps)
-    go none x h = h
-    go (some f) x h = refl
+        → unplaced (or_else (given o λ f. Some (record { position = at; found = f })) x) ≡ or_else o (first_some (found_at s) ps)
+    go None x h = h
+    go (Some f) x h = refl
 
 tried-unplaced : (o : Option Candidate) → resolved (or_not_found attempt.Answers attempt.Refused o) ≡ or_not_found Field Refused (unplaced o)
-tried-unplaced none = refl
-tried-unplaced (some c) = refl
+tried-unplaced None = refl
+tried-unplaced (Some c) = refl
 
 pub by-path : (s scope name : List ℕ)
     → find_extension_by_path s scope name ≡ or_not_found Field Refused (first_some (found_at s) (candidates scope name))
@@ -108,17 +108,17 @@ by-path s scope name =
     tried-unplaced (found_among s 0 (candidates scope name)) ∙ ap (or_not_found Field Refused) (among-unplaced s 0 (candidates scope name))
 
 module _ (s scope name : List ℕ) where
-  pub by-path-some : (f : Found) → find_extension_by_path s scope name ≡ Field f → first_some (found_at s) (candidates scope name) ≡ some f
+  pub by-path-some : (f : Found) → find_extension_by_path s scope name ≡ Field f → first_some (found_at s) (candidates scope name) ≡ Some f
   by-path-some f = resolved-some (first_some (found_at s) (candidates scope name)) (find_extension_by_path s scope name) (by-path s scope name) f
 
-  pub some-by-path : (f : Found) → first_some (found_at s) (candidates scope name) ≡ some f → find_extension_by_path s scope name ≡ Field f
+  pub some-by-path : (f : Found) → first_some (found_at s) (candidates scope name) ≡ Some f → find_extension_by_path s scope name ≡ Field f
   some-by-path f h = by-path s scope name ∙ rw h
 
-  pub by-path-none : (w : Refusal) → find_extension_by_path s scope name ≡ Refused w → first_some (found_at s) (candidates scope name) ≡ none
+  pub by-path-none : (w : Refusal) → find_extension_by_path s scope name ≡ Refused w → first_some (found_at s) (candidates scope name) ≡ None
   by-path-none w = resolved-none (first_some (found_at s) (candidates scope name)) (find_extension_by_path s scope name) (by-path s scope name) w
 
   pub by-path-why : (w : Refusal) → find_extension_by_path s scope name ≡ Refused w → w ≡ ExtensionNotFound
   by-path-why w = resolved-why (first_some (found_at s) (candidates scope name)) (find_extension_by_path s scope name) (by-path s scope name) w
 
-  pub none-by-path : first_some (found_at s) (candidates scope name) ≡ none → find_extension_by_path s scope name ≡ Refused ExtensionNotFound
+  pub none-by-path : first_some (found_at s) (candidates scope name) ≡ None → find_extension_by_path s scope name ≡ Refused ExtensionNotFound
   none-by-path h = by-path s scope name ∙ rw h

@@ -12,8 +12,7 @@
 --              Earlier s c d <-> the package of c has fewer components than that of d; or as many, and its file stands before that of d
 --
 -- Assumes nothing.
-use Rattle.std.specs.Prelude.{◌≡◌, true, List, [], ◌++◌, map, ℕ, ◌<◌, length, get_or}
-use Rattle.basis.specs.Kit.{some}
+use Rattle.std.specs.Prelude.{◌≡◌, true, List, [], ◌++◌, map, ℕ, ◌<◌, length, get_or, Some}
 use Rattle.std.proofs.Math.ListN.{get_elem?}
 use Rattle.field.specs.Leaf.{text, is_text}
 use Rattle.path.specs.Path.{Path, components, parent, last}
@@ -54,10 +53,10 @@ pub record AnswersAt (s scope name : List ℕ) (c : Candidate) : Type 0 where
 -- ---- the files that the scopes at a path are of
 pub record Gives (s : List ℕ) (p : Path) (i : ℕ) (c : Scope) : Type 0 where
   pub file : File
-  pub is : get_elem? (tree_of s) i ≡ some file
+  pub is : get_elem? (tree_of s) i ≡ Some file
   pub rest : Path
   pub leads : components (text s file.package_name) ++ rest ≡ p
-  pub follows : follow s rest (file_scope i file) ≡ some c
+  pub follows : follow s rest (file_scope i file) ≡ Some c
 
 abbrev pub package_of : (s : List ℕ) (c : Scope) → Path
 package_of s c = get_or (map (λ f. components (text s f.package_name)) (tree_of s)) c.place.file []

@@ -13,8 +13,7 @@
 --     ext_resolve_field s scope m name == the candidate that answers for a name in a scope, compared with the message m
 --
 -- Assumes nothing.
-use Rattle.std.specs.Prelude.{Bool, true, false, List, [], ◌∷◌, ℕ, ◌+◌}
-use Rattle.basis.specs.Kit.{Option, none, some}
+use Rattle.std.specs.Prelude.{Bool, true, false, List, [], ◌∷◌, ℕ, ◌+◌, Option, None, Some}
 use Rattle.reply.specs.declared.Refusal.{Refusal}
 use Rattle.reply.specs.declared.Refusal.TheVariants.{ExtensionNotFound}
 use Rattle.path.specs.Path.{Name, Path, parent, last}
@@ -34,16 +33,16 @@ use Rattle.search.specs.declared.extension.Resolved.TheVariants.{Field, Refused}
 use Rattle.scopes.specs.Scopes.{scopes}
 
 abbrev pub found_in : (s : List ℕ) (n : Name) (c : Scope) → Option Found
-found_in s n c = given (declaration_named extension_tag s n c) λ d. some (record { file = c.place.file; declaration = d })
+found_in s n c = given (declaration_named extension_tag s n c) λ d. Some (record { file = c.place.file; declaration = d })
 
 -- "The answer is the first candidate, then first scope, then first declared extension with the last component as its name." [SEARCH-4]
 unfoldable pub found_at : (s : List ℕ) (p : Path) → Option Found
-found_at s [] = none
+found_at s [] = None
 found_at s (n ∷ ns) = first_some (found_in s (last (n ∷ ns))) (scopes s (parent (n ∷ ns)))
 
 abbrev pub found_among : (s : List ℕ) (at : ℕ) (ps : List Path) → Option Candidate
-found_among s at [] = none
-found_among s at (p ∷ ps) = or_else (given (found_at s p) λ f. some (record { position = at; found = f })) (found_among s (at + 1) ps)
+found_among s at [] = None
+found_among s at (p ∷ ps) = or_else (given (found_at s p) λ f. Some (record { position = at; found = f })) (found_among s (at + 1) ps)
 
 -- 01, Replies: 4, "no candidate has it". Here alone nothing becomes a refusal: whoever looks up an extension hands on what it is told.
 -- [SEARCH-6]

@@ -1,8 +1,8 @@
 -- What a name part comes to: the ways through `step_extension` and `step_of`, over any look-ups, and where the type path of what was found
 -- lies.
 -- Assumes nothing.
-use Rattle.std.specs.Prelude.{◌≡◌, refl, Bool, true, false, List, ℕ, ◌≤◌, length}
-use Rattle.basis.specs.Kit.{sym, ap, ◌∙◌, Option, none, some}
+use Rattle.std.specs.Prelude.{◌≡◌, refl, Bool, true, false, List, ℕ, ◌≤◌, length, Option, None, Some}
+use Rattle.basis.specs.Kit.{sym, ap, ◌∙◌}
 use Rattle.basis.specs.First.{told}
 use mathlib.Core.Path.{subst}
 use Rattle.basis.proofs.Never.{never}
@@ -55,16 +55,16 @@ module _ (L : Lookups) (s r scope n : List ℕ) (c : LookupScope) (p : Part) whe
     step-unknown g = rw (step_of, x) (go (field_named s (text r p.name) c) (sym q ∙ g))
       where
         go : (o : Option Declaration) → declared o ≡ NoDeclaration → NotFound NoField ≡ told (NotFound NoField) Found o
-        go none e = refl
-        go (some d) e = never cc
+        go None e = refl
+        go (Some d) e = never cc
 
     pub step_field : (d : Declaration) → v ≡ Declares d → Found d ≡ step_of L s r scope (message n c) p
     unfolding step_of
     step_field d g = rw (step_of, x) (go (field_named s (text r p.name) c) (sym q ∙ g))
       where
         go : (o : Option Declaration) → declared o ≡ Declares d → Found d ≡ told (NotFound NoField) Found o
-        go none e = never cc
-        go (some d') e = let y : d' ≡ d = cc in rw y refl
+        go None e = never cc
+        go (Some d') e = let y : d' ≡ d = cc in rw y refl
 
 -- ---- what is asked of the name, and where the type path of what was found lies
 pub part-path : (b : Bool) (t : List ℕ) → good_part b t ≡ true → b ≡ true → is_path t ≡ true

@@ -4,8 +4,8 @@
 --       Aims s g <-> the type path of the field, where the target is one, is a place of the sheet
 --
 -- Assumes nothing.
-use Rattle.std.specs.Prelude.{◌≡◌, refl, Bool, true, false, List, ℕ, zero, suc, ◌+◌, ◌-◌, ◌*◌, ◌≤◌, ◌<◌, eqb, length}
-use Rattle.basis.specs.Kit.{sym, ap, ◌∙◌, Option}
+use Rattle.std.specs.Prelude.{◌≡◌, refl, Bool, true, false, List, ℕ, zero, suc, ◌+◌, ◌-◌, ◌*◌, ◌≤◌, ◌<◌, eqb, length, Option}
+use Rattle.basis.specs.Kit.{sym, ap, ◌∙◌}
 use mathlib.Core.Option as option
 use Rattle.basis.proofs.Kit.{arith, eq-eqb, ne_eqb}
 use Rattle.basis.proofs.Never.{never}

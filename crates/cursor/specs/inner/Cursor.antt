@@ -13,8 +13,7 @@
 --          Nexts L s t c r <-> r is the next of L, or that there is none
 --
 -- Assumes nothing.
-use Rattle.std.specs.Prelude.{◌≡◌, Bool, true, false, List, [], ◌∷◌, ◌++◌, ℕ, suc, ◌-◌, ◌≤◌, ◌<◌, eqb, length, get_or, take}
-use Rattle.basis.specs.Kit.{Option, none}
+use Rattle.std.specs.Prelude.{◌≡◌, Bool, true, false, List, [], ◌∷◌, ◌++◌, ℕ, suc, ◌-◌, ◌≤◌, ◌<◌, eqb, length, get_or, take, Option, None}
 use Rattle.limits.specs.Figures.{most_messages}
 use Rattle.field.specs.declared.Leaf.{Leaf}
 use Rattle.field.specs.declared.Leaf.TheVariants.{At as LeafAt, Not}
@@ -54,7 +53,7 @@ unfoldable pub package_at : (s : List ℕ) (tag from to : ℕ) → Leaf
 package_at s tag a e = elim (eqb tag file_tag) [ true ↦ leaf_at package_tag any_bytes s a e | false ↦ Not ]
 
 abbrev pub scope_at : (s t : List ℕ) (next index : ℕ) → Leaf → (end : ℕ) → Option Scope
-scope_at s t next i l e = on_leaf none l λ n m.
+scope_at s t next i l e = on_leaf None l λ n m.
     scope_in s (take (next - 1) t) (names_from t next) i (file_with (span n m) (span m e) (items_in most_messages s (walk s m e)))
 
 pub record Within (l : Leaf) (e : ℕ) : Type 0 where
@@ -74,4 +73,4 @@ pub record Steps (L : Cursor → List Scope) (s t : List ℕ) (c : Cursor) (p : 
 
 pub record Nexts (L : Cursor → List Scope) (s t : List ℕ) (c : Cursor) (r : Next) : Type 0 where
   pub some : (p : LookupScope) (c' : Cursor) → r ≡ At p c' → Steps L s t c p c'
-  pub none : r ≡ NoMore → L c ≡ []
+  pub None : r ≡ NoMore → L c ≡ []

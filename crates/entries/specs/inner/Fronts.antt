@@ -14,8 +14,8 @@
 --          FrontLies s at end r <-> the record lies behind `at` and before `end`, a message's path and place in the sheet
 --
 -- Assumes nothing.
-use Rattle.std.specs.Prelude.{◌≡◌, true, false, List, [], ◌∷◌, ℕ, ◌+◌, ◌≤◌, ◌<◌, eqb}
-use Rattle.basis.specs.Kit.{Option, none, some as is}
+use Rattle.std.specs.Prelude.{◌≡◌, true, false, List, [], ◌∷◌, ℕ, ◌+◌, ◌≤◌, ◌<◌, eqb, Option, None}
+use Rattle.basis.specs.Kit.{some as is}
 use Rattle.reply.specs.declared.Refusal.{Refusal}
 use Rattle.field.specs.declared.Span.{Span}
 use Rattle.field.specs.Leaf.{text, Lies}
@@ -85,7 +85,7 @@ unfoldable pub known_of : Lookups → (s : List ℕ) → Declaration → (number
 known_of L s d k w p = known_front L s d k w (known_taken d.shape.typ w p)
 
 abbrev pub by_declared : Lookups → (s : List ℕ) → Option Declaration → (number wire : ℕ) → Payload → Front
-by_declared L s none k w p = unknown_of k w p
+by_declared L s None k w p = unknown_of k w p
 by_declared L s (is d) k w p = known_of L s d k w p
 
 unfoldable pub behind_tag : Lookups → (s : List ℕ) → Message → (bs : List ℕ) (tag at end : ℕ) → Front

@@ -10,8 +10,7 @@
 --          followed ks n f xs ==  what is followed after the rows xs
 --
 -- Assumes nothing.
-use Rattle.std.specs.Prelude.{Bool, true, false, List, [], ◌∷◌, ℕ, ◌+◌, eqb, ltb}
-use Rattle.basis.specs.Kit.{Option, none, some}
+use Rattle.std.specs.Prelude.{Bool, true, false, List, [], ◌∷◌, ℕ, ◌+◌, eqb, ltb, Option, None, Some}
 use Rattle.basis.specs.First.{only_if}
 use Rattle.sheet.specs.declared.declaration.Declared.{Declared}
 use Rattle.sheet.specs.declared.declaration.Declared.TheVariants.{Declares, NoDeclaration}
@@ -22,8 +21,8 @@ use Rattle.following.specs.declared.Step.{Step}
 use Rattle.following.specs.inner.Keys.{key_at}
 
 abbrev pub best_of : Option Row → Best
-best_of none = NoneYet
-best_of (some x) = Found x
+best_of None = NoneYet
+best_of (Some x) = Found x
 
 pub record Followed : Type 0 where
   pub matched : ℕ

@@ -6,8 +6,7 @@
 --   declares_enum s n c <=> the scope declares an enum of the name n
 --
 -- Assumes nothing.
-use Rattle.std.specs.Prelude.{Bool, true, false, List, ℕ}
-use Rattle.basis.specs.Kit.{Option, none, some}
+use Rattle.std.specs.Prelude.{Bool, true, false, List, ℕ, Option, None, Some}
 use Rattle.path.specs.Path.{Name}
 use Rattle.basis.specs.First.{only_if, told, collect}
 use Rattle.scope.specs.Scope.{Scope, enum_named}
@@ -15,7 +14,7 @@ use Rattle.cursor.specs.declared.Cursor.{Cursor}
 use Rattle.cursor.specs.inner.Cursor.{ahead}
 
 abbrev pub kept : (good : Scope → Bool) (c : Scope) → Option Scope
-kept good c = only_if (good c) (some c) none
+kept good c = only_if (good c) (Some c) None
 
 abbrev pub passing : (good : Scope → Bool) (s t : List ℕ) (c : Cursor) → List Scope
 passing good s t c = collect (kept good) (ahead s t c)

@@ -1,7 +1,7 @@
 -- The whole name of a builtin, a single direct part: the ways through `builtin_part` and `built_at`.
 -- Assumes nothing.
-use Rattle.std.specs.Prelude.{◌≡◌, refl, true, false, List, [], ◌∷◌, ℕ}
-use Rattle.basis.specs.Kit.{sym, ap, ◌∙◌, none}
+use Rattle.std.specs.Prelude.{◌≡◌, refl, true, false, List, [], ◌∷◌, ℕ, None}
+use Rattle.basis.specs.Kit.{sym, ap, ◌∙◌}
 use Rattle.basis.proofs.Never.{never}
 use Rattle.limits.specs.Figures.{most_constants}
 use Rattle.field.specs.declared.Field.{Field}
@@ -14,7 +14,7 @@ use Rattle.request.specs.declared.name.Parted.{Parted}
 use Rattle.request.specs.declared.name.Parted.TheVariants.{Is, NoPart}
 use Rattle.request.specs.Name.{part_at, parts_in}
 use Rattle.request.specs.Request.{constant_of_field}
-use Rattle.request.specs.Tree.{Constants, unnamed, none as no_constant, constant_in}
+use Rattle.request.specs.Tree.{Constants, unnamed, None as no_constant, constant_in}
 use Rattle.request.proofs.PartLaws.{parts-nil, parts-cons, part-places}
 use Rattle.optionform.specs.inner.Parts.{LastConstant}
 use Rattle.lookups.specs.Lookups.{Lookups, Message}
@@ -26,7 +26,7 @@ use Rattle.options.specs.Settle.{builtin_part}
 use Rattle.options.specs.inner.Settling.{parted}
 
 -- ---- builtin_part
-extension-none : (p : Part) (ps : List Part) → p.extension ≡ true → builtin_part (p ∷ ps) ≡ none
+extension-none : (p : Part) (ps : List Part) → p.extension ≡ true → builtin_part (p ∷ ps) ≡ None
 extension-none p [] x = rw x refl
 extension-none p (q ∷ ps) x = refl
 

@@ -1,7 +1,7 @@
 -- One option: the ways through `settled_built`, `settle_named`, `settle` and `put_set`, over any look-ups.
 -- Assumes nothing.
-use Rattle.std.specs.Prelude.{◌≡◌, refl, Bool, true, false, List, [], ◌∷◌, ℕ, ◌+◌, ◌-◌, ◌≤◌, length}
-use Rattle.basis.specs.Kit.{sym, ap, ◌∙◌, Option, none, some, sets}
+use Rattle.std.specs.Prelude.{◌≡◌, refl, Bool, true, false, List, [], ◌∷◌, ℕ, ◌+◌, ◌-◌, ◌≤◌, length, Option, None, Some}
+use Rattle.basis.specs.Kit.{sym, ap, ◌∙◌, sets}
 use Rattle.basis.specs.First.{only_if}
 use Rattle.basis.proofs.Kit.{arith}
 use mathlib.Core.Path.{subst}
@@ -152,7 +152,7 @@ pub record Alone (r : List ℕ) (from to : ℕ) (p : Part) : Type 0 where
 one-whole : (o p : Part) → parted (builtin_part (o ∷ [])) ≡ Is p → o ≡ p
 one-whole o p = go o.extension
   where
-    go : (b : Bool) → parted (only_if b none (some o)) ≡ Is p → o ≡ p
+    go : (b : Bool) → parted (only_if b None (Some o)) ≡ Is p → o ≡ p
     go true e = never cc
     go false e = cc
 
@@ -192,13 +192,13 @@ nothing-set : (m : Made Fault) → set_recs (settled m) ≡ nil
 nothing-set (made x) = refl
 nothing-set (wrong f) = refl
 
-of_none : (o : Option Part) → parted o ≡ NoPart → o ≡ none
-of_none none e = refl
-of_none (some p) e = never cc
+of_none : (o : Option Part) → parted o ≡ NoPart → o ≡ None
+of_none None e = refl
+of_none (Some p) e = never cc
 
-of_some : (o : Option Part) (p : Part) → parted o ≡ Is p → o ≡ some p
-of_some none p e = never cc
-of_some (some x) p e = let y : x ≡ p = cc in ap some y
+of_some : (o : Option Part) (p : Part) → parted o ≡ Is p → o ≡ Some p
+of_some None p e = never cc
+of_some (Some x) p e = let y : x ≡ p = cc in ap Some y
 
 module _ (L : Lookups) (s r : List ℕ) (h : Start) (from to : ℕ) (v : Parted) (q : v ≡ parted (builtin_part (parts_in (walk r from to)))) where
   named-settled : v ≡ NoPart → settled_at L s r h from to ≡ settled (option_made L s r (text r h.scope) 0 (message_of r h) from to)

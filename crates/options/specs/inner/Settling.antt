@@ -12,8 +12,7 @@
 --   Settleable s r h i a e at <-> the i-th option, whose payload is from a to e, can be settled, and its records written from `at` on
 --
 -- Assumes nothing.
-use Rattle.std.specs.Prelude.{◌≡◌, true, List, ℕ, ◌+◌, ◌-◌, ◌≤◌, length}
-use Rattle.basis.specs.Kit.{Option}
+use Rattle.std.specs.Prelude.{◌≡◌, true, List, ℕ, ◌+◌, ◌-◌, ◌≤◌, length, Option}
 use Rattle.basis.specs.First.{told}
 use Rattle.limits.specs.Figures.{most_options, most_request}
 use Rattle.path.specs.Path.{is_rel_or_empty}

@@ -4,8 +4,7 @@
 --   payload_in w s at end == the payload of the wire type w between two places of s
 --
 -- Assumes nothing.
-use Rattle.std.specs.Prelude.{List, ℕ, ◌+◌, take, drop}
-use Rattle.basis.specs.Kit.{Option, none, some}
+use Rattle.std.specs.Prelude.{List, ℕ, ◌+◌, take, drop, Option, None, Some}
 use Rattle.octets.specs.Octets.{part}
 use Rattle.payloads.specs.declared.Payload.{Payload}
 use Rattle.payloads.specs.declared.Payload.TheVariants.{Whole, Cut}
@@ -13,8 +12,8 @@ use Rattle.payloads.specs.Extent.{Extent, payload_at}
 use Rattle.payloads.specs.Value.{said}
 
 abbrev pub placed : (wire : ℕ) (bs : List ℕ) (at : ℕ) → Option Extent → Payload
-placed w bs at none = Cut
-placed w bs at (some x) = Whole (at + x.before) x.size (said w (take x.size (drop x.before bs)))
+placed w bs at None = Cut
+placed w bs at (Some x) = Whole (at + x.before) x.size (said w (take x.size (drop x.before bs)))
 
 unfoldable pub payload_in : (wire : ℕ) (s : List ℕ) (at end : ℕ) → Payload
 payload_in w s at end = placed w (part s at end) at (payload_at w (part s at end))

@@ -5,8 +5,7 @@
 --   placed, declared, valued, bodied == the code's answer of a scope, a declaration, a value, an enum, or of none
 --
 -- Assumes nothing.
-use Rattle.std.specs.Prelude.{List, ℕ, ◌≤◌, length}
-use Rattle.basis.specs.Kit.{Option}
+use Rattle.std.specs.Prelude.{List, ℕ, ◌≤◌, length, Option}
 use Rattle.basis.specs.First.{told}
 use Rattle.field.specs.declared.Leaf.{Leaf}
 use Rattle.field.specs.declared.Leaf.TheVariants.{At, Not}

@@ -12,9 +12,7 @@
 --                          file_at s t a e == the file that a field of a sheet is
 --
 -- Assumes nothing.
-use Rattle.std.specs.Prelude.{Bool, true, false, List, [], ℕ, eqb}
-use Rattle.basis.specs.Kit.{Option, some}
-use Rattle.std.proofs.Math.Option as option
+use Rattle.std.specs.Prelude.{Bool, true, false, List, [], ℕ, eqb, Option, Some}
 use Rattle.basis.specs.First.{only_if, told}
 use Rattle.octets.specs.Octets.{same_bytes}
 use Rattle.field.specs.declared.Leaf.{Leaf}
@@ -34,16 +32,16 @@ use Rattle.sheet.specs.Tree.{Items, none, File, item_in, message_in, file_in}
 
 -- ---- answers
 abbrev pub tells_leaf : Leaf → Option Span
-tells_leaf Not = option.none
-tells_leaf (At a e) = some (span a e)
+tells_leaf Not = None
+tells_leaf (At a e) = Some (span a e)
 
 abbrev pub tells_declared : Declared → Option Declaration
-tells_declared NoDeclaration = option.none
-tells_declared (Declares d) = some d
+tells_declared NoDeclaration = None
+tells_declared (Declares d) = Some d
 
 abbrev pub tells_valued : Valued → Option Value
-tells_valued NoValue = option.none
-tells_valued (Values v) = some v
+tells_valued NoValue = None
+tells_valued (Values v) = Some v
 
 abbrev pub first_of : {A R : Type 0} → (tells : R → Option A) (r q : R) → R
 first_of tells r q = told q (λ _. r) (tells r)
