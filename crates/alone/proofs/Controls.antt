@@ -1,7 +1,7 @@
 -- Closed cases of the definitions, which the checker computes: of a request of three options each one alone, and what they come to where
 -- nothing is found; of an option that is not there the heading alone; of no heading all the bytes.
 -- Assumes nothing.
-use Rattle.std.specs.Prelude.{◌≡◌, refl, false, List, [], ◌∷◌, ◌++◌, map, ℕ, Option, None, Some}
+use Rattle.std.specs.Prelude.{◌≡◌, refl, false, List, [], ◌∷◌, ◌++◌, map, ℕ, Option, None, Some, Err}
 use lib.ListN.{get_elem?}
 use Prim.Native.String.{String}
 use Rattle.basis.specs.First.{told}
@@ -11,8 +11,6 @@ use Rattle.reply.specs.declared.Refusal.TheVariants.{ExtensionNotFound, MessageN
 use Rattle.field.specs.Field.{field_at}
 use Rattle.field.specs.Leaf.{span, leaf_at}
 use Rattle.field.specs.Walk.{walk_by}
-use Rattle.fullname.specs.declared.LookedUp.TheVariants.{NoMessage}
-use Rattle.fullname.specs.declared.LookedUpEnum.TheVariants.{NoEnum}
 use Rattle.search.specs.declared.extension.Compared.TheVariants.{Refused}
 use Rattle.sheet.specs.Tree.{items_in}
 use Rattle.sheet.proofs.Sheets.{tagged}
@@ -65,8 +63,8 @@ no-heading = refl
 -- ---- what they come to in an empty message, where nothing is found
 abbrev nothing : Lookups
 nothing = record {
-  message = λ p. NoMessage MessageNotFound;
-  enumeration = λ p. NoEnum MessageNotFound;
+  message = λ p. Err MessageNotFound;
+  enumeration = λ p. Err MessageNotFound;
   extension = λ c m n. Refused ExtensionNotFound;
 }
 

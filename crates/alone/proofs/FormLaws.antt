@@ -1,29 +1,26 @@
 -- The verdicts of a constant and of an option are the same in two requests, at places that correspond.
 -- Assumes nothing.
-use Rattle.std.specs.Prelude.{◌≡◌, refl, List, ℕ, zero, suc, ◌+◌, ◌<◌, eqb, ltb}
+use Rattle.std.specs.Prelude.{◌≡◌, refl, List, ℕ, zero, suc, ◌+◌, ◌<◌, eqb, ltb, Err, Ok, Option, Result}
 use Rattle.basis.specs.Kit.{sym, ap, ◌∙◌}
 use Rattle.basis.proofs.Kit.{lt-ltb}
 use mathlib.Core.Path.{ap₂}
 use Rattle.limits.specs.Figures.{most_options, most_parts, most_constants}
 use Rattle.reply.specs.declared.Refusal.{Refusal}
 use Rattle.reply.specs.declared.Refusal.TheVariants.{BadRequest, BeyondLimit}
-use Rattle.reply.specs.declared.Verdict.{Verdict}
-use Rattle.reply.specs.Verdicts.{first_fault, judged}
-use Rattle.field.specs.declared.Field.{Field}
+use Rattle.reply.specs.Verdicts.{first_fault, judged, Verdict}
 use Rattle.field.specs.Leaf.{span}
 use Rattle.field.specs.Walk.{Walk}
 use Rattle.form.specs.Each.{each}
-use Rattle.request.specs.declared.name.Parted.{Parted}
 use Rattle.request.specs.Table.{message_constant_tag, list_tag, option_tag}
 use Rattle.constantform.specs.Leaves.{is_constant, good_scalar, good_pair_name, good_part}
 use Rattle.constantform.specs.Form.{pairs_of, constant_with, judge_constant}
-use Rattle.optionform.specs.declared.Parts.{Parts}
-use Rattle.optionform.specs.declared.Parts.TheVariants.{After, Refuses}
 use Rattle.optionform.specs.Form.{next_part, parts_from, last_field, judge_last, after_name, judge_option}
 use Rattle.alone.proofs.Tests.{by_cases, by-test}
 use Rattle.alone.proofs.Windows.{Twin, Here, SameSpan, here-equal, text_same}
 use Rattle.alone.proofs.Walks.{SameField, both-cut, both-whole, SameWalk, dones, cuts, steps, field-same, walk_same}
 use Rattle.alone.proofs.Names.{SameParted, both-none, both-part, parted-same}
+use Rattle.field.specs.declared.Field.{Field}
+use Rattle.request.specs.declared.name.Part.{Part}
 
 module _ {r r' : List ℕ} (w : Twin r r') where
   -- ---- constants
@@ -57,12 +54,12 @@ module _ {r r' : List ℕ} (w : Twin r r') where
       by-test ◌≡◌ (is_constant t) (with-same (judge_constant d r) (judge_constant d r') (constant-same d) t x x' y y' h) refl
 
 -- ---- the parts of a name: they end at places that correspond, or are refused alike
-data SameEnd {r r' : List ℕ} (w : Twin r r') : Parts → Parts → Type 0 where
-  both-after : {x y : ℕ} → Here w x y → SameEnd w (After x) (After y)
-  both-refuse : (why : Refusal) → SameEnd w (Refuses why) (Refuses why)
+data SameEnd {r r' : List ℕ} (w : Twin r r') : Result ℕ Refusal → Result ℕ Refusal → Type 0 where
+  both-after : {x y : ℕ} → Here w x y → SameEnd w (Ok x) (Ok y)
+  both-refuse : (why : Refusal) → SameEnd w (Err why) (Err why)
 
 module _ {r r' : List ℕ} (w : Twin r r') where
-  next-same : (n : ℕ) {x y : ℕ} → Here w x y → {p p' : Parted} → SameParted w p p' → {v v' : Parts} → SameEnd w v v'
+  next-same : (n : ℕ) {x y : ℕ} → Here w x y → {p p' : Option Part} → SameParted w p p' → {v v' : Result ℕ Refusal} → SameEnd w v v'
       → SameEnd w (next_part r n x p v) (next_part r' n y p' v')
   next-same n h both-none k = both-after h
   next-same n h (both-part q) k =
@@ -76,12 +73,12 @@ module _ {r r' : List ℕ} (w : Twin r r') where
   name-same n h (steps {t} p k) = next-same n h (parted-same w t p) (name-same (n + 1) p.to k)
 
   -- ---- one option
-  last-field : {x y : ℕ} → Here w x y → {f f' : Field} → SameField w f f' → last_field r x f ≡ last_field r' y f'
+  last-field : {x y : ℕ} → Here w x y → {f f' : Option Field} → SameField w f f' → last_field r x f ≡ last_field r' y f'
   last-field h both-cut = refl
   last-field h (both-whole {t} {x} {x'} {y} {y'} p) =
       ap₂ first_fault (constant-same w most_constants t x x' y y' p) (ap (judged BadRequest) (here-equal w p.to h))
 
-  named-same : {x x' y y' : ℕ} → Here w x y → Here w x' y' → {v v' : Parts} → SameEnd w v v' → after_name r x x' v ≡ after_name r' y y' v'
+  named-same : {x x' y y' : ℕ} → Here w x y → Here w x' y' → {v v' : Result ℕ Refusal} → SameEnd w v v' → after_name r x x' v ≡ after_name r' y y' v'
   unfolding judge_last
   named-same h k (both-refuse why) = refl
   named-same h k (both-after p) = by_cases ◌≡◌ (here-equal w p h) (λ _. refl) (λ _. last-field k (field-same w p k))

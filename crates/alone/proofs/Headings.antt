@@ -1,43 +1,39 @@
 -- The heading of a request is that of any other which has the same bytes in front, up to where the options start.
 -- Assumes nothing.
-use Rattle.std.specs.Prelude.{◌≡◌, refl, List, ℕ, ◌≤◌, length}
+use Rattle.std.specs.Prelude.{◌≡◌, refl, List, ℕ, ◌≤◌, length, None, Some, Option}
 use Rattle.basis.specs.Kit.{sym, ap, ◌∙◌}
 use Rattle.basis.proofs.Kit.{arith}
 use mathlib.Core.Path.{ap₂}
 use Rattle.basis.proofs.Never.{never}
-use Rattle.field.specs.declared.Field.{Field}
-use Rattle.field.specs.declared.Field.TheVariants.{Whole}
-use Rattle.field.specs.declared.Leaf.TheVariants.{At}
 use Rattle.field.specs.declared.Span.{Span}
-use Rattle.field.specs.Field.{field_at}
+use Rattle.field.specs.Field.{field_at, field}
 use Rattle.field.specs.Leaf.{span, text, any_bytes, on_leaf, leaf_at}
 use Rattle.field.proofs.FieldLaws.{field-bounds}
 use Rattle.field.proofs.LeafLaws.{leaf-any, on-leaf-some}
 use Rattle.request.specs.declared.heading.Heading.{Heading}
-use Rattle.request.specs.declared.heading.Headed.{Headed}
-use Rattle.request.specs.declared.heading.Headed.TheVariants.{Heads, NoHeading}
 use Rattle.request.specs.Table.{scope_tag, options_type_tag}
 use Rattle.request.specs.Request.{heading_of}
 use Rattle.request.proofs.RequestLaws.{heading-is, HeadingPlaces, heading-places}
 use Rattle.alone.proofs.Windows.{Twin, Here, here-part}
 use Rattle.alone.proofs.Fields.{field_end, leaf-field, Moved, field-moved}
+use Rattle.field.specs.declared.Field.{Field}
 
 -- the two leaves of a heading
 pub record Leaves (s : List ℕ) (h : Heading) : Type 0 where
-  pub scope : leaf_at scope_tag any_bytes s 0 (length s) ≡ At h.scope.from h.scope.to
-  pub type : leaf_at options_type_tag any_bytes s h.scope.to (length s) ≡ At h.options_type.from h.options_type.to
+  pub scope : leaf_at scope_tag any_bytes s 0 (length s) ≡ Some (span h.scope.from h.scope.to)
+  pub type : leaf_at options_type_tag any_bytes s h.scope.to (length s) ≡ Some (span h.options_type.from h.options_type.to)
   pub options : h.options ≡ h.options_type.to
 
-abbrev heads : ℕ → ℕ → ℕ → ℕ → Headed
-heads a b m e = Heads (record { scope = span a b; options_type = span m e; options = e })
+abbrev heads : ℕ → ℕ → ℕ → ℕ → Option Heading
+heads a b m e = Some (record { scope = span a b; options_type = span m e; options = e })
 
 module _ (s : List ℕ) (h : Heading) where
-  heading-leaves : Heads h ≡ heading_of s → Leaves s h
+  heading-leaves : Some h ≡ heading_of s → Leaves s h
   unfolding heading_of
   heading-leaves =
-      on-leaf-some NoHeading (Heads h) (leaf_at scope_tag any_bytes s 0 (length s))
-      (λ a b. on_leaf NoHeading (leaf_at options_type_tag any_bytes s b (length s)) (heads a b)) (Leaves s h) (λ q. never cc)
-      (λ a b l. on-leaf-some NoHeading (Heads h) (leaf_at options_type_tag any_bytes s b (length s)) (heads a b) (Leaves s h) (λ q. never cc)
+      on-leaf-some None (Some h) (leaf_at scope_tag any_bytes s 0 (length s))
+      (λ a b. on_leaf None (leaf_at options_type_tag any_bytes s b (length s)) (heads a b)) (Leaves s h) (λ q. never cc)
+      (λ a b l. on-leaf-some None (Some h) (leaf_at options_type_tag any_bytes s b (length s)) (heads a b) (Leaves s h) (λ q. never cc)
       (λ m e k q. let x : h ≡ record { scope = span a b; options_type = span m e; options = e } = cc in
       rw x (record { scope = l; type = k; options = refl })))
 
@@ -46,27 +42,27 @@ module _ {r r' : List ℕ} (w : Twin r r') (z : w.first ≡ 0) (z' : w.other ≡
   here-stays : (x : ℕ) → x ≤ w.size → Here w x x
   here-stays x l = record { moved = omega arith; begun = omega arith; ended = omega arith }
 
-  moved_back : (t a e : ℕ) (f : Field) → Moved w t a e f → f ≡ Whole t a e
-  moved_back t a e f m =
-      m.whole ∙ ap₂ (Whole t) (omega (arith, m.places.from.moved)) (omega (arith, m.places.to.moved))
+  moved_back : (here : Field) (f : Option Field) → Moved w here.tag here.from here.to f → f ≡ Some here
+  moved_back here f m =
+      m.whole ∙ ap₂ (Whole here.tag) (omega (arith, m.places.from.moved)) (omega (arith, m.places.to.moved))
 
-  field-kept : (t at a e : ℕ) → e ≤ w.size → field_at r at e ≡ Whole t a e → field_at r' at e ≡ Whole t a e
-  field-kept t at a e l q =
-      let b = field-bounds r at e (field_at r at e) refl t a e q in
-      moved_back t a e (field_at r' at e)
-      (field-moved w t a e (here-stays at (omega (arith, b.starts, b.ordered))) (here-stays e l) q)
+  field-kept : (f : Field) (at : ℕ) → f.to ≤ w.size → field_at r at f.to ≡ Some f → field_at r' at f.to ≡ Some f
+  field-kept f.tag at f.from f.to l q =
+      let b = field-bounds r at f.to (field_at r at f.to) refl f.tag f.from f.to q in
+      moved_back f.tag f.from f.to (field_at r' at f.to)
+      (field-moved w f.tag f.from f.to (here-stays at (omega (arith, b.starts, b.ordered))) (here-stays f.to l) q)
 
-  leaf-kept : (k at end a e : ℕ) → e ≤ w.size → leaf_at k any_bytes r at end ≡ At a e
-      → (end' : ℕ) → e ≤ end' → leaf_at k any_bytes r' at end' ≡ At a e
-  leaf-kept k at end a e j p end' l =
-      let q = field_end r at end k a e (leaf-field k r at end a e p) e (omega arith) in
-      let q' = field_end r' at e k a e (field-kept k at a e j q) end' l in
-      sym (leaf-any k r' at end' (field_at r' at end') refl k a e q' refl)
+  leaf-kept : (k at end : ℕ) (u : Span) → u.to ≤ w.size → leaf_at k any_bytes r at end ≡ Some u
+      → (end' : ℕ) → u.to ≤ end' → leaf_at k any_bytes r' at end' ≡ Some u
+  leaf-kept k at end u j p end' l =
+      let q = field_end r at end k u.from u.to (leaf-field k r at end u.from u.to p) u.to (omega arith) in
+      let q' = field_end r' at u.to k u.from u.to (field-kept k at u.from u.to j q) end' l in
+      sym (leaf-any k r' at end' (field_at r' at end') refl k u.from u.to q' refl)
 
   text-kept : (p : Span) → p.from ≤ w.size → p.to ≤ w.size → text r' p ≡ text r p
   text-kept p k l = sym (here-part w (here-stays p.from k) (here-stays p.to l))
 
-  module _ (h : Heading) (l : h.options ≤ w.size) (q : heading_of r ≡ Heads h) where
+  module _ (h : Heading) (l : h.options ≤ w.size) (q : heading_of r ≡ Some h) where
     places : HeadingPlaces r h
     places = heading-places r (heading_of r) refl h q
 
@@ -89,12 +85,12 @@ module _ {r r' : List ℕ} (w : Twin r r') (z : w.first ≡ 0) (z' : w.other ≡
           options = k.options;
         }
 
-    pub heading-kept : heading_of r' ≡ Heads h
+    pub heading-kept : heading_of r' ≡ Some h
     heading-kept =
         let k = leaves_kept in
         sym (heading-is r' (leaf_at scope_tag any_bytes r' 0 (length r')) refl h.scope.from h.scope.to k.scope
         (leaf_at options_type_tag any_bytes r' h.scope.to (length r')) refl h.options_type.from h.options_type.to k.type)
-        ∙ ap (λ (o : ℕ). Heads (record { scope = h.scope; options_type = h.options_type; options = o })) (sym k.options)
+        ∙ ap (λ (o : ℕ). Some (record { scope = h.scope; options_type = h.options_type; options = o })) (sym k.options)
 
     pub scope_kept : text r' h.scope ≡ text r h.scope
     scope_kept = text-kept h.scope (omega (arith, places.scope.ordered, scope-inside)) scope-inside

@@ -5,12 +5,10 @@
 --   SameParts w ps qs <-> the same parts, in order
 --
 -- Assumes nothing.
-use Rattle.std.specs.Prelude.{◌≡◌, refl, List, [], ◌∷◌, ℕ, eqb}
+use Rattle.std.specs.Prelude.{◌≡◌, refl, List, [], ◌∷◌, ℕ, eqb, Some, None, Option}
 use Rattle.field.specs.Leaf.{span}
 use Rattle.field.specs.Walk.{Walk}
 use Rattle.request.specs.declared.name.Part.{Part}
-use Rattle.request.specs.declared.name.Parted.{Parted}
-use Rattle.request.specs.declared.name.Parted.TheVariants.{Is, NoPart}
 use Rattle.request.specs.Table.{direct_part_tag, extension_part_tag}
 use Rattle.request.specs.Name.{part_of, leading, parts_in, further, after_parts}
 use Rattle.alone.proofs.Tests.{by-test}
@@ -21,9 +19,9 @@ pub record SamePart {r r' : List ℕ} (w : Twin r r') (p p' : Part) : Type 0 whe
   pub extension : p.extension ≡ p'.extension
   pub name : SameSpan w p.name p'.name
 
-pub data SameParted {r r' : List ℕ} (w : Twin r r') : Parted → Parted → Type 0 where
-  both-none : SameParted w NoPart NoPart
-  both-part : {p p' : Part} → SamePart w p p' → SameParted w (Is p) (Is p')
+pub data SameParted {r r' : List ℕ} (w : Twin r r') : Option Part → Option Part → Type 0 where
+  both-none : SameParted w None None
+  both-part : {p p' : Part} → SamePart w p p' → SameParted w (Some p) (Some p')
 
 pub data SameParts {r r' : List ℕ} (w : Twin r r') : List Part → List Part → Type 0 where
   no-parts : SameParts w [] []
@@ -36,7 +34,7 @@ module _ {r r' : List ℕ} (w : Twin r r') where
       by-test (SameParted w) (eqb t direct_part_tag) (both-part (record { extension = refl; name = h }))
       (by-test (SameParted w) (eqb t extension_part_tag) (both-part (record { extension = refl; name = h })) both-none)
 
-  leading-same : {v v' : Parted} {ps qs : List Part} → SameParted w v v' → SameParts w ps qs → SameParts w (leading v ps) (leading v' qs)
+  leading-same : {v v' : Option Part} {ps qs : List Part} → SameParted w v v' → SameParts w ps qs → SameParts w (leading v ps) (leading v' qs)
   leading-same both-none k = no-parts
   leading-same (both-part h) k = part_then h k
 
@@ -45,7 +43,7 @@ module _ {r r' : List ℕ} (w : Twin r r') where
   parts_same cuts = no-parts
   parts_same (steps {t} h k) = leading-same (parted-same t h) (parts_same k)
 
-  further_same : {v v' : Parted} {x x' y y' : ℕ} → SameParted w v v' → Here w x y → Here w x' y' → Here w (further v x x') (further v' y y')
+  further_same : {v v' : Option Part} {x x' y y' : ℕ} → SameParted w v v' → Here w x y → Here w x' y' → Here w (further v x x') (further v' y y')
   further_same both-none h k = h
   further_same (both-part p) h k = k
 

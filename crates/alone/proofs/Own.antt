@@ -1,26 +1,21 @@
 -- What an option comes to does not depend on what stands around it. The statement stands at the end.
 -- Assumes nothing.
-use Rattle.std.specs.Prelude.{◌≡◌, refl, true, List, [], ◌∷◌, ◌++◌, ℕ, ◌+◌, ◌-◌, ◌≤◌, length, take, Some}
+use Rattle.std.specs.Prelude.{◌≡◌, refl, true, List, [], ◌∷◌, ◌++◌, ℕ, ◌+◌, ◌-◌, ◌≤◌, length, take, Some, Ok, Option}
 use Rattle.basis.specs.Kit.{sym, ap, ◌∙◌}
 use Rattle.basis.proofs.Kit.{arith}
 use lib.ListN.{get_elem?}
 use Rattle.limits.specs.Figures.{most_request}
 use Rattle.path.specs.Path.{is_rel_path, is_rel_or_empty}
 use Rattle.reply.specs.declared.Refusal.TheVariants.{BadRequest}
-use Rattle.reply.specs.declared.Verdict.{Verdict}
-use Rattle.reply.specs.declared.Verdict.TheVariants.{Fine}
-use Rattle.reply.specs.Verdicts.{first_fault}
-use Rattle.field.specs.declared.Leaf.TheVariants.{At}
+use Rattle.reply.specs.Verdicts.{first_fault, Verdict}
 use Rattle.field.specs.Field.{field_at}
-use Rattle.field.specs.Leaf.{text, any_bytes, leaf_at}
+use Rattle.field.specs.Leaf.{text, any_bytes, leaf_at, span}
 use Rattle.field.specs.Walk.{done, step, walk}
 use Rattle.field.proofs.FieldLaws.{Bounds, field-bounds}
 use Rattle.field.proofs.LeafLaws.{leaf-good}
 use Rattle.field.proofs.WalkLaws.{walk-done, walk_step}
 use Rattle.form.specs.Each.{each_from}
 use Rattle.request.specs.declared.heading.Heading.{Heading}
-use Rattle.request.specs.declared.heading.Headed.{Headed}
-use Rattle.request.specs.declared.heading.Headed.TheVariants.{Heads}
 use Rattle.request.specs.Table.{scope_tag, options_type_tag, option_tag}
 use Rattle.request.specs.Request as tree
 use Rattle.request.specs.Request.{heading_of, option_of, option_in, options_in, request_with, request_of}
@@ -43,7 +38,7 @@ use Rattle.alone.proofs.Placed.{Placed, placed}
 use Rattle.alone.proofs.Taken.{taken, taken-length, front-twin, back-twin}
 use Rattle.alone.proofs.Headings.{Leaves, leaves_kept, heading-kept, scope_kept, type-kept}
 
-module _ (r : List ℕ) (f : judge_request r ≡ Fine) (h : Heading) (q : heading_of r ≡ Heads h) (i : ℕ) (o : tree.Option)
+module _ (r : List ℕ) (f : judge_request r ≡ Ok tt) (h : Heading) (q : heading_of r ≡ Some h) (i : ℕ) (o : tree.Option)
     (p : Placed r h.options (walk r h.options (length r)) i o) where
   abbrev own : List ℕ
   own = taken r h.options p.at p.to
@@ -64,7 +59,7 @@ module _ (r : List ℕ) (f : judge_request r ≡ Fine) (h : Heading) (q : headin
   own-leaves : Leaves own h
   own-leaves = leaves_kept front refl refl h (omega arith) q
 
-  own-heading : heading_of own ≡ Heads h
+  own-heading : heading_of own ≡ Some h
   own-heading = heading-kept front refl refl h (omega arith) q
 
   own-scope : text own h.scope ≡ text r h.scope
@@ -76,14 +71,14 @@ module _ (r : List ℕ) (f : judge_request r ≡ Fine) (h : Heading) (q : headin
   request-scope : text own (request_of own).scope ≡ text r (request_of r).scope
   unfolding request_of
   request-scope =
-      ap (λ (v : Headed). text own (request_with own v).scope) own-heading ∙ own-scope
-      ∙ sym (ap (λ (v : Headed). text r (request_with r v).scope) q)
+      ap (λ (v : Option Heading). text own (request_with own v).scope) own-heading ∙ own-scope
+      ∙ sym (ap (λ (v : Option Heading). text r (request_with r v).scope) q)
 
   request-type : text own (request_of own).options_type ≡ text r (request_of r).options_type
   unfolding request_of
   request-type =
-      ap (λ (v : Headed). text own (request_with own v).options_type) own-heading ∙ own-type
-      ∙ sym (ap (λ (v : Headed). text r (request_with r v).options_type) q)
+      ap (λ (v : Option Heading). text own (request_with own v).options_type) own-heading ∙ own-type
+      ∙ sym (ap (λ (v : Option Heading). text r (request_with r v).options_type) q)
 
   -- ---- the option
   abbrev back : Twin r own
@@ -112,24 +107,24 @@ module _ (r : List ℕ) (f : judge_request r ≡ Fine) (h : Heading) (q : headin
 
   own-options : (request_of own).options ≡ option_of own from to ∷ []
   unfolding request_of option_in
-  own-options = ap (λ (v : Headed). (request_with own v).options) own-heading ∙ ap (options_in own) own-walk
+  own-options = ap (λ (v : Option Heading). (request_with own v).options) own-heading ∙ ap (options_in own) own-walk
 
   -- ---- the form
-  own-judged : judge_option own 0 option_tag from to ≡ Fine
+  own-judged : judge_option own 0 option_tag from to ≡ Ok tt
   own-judged =
       sym (option-same back p.index 0 (option-few r p.index p.start p.to p.fine) (omega arith) own-field.places) ∙ p.fine
 
-  own-judged-all : Fine ≡ judge_options own h.options (length own)
+  own-judged-all : Ok tt ≡ judge_options own h.options (length own)
   unfolding judge_options
   own-judged-all =
-      sym (ap (each_from BadRequest (judge_option own) 0) own-walk ∙ ap (λ (v : Verdict). first_fault v Fine) own-judged)
+      sym (ap (each_from BadRequest (judge_option own) 0) own-walk ∙ ap (λ (v : Verdict). first_fault v (Ok tt)) own-judged)
 
-  own-scoped : At h.scope.from h.scope.to ≡ leaf_at scope_tag is_rel_or_empty own 0 (length own)
+  own-scoped : Some (span h.scope.from h.scope.to) ≡ leaf_at scope_tag is_rel_or_empty own 0 (length own)
   own-scoped =
       leaf-good scope_tag is_rel_or_empty own 0 (length own) (leaf_at scope_tag any_bytes own 0 (length own)) refl h.scope.from h.scope.to
       own-leaves.scope true (sym (ap is_rel_or_empty own-scope ∙ fine-scope r f (heading_of r) refl h q)) refl
 
-  own-typed : At h.options_type.from h.options_type.to ≡ leaf_at options_type_tag is_rel_path own h.scope.to (length own)
+  own-typed : Some (span h.options_type.from h.options_type.to) ≡ leaf_at options_type_tag is_rel_path own h.scope.to (length own)
   own-typed =
       leaf-good options_type_tag is_rel_path own h.scope.to (length own)
       (leaf_at options_type_tag any_bytes own h.scope.to (length own)) refl h.options_type.from h.options_type.to
@@ -139,10 +134,10 @@ module _ (r : List ℕ) (f : judge_request r ≡ Fine) (h : Heading) (q : headin
   own-short : length own ≤ most_request
   own-short = omega (arith, own-length, fine-short r f, p.begun, bounds.starts, bounds.ordered, bounds.inside)
 
-  own-fine : judge_request own ≡ Fine
+  own-fine : judge_request own ≡ Ok tt
   own-fine =
-      sym (request-options own own-short (At h.scope.from h.scope.to) own-scoped h.scope.from h.scope.to refl
-      (At h.options_type.from h.options_type.to) own-typed h.options_type.from h.options_type.to refl Fine
+      sym (request-options own own-short (Some (span h.scope.from h.scope.to)) own-scoped h.scope.from h.scope.to refl
+      (Some (span h.options_type.from h.options_type.to)) own-typed h.options_type.from h.options_type.to refl (Ok tt)
       (own-judged-all ∙ ap (λ (n : ℕ). judge_options own n (length own)) own-leaves.options))
 
   -- ---- what the option comes to
@@ -169,10 +164,10 @@ module _ (r : List ℕ) (f : judge_request r ≡ Fine) (h : Heading) (q : headin
 -- ==== the statement
 -- An option that is taken out of its fine request and put into a request of its own, with the same scope and options type, is fine there,
 -- is the only option, and has the same fault as before, or none.
-pub own-request : (r : List ℕ) → judge_request r ≡ Fine → (i : ℕ) (o : tree.Option) → get_elem? (request_of r).options i ≡ Some o → Own r i o
+pub own-request : (r : List ℕ) → judge_request r ≡ Ok tt → (i : ℕ) (o : tree.Option) → get_elem? (request_of r).options i ≡ Some o → Own r i o
 unfolding request_of
 own-request r f i o g =
     let v = fine-options r f (heading_of r) refl in
     let h = v.heading in
     own-all r f h v.heads i o
-    (placed r i 0 h.options o v.fine (ap (λ (x : Headed). get_elem? (request_with r x).options i) (sym v.heads) ∙ g))
+    (placed r i 0 h.options o v.fine (ap (λ (x : Option Heading). get_elem? (request_with r x).options i) (sym v.heads) ∙ g))

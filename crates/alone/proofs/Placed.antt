@@ -3,7 +3,7 @@
 --   Placed r from w i o <-> the i-th of the fields w, from the place `from` on in r, is a fine option, and in the tree it is o
 --
 -- Assumes nothing.
-use Rattle.std.specs.Prelude.{◌≡◌, refl, Bool, true, false, List, ℕ, zero, suc, ◌+◌, ◌-◌, ◌≤◌, ◌<◌, ltb, length, Some}
+use Rattle.std.specs.Prelude.{◌≡◌, refl, Bool, true, false, List, ℕ, zero, suc, ◌+◌, ◌-◌, ◌≤◌, ◌<◌, ltb, length, Some, Ok, None, Option}
 use Rattle.basis.specs.Kit.{sym, ap, ◌∙◌}
 use Rattle.basis.proofs.Kit.{arith}
 use lib.ListN.{get_elem?}
@@ -11,11 +11,8 @@ use borrow.Author.Tests.{ltb-true, ltb-false}
 use Rattle.basis.proofs.Never.{never}
 use Rattle.octets.specs.Octets.{part}
 use Rattle.reply.specs.declared.Refusal.TheVariants.{BadRequest}
-use Rattle.reply.specs.declared.Verdict.TheVariants.{Fine}
 use Rattle.reply.proofs.VerdictLaws.{refused-fine}
-use Rattle.field.specs.declared.Field.{Field}
-use Rattle.field.specs.declared.Field.TheVariants.{Whole, Cut}
-use Rattle.field.specs.Field.{header, field_at}
+use Rattle.field.specs.Field.{header, field_at, field}
 use Rattle.field.specs.Walk.{Walk, step, walk}
 use Rattle.field.proofs.FieldLaws.{field-bounds}
 use Rattle.field.proofs.WalkLaws.{walk-done, walk-cut, walk_step}
@@ -27,15 +24,16 @@ use Rattle.optionform.specs.Form.{judge_option}
 use Rattle.optionform.proofs.FineLaws.{option-tagged}
 use Rattle.requestform.proofs.FineLaws.{fine-option-at, fine-option-next}
 use Rattle.alone.specs.Alone.{field_bytes}
+use Rattle.field.specs.declared.Field.{Field}
 
 -- the first of fine options, n before it
 record Opened (r : List ℕ) (n at : ℕ) : Type 0 where
   from : ℕ
   to : ℕ
-  field : field_at r at (length r) ≡ Whole option_tag from to
+  field : field_at r at (length r) ≡ Some (field option_tag from to)
   walks : walk r at (length r) ≡ step option_tag from to (walk r to (length r))
-  fine : judge_option r n option_tag from to ≡ Fine
-  next : each_from BadRequest (judge_option r) (n + 1) (walk r to (length r)) ≡ Fine
+  fine : judge_option r n option_tag from to ≡ Ok tt
+  next : each_from BadRequest (judge_option r) (n + 1) (walk r to (length r)) ≡ Ok tt
 
 pub record Placed (r : List ℕ) (from : ℕ) (w : Walk) (i : ℕ) (o : tree.Option) : Type 0 where
   pub at : ℕ
@@ -43,26 +41,26 @@ pub record Placed (r : List ℕ) (from : ℕ) (w : Walk) (i : ℕ) (o : tree.Opt
   pub to : ℕ
   pub index : ℕ
   pub begun : from ≤ at
-  pub field : field_at r at (length r) ≡ Whole option_tag start to
+  pub field : field_at r at (length r) ≡ Some (field option_tag start to)
   pub bytes : field_bytes r w i ≡ part r at to
-  pub fine : judge_option r index option_tag start to ≡ Fine
+  pub fine : judge_option r index option_tag start to ≡ Ok tt
   pub is : o ≡ option_of r start to
 
 module _ (r : List ℕ) where
-  module _ (n at : ℕ) (f : each_from BadRequest (judge_option r) n (walk r at (length r)) ≡ Fine) where
-    open-field : at < length r → (v : Field) → v ≡ field_at r at (length r) → Opened r n at
-    open-field l Cut q =
-        absurd (refused-fine BadRequest (ap (each_from BadRequest (judge_option r) n) (sym (walk-cut r at (length r) l Cut q refl)) ∙ f))
-    open-field l (Whole t a e) q =
-        let here = fine-option-at r n at (length r) f l (Whole t a e) q t a e refl in
-        let y : t ≡ option_tag = option-tagged r n t a e here in
+  module _ (n at : ℕ) (f : each_from BadRequest (judge_option r) n (walk r at (length r)) ≡ Ok tt) where
+    open-field : at < length r → (v : Option Field) → v ≡ field_at r at (length r) → Opened r n at
+    open-field l None q =
+        absurd (refused-fine BadRequest (ap (each_from BadRequest (judge_option r) n) (sym (walk-cut r at (length r) l None q refl)) ∙ f))
+    open-field l (Some found) q =
+        let here = fine-option-at r n at (length r) f l (Some found) q found refl in
+        let y : found.tag ≡ option_tag = option-tagged r n found.tag found.from found.to here in
         record {
-          from = a;
-          to = e;
-          field = sym q ∙ ap (λ (k : ℕ). Whole k a e) y;
-          walks = walk_step r at (length r) l (Whole t a e) q t a e refl ∙ ap (λ (k : ℕ). step k a e (walk r e (length r))) y;
+          from = found.from;
+          to = found.to;
+          field = sym q ∙ ap (λ (k : ℕ). Some (field k found.from found.to)) y;
+          walks = walk_step r at (length r) l (Some found) q found refl ∙ ap (λ (k : ℕ). step k found.from found.to (walk r found.to (length r))) y;
           fine = rw y at here;
-          next = fine-option-next r n at (length r) f l (Whole t a e) q t a e refl;
+          next = fine-option-next r n at (length r) f l (Some found) q found refl;
         }
 
     opened : (i : ℕ) (o : tree.Option) → get_elem? (options_in r (walk r at (length r))) i ≡ Some o → Opened r n at
@@ -74,7 +72,7 @@ module _ (r : List ℕ) where
             let z = ap (λ (w : Walk). get_elem? (options_in r w) i) (sym (walk-done r at (length r) (ltb-false at (length r) l))) ∙ g in
             never cc
 
-  pub placed : (i n at : ℕ) (o : tree.Option) → each_from BadRequest (judge_option r) n (walk r at (length r)) ≡ Fine
+  pub placed : (i n at : ℕ) (o : tree.Option) → each_from BadRequest (judge_option r) n (walk r at (length r)) ≡ Ok tt
       → get_elem? (options_in r (walk r at (length r))) i ≡ Some o → Placed r at (walk r at (length r)) i o
   unfolding option_in
   placed zero n at o f g =

@@ -4,7 +4,7 @@
 --   SameWhole w v v' <-> the same part is the whole name of a builtin, or none is
 --
 -- Assumes nothing.
-use Rattle.std.specs.Prelude.{◌≡◌, refl, Bool, true, false, List, [], ◌∷◌, ℕ, ◌+◌, eqb, Option, None, Some}
+use Rattle.std.specs.Prelude.{◌≡◌, refl, Bool, true, false, List, [], ◌∷◌, ℕ, ◌+◌, eqb, Option, None, Some, Err, Ok, Result}
 use Rattle.basis.specs.Kit.{ap}
 use mathlib.Core.Path.{subst}
 use Rattle.basis.specs.First.{only_if, told}
@@ -16,23 +16,18 @@ use Rattle.field.specs.Leaf.{text}
 use Rattle.types.specs.Types.{is_any, TYPE_BOOL, TYPE_STRING, TYPE_ENUM, TYPE_GROUP, TYPE_MESSAGE}
 use Rattle.sheet.specs.declared.declaration.Shape.{Shape}
 use Rattle.sheet.specs.declared.declaration.Declaration.{Declaration}
-use Rattle.fullname.specs.declared.LookedUp.{LookedUp}
-use Rattle.fullname.specs.declared.LookedUp.TheVariants.{Message as Is, NoMessage}
 use Rattle.request.specs.declared.name.Part.{Part}
 use Rattle.request.specs.Tree.{Constants}
 use Rattle.request.specs.Request as tree
 use Rattle.records.specs.declared.Body.{Body}
 use Rattle.records.specs.Made.{Made}
 use Rattle.lookups.specs.Lookups.{Lookups, Message, field_named}
-use Rattle.scalars.specs.declared.Scalar.{Scalar}
 use Rattle.scalars.specs.Scalars.{unsupported}
 use Rattle.values.specs.Values.{on}
 use Rattle.builtins.specs.declared.Built.{Built}
 use Rattle.builtins.specs.declared.Built.TheVariants.{Skipped, Sets, Wrong}
 use Rattle.builtins.specs.Builtins.{repeated, is_skipped, built_of, builtin_on, builtin_field, builtin_of}
 use Rattle.steps.specs.declared.Lack.TheVariants.{NoField}
-use Rattle.steps.specs.declared.Step.{Step}
-use Rattle.steps.specs.declared.Step.TheVariants.{Found, NotFound}
 use Rattle.steps.specs.Steps.{why_of, step_extension, step_of}
 use Rattle.faults.specs.declared.Fault.{Fault}
 use Rattle.options.specs.Named.{at, on_step, reached, left, option_from}
@@ -45,6 +40,8 @@ use Rattle.alone.proofs.Names.{SamePart, SameParts, no-parts, part_then}
 use Rattle.alone.proofs.Trees.{SameConstants, nones, scalars, messages, lists, SameOption}
 use Rattle.alone.proofs.ValueLaws.{SameScalar, both-fit, both-misfit, SameMade, both-made, both-wrong, scalar-refl, holding-same}
 use Rattle.alone.proofs.ValueLaws.{scalar-same, records-same}
+use Rattle.scope.specs.declared.lookup.LookupScope.{LookupScope}
+use Rattle.steps.specs.declared.Lack.{Lack}
 
 pub data SameBuilt : Built → Built → Type 0 where
   both-skipped : SameBuilt Skipped Skipped
@@ -76,7 +73,7 @@ module _ {r r' : List ℕ} (w : Twin r r') (L : Lookups) (s : List ℕ) where
   builtin-on h (messages n k rest) = scalar-refl unsupported
   builtin-on h (lists n k rest) = scalar-refl unsupported
 
-  built-of : (h : Shape) {x x' : Scalar} → SameScalar x x' → SameBuilt (built_of h x) (built_of h x')
+  built-of : (h : Shape) {x x' : Result Body Refusal} → SameScalar x x' → SameBuilt (built_of h x) (built_of h x')
   built-of h both-fit = both-set
   built-of h (both-misfit why) = both-bad why
 
@@ -100,24 +97,24 @@ module _ {r r' : List ℕ} (w : Twin r r') (L : Lookups) (s : List ℕ) where
     unfolding step_of
     step_same m q =
         by_cases ◌≡◌ q.extension (λ _. ap (λ (n : List ℕ). step_extension (L.extension scope m.name n)) (text_same w q.name))
-        (λ _. ap (λ (n : List ℕ). told (NotFound NoField) Found (field_named s n m.place)) (text_same w q.name))
+        (λ _. ap (λ (n : List ℕ). told (Err NoField) Ok (field_named s n m.place)) (text_same w q.name))
 
-    on-step : (i : ℕ) {v v' : Step} → v ≡ v' → {f f' : Declaration → Made Fault} → ((d : Declaration) → SameMade (f d) (f' d))
+    on-step : (i : ℕ) {v v' : Result Declaration Lack} → v ≡ v' → {f f' : Declaration → Made Fault} → ((d : Declaration) → SameMade (f d) (f' d))
         → SameMade (on_step i v f) (on_step i v' f')
-    on-step i {v} p {f} {f'} k = subst (λ (x : Step). SameMade (on_step i v f) (on_step i x f')) p (go v)
+    on-step i {v} p {f} {f'} k = subst (λ (x : Result Declaration Lack). SameMade (on_step i v f) (on_step i x f')) p (go v)
       where
-        go : (x : Step) → SameMade (on_step i x f) (on_step i x f')
-        go (NotFound l) = both-wrong (fault_at i (why_of l))
-        go (Found d) = k d
+        go : (x : Result Declaration Lack) → SameMade (on_step i x f) (on_step i x f')
+        go (Err l) = both-wrong (fault_at i (why_of l))
+        go (Ok d) = k d
 
     at_same : (i : ℕ) {m n : Made Refusal} → SameMade m n → SameMade (at i m) (at i n)
     at_same i both-made = both-made
     at_same i (both-wrong why) = both-wrong (fault_at i why)
 
-    reached-same : (i n : ℕ) (name : List ℕ) (u : LookedUp) {f f' : Message → Made Fault} → ((m : Message) → SameMade (f m) (f' m))
+    reached-same : (i n : ℕ) (name : List ℕ) (u : Result LookupScope Refusal) {f f' : Message → Made Fault} → ((m : Message) → SameMade (f m) (f' m))
         → SameMade (reached i n name u f) (reached i n name u f')
-    reached-same i n name (NoMessage why) k = both-wrong (fault_at i why)
-    reached-same i n name (Is p) k = holding-same n (k (record { name = name; place = p }))
+    reached-same i n name (Err why) k = both-wrong (fault_at i why)
+    reached-same i n name (Ok p) k = holding-same n (k (record { name = name; place = p }))
 
     left-same : (i : ℕ) (h : Shape) {f f' : Message → Made Fault} → ((m : Message) → SameMade (f m) (f' m))
         → SameMade (left L s r scope i h f) (left L s r' scope i h f')

@@ -7,7 +7,7 @@
 --      SameOption w o o' <-> the same parts, and the same constant
 --
 -- Assumes nothing.
-use Rattle.std.specs.Prelude.{◌≡◌, Bool, true, false, List, ℕ, zero, suc, ◌-◌, ◌^◌, eqb, ltb, get_or}
+use Rattle.std.specs.Prelude.{◌≡◌, Bool, true, false, List, ℕ, zero, suc, ◌-◌, ◌^◌, eqb, ltb, get_or, None, Option, Some}
 use Rattle.basis.specs.Kit.{ap}
 use Rattle.basis.proofs.Kit.{arith}
 use mathlib.Core.Path.{subst}
@@ -15,15 +15,12 @@ use borrow.Author.Tests.{eqb-true}
 use lib.Ieee.{Float as Double, binary64, of_bits, nan_bits}
 use Rattle.limits.specs.Figures.{most_constants}
 use Rattle.octets.specs.Octets.{big_at}
-use Rattle.field.specs.declared.Field.{Field}
 use Rattle.field.specs.declared.Span.{Span}
 use Rattle.field.specs.Leaf.{span}
 use Rattle.field.specs.Walk.{Walk}
 use Rattle.request.specs.declared.constant.Constant.{Constant}
 use Rattle.request.specs.declared.constant.Constant.TheVariants.{Bool as BoolOf, Integer, Float, NotANumber}
 use Rattle.request.specs.declared.constant.Constant.TheVariants.{Text, Ident, Message, List as ListOf}
-use Rattle.request.specs.declared.constant.Held.{Held}
-use Rattle.request.specs.declared.constant.Held.TheVariants.{Holds, NoConstant}
 use Rattle.request.specs.Table.{bool_tag, unsigned_tag, signed_tag, float_tag, string_tag, ident_tag, message_constant_tag, list_tag}
 use Rattle.request.specs.Table.{pair_field_tag, pair_extension_tag}
 use Rattle.request.specs.Constant.{integer_of, float_of, bool_of, number_with, numeric_of, constant_of, is_pair_name}
@@ -34,6 +31,7 @@ use Rattle.alone.proofs.Tests.{by_cases, by-test}
 use Rattle.alone.proofs.Windows.{Twin, SameSpan, here-byte, here-big, here-size}
 use Rattle.alone.proofs.Walks.{SameField, both-cut, both-whole, SameWalk, dones, cuts, steps, field-same, walk_same}
 use Rattle.alone.proofs.Names.{SameParts, parts_same, after_same}
+use Rattle.field.specs.declared.Field.{Field}
 
 pub data SameName {r r' : List ℕ} (w : Twin r r') : PairName → PairName → Type 0 where
   both-unnamed : SameName w unnamed unnamed
@@ -51,9 +49,9 @@ pub data SameConstant {r r' : List ℕ} (w : Twin r r') : Constant → Constant 
   both-message : {p p' : Span} → SameSpan w p p' → SameConstant w (Message p) (Message p')
   both-list : {p p' : Span} → SameSpan w p p' → SameConstant w (ListOf p) (ListOf p')
 
-pub data SameHeld {r r' : List ℕ} (w : Twin r r') : Held → Held → Type 0 where
-  both-nothing : SameHeld w NoConstant NoConstant
-  both-holds : {c c' : Constant} → SameConstant w c c' → SameHeld w (Holds c) (Holds c')
+pub data SameHeld {r r' : List ℕ} (w : Twin r r') : Option Constant → Option Constant → Type 0 where
+  both-nothing : SameHeld w None None
+  both-holds : {c c' : Constant} → SameConstant w c c' → SameHeld w (Some c) (Some c')
 
 pub data SameConstants {r r' : List ℕ} (w : Twin r r') : Constants → Constants → Type 0 where
   nones : SameConstants w none none
@@ -70,8 +68,8 @@ pub record SameOption {r r' : List ℕ} (w : Twin r r') (o o' : Option) : Type 0
 
 -- ---- one constant as it is written
 -- the bool of a byte
-abbrev byte_of : ℕ → Held
-byte_of n = elim (ltb 1 n) [ true ↦ NoConstant | false ↦ Holds (BoolOf (eqb n 1)) ]
+abbrev byte_of : ℕ → Option Constant
+byte_of n = elim (ltb 1 n) [ true ↦ None | false ↦ Some (BoolOf (eqb n 1)) ]
 
 module _ {r r' : List ℕ} (w : Twin r r') where
   integer-held : (b : ℕ) → SameConstant w (integer_of b) (integer_of b)
@@ -89,8 +87,8 @@ module _ {r r' : List ℕ} (w : Twin r r') where
       (by-test (SameHeld w) (eqb t float_tag) (both-holds (float-held b)) both-nothing))
 
   module _ {x x' y y' : ℕ} (h : SameSpan w (span x x') (span y y')) where
-    sized-held : (n : ℕ) {a a' : Held} → (x' - x ≡ n → SameHeld w a a')
-        → SameHeld w (elim (eqb (x' - x) n) [ true ↦ a | false ↦ NoConstant ]) (elim (eqb (y' - y) n) [ true ↦ a' | false ↦ NoConstant ])
+    sized-held : (n : ℕ) {a a' : Option Constant} → (x' - x ≡ n → SameHeld w a a')
+        → SameHeld w (elim (eqb (x' - x) n) [ true ↦ a | false ↦ None ]) (elim (eqb (y' - y) n) [ true ↦ a' | false ↦ None ])
     sized-held n k =
         by_cases (SameHeld w) (ap (λ (m : ℕ). eqb m n) (here-size w h.from h.to)) (λ b. k (eqb-true (x' - x) n b)) (λ _. both-nothing)
 
@@ -154,7 +152,7 @@ module _ {r r' : List ℕ} (w : Twin r r') where
       grown-same (both-message h) = messages n (pairs-same (walk_same w h)) rest
       grown-same (both-list h) = lists n (elements_same (walk_same w h)) rest
 
-      if-held-same : {c c' : Held} → SameHeld w c c' → SameConstants w (if_held f r l k c) (if_held f' r' l' k' c')
+      if-held-same : {c c' : Option Constant} → SameHeld w c c' → SameConstants w (if_held f r l k c) (if_held f' r' l' k' c')
       if-held-same both-nothing = rest
       if-held-same (both-holds h) = grown-same h
 
@@ -164,7 +162,7 @@ module _ {r r' : List ℕ} (w : Twin r r') where
       if-held-same (constant_in d r) (constant_in d r') (reader-same d) n rest (held_same h t)
 
   -- ---- an option
-  field-constant : {f f' : Field} → SameField w f f' → SameConstants w (constant_of_field r f) (constant_of_field r' f')
+  field-constant : {f f' : Option Field} → SameField w f f' → SameConstants w (constant_of_field r f) (constant_of_field r' f')
   field-constant both-cut = nones
   field-constant (both-whole {t} {x} {x'} {y} {y'} h) = reader-same most_constants unnamed unnamed both-unnamed t x x' y y' h none none nones
 

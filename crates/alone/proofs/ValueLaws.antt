@@ -4,7 +4,7 @@
 --     SameMade m m' <-> records are made of both, or of neither, for one reason
 --
 -- Assumes nothing.
-use Rattle.std.specs.Prelude.{◌≡◌, refl, List, ℕ, eqb}
+use Rattle.std.specs.Prelude.{◌≡◌, refl, List, ℕ, eqb, Err, Ok, Result}
 use Rattle.basis.specs.Kit.{ap}
 use mathlib.Core.Path.{subst}
 use lib.Ieee.{binary64, to_bits}
@@ -18,16 +18,12 @@ use Rattle.types.specs.Types.{TYPE_STRING, TYPE_BYTES, TYPE_ENUM, TYPE_MESSAGE}
 use Rattle.utf8.specs.Utf8.{is_utf8}
 use Rattle.sheet.specs.declared.declaration.Shape.{Shape}
 use Rattle.scope.specs.declared.lookup.LookupScope.{LookupScope}
-use Rattle.fullname.specs.declared.LookedUp.{LookedUp}
-use Rattle.fullname.specs.declared.LookedUp.TheVariants.{Message as Is, NoMessage}
 use Rattle.request.specs.declared.constant.Constant.{Constant}
 use Rattle.request.specs.Tree.{PairName, Constants}
 use Rattle.records.specs.declared.Body.{Body}
 use Rattle.records.specs.Records.{Recs}
 use Rattle.records.specs.Made.{Made, made, wrong, after, both, holding}
 use Rattle.lookups.specs.Lookups.{Lookups, field_named}
-use Rattle.scalars.specs.declared.Scalar.{Scalar}
-use Rattle.scalars.specs.declared.Scalar.TheVariants.{Fits, Misfit}
 use Rattle.scalars.specs.Scalars.{unsupported, bool_on, integer_on, float_on, string_on, among, ident_on, scalar_on}
 use Rattle.values.specs.Values.{made_of, Holder, on, within, Asked, field, passed, refused, asked, on_asked, reached, in_message}
 use Rattle.values.specs.Values.{scalar_made, records}
@@ -38,17 +34,17 @@ use Rattle.alone.proofs.Trees.{SameConstant, both-bool, both-integer, both-float
 use Rattle.alone.proofs.Trees.{both-text, both-ident, both-message, both-list}
 use Rattle.alone.proofs.Trees.{SameConstants, nones, scalars, messages, lists}
 
-pub data SameScalar : Scalar → Scalar → Type 0 where
-  both-fit : {b b' : Body} → SameScalar (Fits b) (Fits b')
-  both-misfit : (why : Refusal) → SameScalar (Misfit why) (Misfit why)
+pub data SameScalar : Result Body Refusal → Result Body Refusal → Type 0 where
+  both-fit : {b b' : Body} → SameScalar (Ok b) (Ok b')
+  both-misfit : (why : Refusal) → SameScalar (Err why) (Err why)
 
 pub data SameMade {W : Type 0} : Made W → Made W → Type 0 where
   both-made : {x y : Recs} → SameMade (made x) (made y)
   both-wrong : (why : W) → SameMade (wrong why) (wrong why)
 
-pub scalar-refl : (x : Scalar) → SameScalar x x
-scalar-refl (Fits b) = both-fit
-scalar-refl (Misfit why) = both-misfit why
+pub scalar-refl : (x : Result Body Refusal) → SameScalar x x
+scalar-refl (Ok b) = both-fit
+scalar-refl (Err why) = both-misfit why
 
 -- ---- records, one after the other and one in another
 module _ {W : Type 0} where
@@ -93,7 +89,7 @@ module _ {r r' : List ℕ} (w : Twin r r') (L : Lookups) (s : List ℕ) where
   scalar-same u h (both-message k) = scalar-refl unsupported
   scalar-same u h (both-list k) = scalar-refl unsupported
 
-  made-same : (h : Shape) {x x' : Scalar} → SameScalar x x' → SameMade (made_of r h x) (made_of r' h x')
+  made-same : (h : Shape) {x x' : Result Body Refusal} → SameScalar x x' → SameMade (made_of r h x) (made_of r' h x')
   made-same h both-fit = both-made
   made-same h (both-misfit why) = both-wrong why
 
@@ -119,10 +115,10 @@ module _ {r r' : List ℕ} (w : Twin r r') (L : Lookups) (s : List ℕ) where
       go passed = both-made
       go (refused why) = both-wrong why
 
-  reached-same : (n : ℕ) (u : LookedUp) {f f' : LookupScope → Made Refusal} → ((p : LookupScope) → SameMade (f p) (f' p))
+  reached-same : (n : ℕ) (u : Result LookupScope Refusal) {f f' : LookupScope → Made Refusal} → ((p : LookupScope) → SameMade (f p) (f' p))
       → SameMade (reached n u f) (reached n u f')
-  reached-same n (NoMessage why) k = both-wrong why
-  reached-same n (Is p) k = holding-same n (k p)
+  reached-same n (Err why) k = both-wrong why
+  reached-same n (Ok p) k = holding-same n (k p)
 
   message-same : {f f' : LookupScope → Made Refusal} → ((p : LookupScope) → SameMade (f p) (f' p))
       → (h : Shape) → SameMade (in_message L s h f) (in_message L s h f')

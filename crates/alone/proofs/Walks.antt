@@ -4,23 +4,22 @@
 --     SameWalk w u v <-> u and v are the same fields, and end alike
 --
 -- Assumes nothing.
-use Rattle.std.specs.Prelude.{◌≡◌, true, false, List, ℕ, zero, suc, ◌+◌, ◌-◌, ◌≤◌, ltb, get_or}
+use Rattle.std.specs.Prelude.{◌≡◌, true, false, List, ℕ, zero, suc, ◌+◌, ◌-◌, ◌≤◌, ltb, get_or, None, Some, Option}
 use Rattle.basis.specs.Kit.{sym}
 use Rattle.basis.proofs.Kit.{arith}
 use borrow.Author.Tests.{ltb-false}
 use Rattle.octets.specs.Octets.{big_at}
-use Rattle.field.specs.declared.Field.{Field}
-use Rattle.field.specs.declared.Field.TheVariants.{Whole, Cut}
 use Rattle.field.specs.declared.Span.{Span}
-use Rattle.field.specs.Field.{header, field_at}
+use Rattle.field.specs.Field.{header, field_at, field}
 use Rattle.field.specs.Leaf.{span}
 use Rattle.field.specs.Walk.{Walk, done, cut, step, walk_on, walk_for, walk_by, walk}
 use Rattle.alone.proofs.Tests.{by_cases, ltb-moved}
 use Rattle.alone.proofs.Windows.{Twin, Here, SameSpan, here-byte, here-add, here-big, here-less, here-size}
+use Rattle.field.specs.declared.Field.{Field}
 
-pub data SameField {r r' : List ℕ} (w : Twin r r') : Field → Field → Type 0 where
-  both-cut : SameField w Cut Cut
-  both-whole : {t x x' y y' : ℕ} → SameSpan w (span x x') (span y y') → SameField w (Whole t x x') (Whole t y y')
+pub data SameField {r r' : List ℕ} (w : Twin r r') : Option Field → Option Field → Type 0 where
+  both-cut : SameField w None None
+  both-whole : {t x x' y y' : ℕ} → SameSpan w (span x x') (span y y') → SameField w (Some (field t x x')) (Some (field t y y'))
 
 pub data SameWalk {r r' : List ℕ} (w : Twin r r') : Walk → Walk → Type 0 where
   dones : SameWalk w done done
@@ -45,15 +44,15 @@ module _ {r r' : List ℕ} (w : Twin r r') where
           ltb-moved x' (x + header + size) y' (y + header + size') w.first w.other k.moved (omega (arith, h.moved, size_same))
 
       whole_same : x + header + size ≤ x'
-          → SameField w (Whole (get_or r x 0) (x + header) (x + header + size)) (Whole (get_or r' y 0) (y + header) (y + header + size'))
+          → SameField w (Some (field (get_or r x 0) (x + header) (x + header + size))) (Some (field (get_or r' y 0) (y + header) (y + header + size')))
       whole_same m =
           let from = here-add w h header (omega (arith, k.ended)) in
           rw (size_same, ← here-byte w h (omega (arith, k.ended)))
           (both-whole (record { from = from; to = here-add w from size (omega (arith, k.ended)) }))
 
       long_same : SameField w
-          (elim (ltb x' (x + header + size)) [ true ↦ Cut | false ↦ Whole (get_or r x 0) (x + header) (x + header + size) ])
-          (elim (ltb y' (y + header + size')) [ true ↦ Cut | false ↦ Whole (get_or r' y 0) (y + header) (y + header + size') ])
+          (elim (ltb x' (x + header + size)) [ true ↦ None | false ↦ Some (field (get_or r x 0) (x + header) (x + header + size)) ])
+          (elim (ltb y' (y + header + size')) [ true ↦ None | false ↦ Some (field (get_or r' y 0) (y + header) (y + header + size')) ])
       long_same = by_cases (SameField w) less-same (λ _. both-cut) (λ b. whole_same (ltb-false x' (x + header + size) b))
 
     pub field-same : SameField w (field_at r x x') (field_at r' y y')
@@ -65,7 +64,7 @@ module _ {r r' : List ℕ} (w : Twin r r') where
 
   -- ---- fields in order
   module _ (after after' : ℕ → Walk) (more : (x y : ℕ) → Here w x y → SameWalk w (after x) (after' y)) where
-    follow-same : {f f' : Field} → SameField w f f' → SameWalk w (walk_on f after) (walk_on f' after')
+    follow-same : {f f' : Option Field} → SameField w f f' → SameWalk w (walk_on f after) (walk_on f' after')
     follow-same both-cut = cuts
     follow-same (both-whole {x'} {y'} h) = steps h (more x' y' h.to)
 

@@ -8,20 +8,18 @@
 --                        which has the fault that o has in r, or none where o has none
 --
 -- Assumes nothing.
-use Rattle.std.specs.Prelude.{◌≡◌, List, [], ◌∷◌, ◌++◌, ℕ, zero, suc, ◌-◌, length, take, Option, None, Some}
+use Rattle.std.specs.Prelude.{◌≡◌, List, [], ◌∷◌, ◌++◌, ℕ, zero, suc, ◌-◌, length, take, Option, None, Some, Ok}
 use Rattle.octets.specs.Octets.{part}
-use Rattle.reply.specs.declared.Verdict.TheVariants.{Fine}
 use Rattle.field.specs.Field.{header}
 use Rattle.field.specs.Leaf.{text}
 use Rattle.field.specs.Walk.{Walk, done, cut, step, walk}
-use Rattle.request.specs.declared.heading.Headed.{Headed}
-use Rattle.request.specs.declared.heading.Headed.TheVariants.{Heads, NoHeading}
 use Rattle.request.specs.Request as tree
 use Rattle.request.specs.Request.{heading_of, request_of}
 use Rattle.requestform.specs.Form.{judge_request}
 use Rattle.lookups.specs.Lookups.{Lookups, Message}
 use Rattle.faults.specs.declared.Fault.{Fault}
 use Rattle.options.specs.Settle.{Settled, known, others, fails, settle}
+use Rattle.request.specs.declared.heading.Heading.{Heading}
 
 abbrev pub field_bytes : (r : List ℕ) → Walk → (index : ℕ) → List ℕ
 field_bytes r done i = []
@@ -29,9 +27,9 @@ field_bytes r cut i = []
 field_bytes r (step t a e w) zero = part r (a - header) e
 field_bytes r (step t a e w) (suc i) = field_bytes r w i
 
-abbrev pub alone_with : (r : List ℕ) (option : ℕ) → Headed → List ℕ
-alone_with r i NoHeading = r
-alone_with r i (Heads h) = take h.options r ++ field_bytes r (walk r h.options (length r)) i
+abbrev pub alone_with : (r : List ℕ) (option : ℕ) → Option Heading → List ℕ
+alone_with r i None = r
+alone_with r i (Some h) = take h.options r ++ field_bytes r (walk r h.options (length r)) i
 
 unfoldable pub alone : (r : List ℕ) (option : ℕ) → List ℕ
 alone r i = alone_with r i (heading_of r)
@@ -42,7 +40,7 @@ fault_of (others x) = None
 fault_of (fails f) = Some f
 
 pub record Own (r : List ℕ) (i : ℕ) (o : tree.Option) : Type 0 where
-  pub fine : judge_request (alone r i) ≡ Fine
+  pub fine : judge_request (alone r i) ≡ Ok tt
   pub scope : text (alone r i) (request_of (alone r i)).scope ≡ text r (request_of r).scope
   pub type : text (alone r i) (request_of (alone r i)).options_type ≡ text r (request_of r).options_type
   pub own : tree.Option

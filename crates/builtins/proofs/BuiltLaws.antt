@@ -1,7 +1,7 @@
 -- What a builtin comes to: the ways through `put_builtin`; for callers, that its body lies in the request, and how many bytes its record
 -- has.
 -- Assumes nothing.
-use Rattle.std.specs.Prelude.{◌≡◌, refl, Bool, true, false, List, ℕ, ◌+◌, ◌-◌, ◌≤◌, eqb, length, drop, Option, None, Some}
+use Rattle.std.specs.Prelude.{◌≡◌, refl, Bool, true, false, List, ℕ, ◌+◌, ◌-◌, ◌≤◌, eqb, length, drop, Option, None, Some, Err, Ok, Result}
 use Rattle.basis.specs.Kit.{sym, ◌∙◌}
 use Rattle.basis.proofs.Kit.{arith}
 use Rattle.basis.proofs.Never.{never}
@@ -16,8 +16,6 @@ use Rattle.types.specs.Types.{is_any}
 use Rattle.sheet.specs.declared.declaration.Shape.{Shape}
 use Rattle.sheet.specs.declared.declaration.Declaration.{Declaration}
 use Rattle.request.specs.declared.constant.Constant.{Constant}
-use Rattle.request.specs.declared.constant.Held.{Held}
-use Rattle.request.specs.declared.constant.Held.TheVariants.{Holds, NoConstant}
 use Rattle.request.specs.Constant.{constant_of}
 use Rattle.request.specs.Tree.{unnamed, Constants, None as no_constant, ConstantReader, grown, if_held, constant_in}
 use Rattle.request.proofs.ConstantLaws.{text-span, span-place}
@@ -27,8 +25,6 @@ use Rattle.records.specs.Records.{nil, record_of, encode}
 use Rattle.records.specs.inner.Emits.{InBody, bytes_most}
 use Rattle.records.proofs.RecsLaws.{number-few, bytes-few}
 use Rattle.lookups.specs.Lookups.{Lookups, Message, field_named}
-use Rattle.scalars.specs.declared.Scalar.{Scalar}
-use Rattle.scalars.specs.declared.Scalar.TheVariants.{Fits, Misfit}
 use Rattle.scalars.specs.Scalars.{unsupported, scalar_on}
 use Rattle.scalars.proofs.BodyLaws.{bytes_of, body-inside}
 use Rattle.scalars.proofs.ReadLaws.{read-inside}
@@ -63,43 +59,43 @@ pub ruleset put-laws = (put-skipped, put_wrong, put-sets, put-inside)
 -- ---- for callers: the constant that a builtin is set by, as it was read from the request
 record Read (L : Lookups) (s r : List ℕ) (h : Shape) (t a e : ℕ) (b : Body) : Type 0 where
   constant : Constant
-  held : Holds constant ≡ constant_of r t a e
-  fits : Fits b ≡ scalar_on L s r UnsupportedExtensionType h constant
+  held : Some constant ≡ constant_of r t a e
+  fits : Ok b ≡ scalar_on L s r UnsupportedExtensionType h constant
 
 module _ (L : Lookups) (s r : List ℕ) (h : Shape) (b : Body) where
-  held_fits : (inner : ConstantReader) (c : Constant) → builtin_on L s r h (grown inner r unnamed no_constant c) ≡ Fits b
-      → scalar_on L s r UnsupportedExtensionType h c ≡ Fits b
+  held_fits : (inner : ConstantReader) (c : Constant) → builtin_on L s r h (grown inner r unnamed no_constant c) ≡ Ok b
+      → scalar_on L s r UnsupportedExtensionType h c ≡ Ok b
   held_fits inner c q = go (is_any h.typ plain) refl
     where
-      go : (z : Bool) → is_any h.typ plain ≡ z → scalar_on L s r UnsupportedExtensionType h c ≡ Fits b
+      go : (z : Bool) → is_any h.typ plain ≡ z → scalar_on L s r UnsupportedExtensionType h c ≡ Ok b
       go true p = held_plain L s r h inner c p ∙ q
-      go false p = let o : unsupported ≡ Fits b = held-other L s r h inner c p ∙ q in never cc
+      go false p = let o : unsupported ≡ Ok b = held-other L s r h inner c p ∙ q in never cc
 
-  on-read : (t a e : ℕ) (v : Held) → v ≡ constant_of r t a e
-      → builtin_on L s r h (if_held (inside r) r unnamed no_constant v) ≡ Fits b → Read L s r h t a e b
-  on-read t a e NoConstant q g = never cc
-  on-read t a e (Holds c) q g = record { constant = c; held = q; fits = sym (held_fits (inside r) c g) }
+  on-read : (t a e : ℕ) (v : Option Constant) → v ≡ constant_of r t a e
+      → builtin_on L s r h (if_held (inside r) r unnamed no_constant v) ≡ Ok b → Read L s r h t a e b
+  on-read t a e None q g = never cc
+  on-read t a e (Some c) q g = record { constant = c; held = q; fits = sym (held_fits (inside r) c g) }
 
   module _ (k : Constants) where
-    shape-sets : (x : Shape) (y : Scalar) → built_of x y ≡ Sets h b → (x ≡ h) × (y ≡ Fits b)
-    shape-sets x (Fits c) g = (cc, cc)
-    shape-sets x (Misfit w) g = never cc
+    shape-sets : (x : Shape) (y : Result Body Refusal) → built_of x y ≡ Sets h b → (x ≡ h) × (y ≡ Ok b)
+    shape-sets x (Ok c) g = (cc, cc)
+    shape-sets x (Err w) g = never cc
 
-    field-sets : (o : Option Declaration) → builtin_field L s r k o ≡ Sets h b → builtin_on L s r h k ≡ Fits b
+    field-sets : (o : Option Declaration) → builtin_field L s r k o ≡ Sets h b → builtin_on L s r h k ≡ Ok b
     field-sets None g = never cc
     field-sets (Some d) g = go (eqb d.shape.label repeated) _ g
       where
         go : (z : Bool) (w : Refusal) → elim z [ true ↦ Wrong w | false ↦ built_of d.shape (builtin_on L s r d.shape k) ] ≡ Sets h b
-            → builtin_on L s r h k ≡ Fits b
+            → builtin_on L s r h k ≡ Ok b
         go true w g = never cc
         go false w g = let y = shape-sets d.shape (builtin_on L s r d.shape k) g in rw y.0 at y.1
 
-    of-sets : (m : Message) (n : List ℕ) → builtin_of L s r m n k ≡ Sets h b → builtin_on L s r h k ≡ Fits b
+    of-sets : (m : Message) (n : List ℕ) → builtin_of L s r m n k ≡ Sets h b → builtin_on L s r h k ≡ Ok b
     unfolding builtin_of
     of-sets m n g = go (is_skipped m.name n) g
       where
         go : (z : Bool) → elim z [ true ↦ Skipped | false ↦ builtin_field L s r k (field_named s n m.place) ] ≡ Sets h b
-            → builtin_on L s r h k ≡ Fits b
+            → builtin_on L s r h k ≡ Ok b
         go true g = never cc
         go false g = field-sets (field_named s n m.place) g
 
@@ -110,7 +106,7 @@ module _ (L : Lookups) (s r : List ℕ) (h : Shape) (t a e : ℕ) where
   read-few (Bytes p) k =
       let c = k.constant in
       let o = bytes_of p L s r UnsupportedExtensionType h c (sym k.fits) in
-      let z = span-place r t a e (Holds c) k.held c refl p (text-span c p o) in
+      let z = span-place r t a e (Some c) k.held c refl p (text-span c p o) in
       rw z (omega (arith, bytes-few h.number h.typ (text r (span a e)), length-take (e - a) (drop a r)))
 
 module _ (L : Lookups) (s r : List ℕ) (m : Message) (n : List ℕ) (t a e : ℕ) where
@@ -128,7 +124,7 @@ module _ (L : Lookups) (s r : List ℕ) (m : Message) (n : List ℕ) (t a e : �
   built-inside (Sets h b) q i j =
       let k = read_of h b q in
       let c = k.constant in
-      body-inside L s r UnsupportedExtensionType h c (Fits b) k.fits b refl (read-inside r t a e i j (Holds c) k.held c refl)
+      body-inside L s r UnsupportedExtensionType h c (Ok b) k.fits b refl (read-inside r t a e i j (Some c) k.held c refl)
 
   pub built-few : (x : Built) → x ≡ builtin_of L s r m n (constant_in most_constants r unnamed t a e no_constant)
       → length (encode (built_recs r x)) ≤ bytes_most (3 + (e - a))

@@ -1,6 +1,6 @@
 -- Closed cases of builtins, which the checker computes: of each rule one that holds, one at its border, one just past it.
 -- Assumes nothing.
-use Rattle.std.specs.Prelude.{◌≡◌, refl, true, false, List, [], ◌∷◌, ◌++◌, map, ℕ, length, None, Some}
+use Rattle.std.specs.Prelude.{◌≡◌, refl, true, false, List, [], ◌∷◌, ◌++◌, map, ℕ, length, None, Some, Err, Ok, Result}
 use lib.ListN.{replicate}
 use Rattle.octets.specs.Octets.{same_bytes, big_at}
 use Rattle.octets.specs.Ascii.{ascii}
@@ -18,16 +18,15 @@ use Rattle.scope.proofs.Sample.{value}
 use Rattle.request.specs.declared.constant.Constant.{Constant}
 use Rattle.request.specs.declared.constant.Constant.TheVariants.{Bool as BoolOf, Integer, Text, Ident}
 use Rattle.request.specs.Tree.{unnamed, Constants, None as no_constant, scalar, message, list}
-use Rattle.fullname.specs.declared.LookedUpEnum.TheVariants.{Values}
 use Rattle.records.specs.declared.Body.TheVariants.{Bits, Bytes}
 use Rattle.lookups.specs.Lookups.{Lookups, walking}
-use Rattle.scalars.specs.declared.Scalar.{Scalar}
-use Rattle.scalars.specs.declared.Scalar.TheVariants.{Fits, Misfit}
 use Rattle.scalars.specs.Scalars.{is_small, is_signed, is_integer, most_of, pattern_of}
 use Rattle.scalars.specs.Scalars.{unsupported, integer_on, string_on, bool_on, ident_on, scalar_on}
 use Rattle.builtins.specs.declared.Built.{Built}
 use Rattle.builtins.specs.declared.Built.TheVariants.{Skipped, Sets, Wrong}
 use Rattle.builtins.specs.Builtins.{field_options, is_skipped, builtin_on, builtin_field, builtin_of}
+use Rattle.records.specs.declared.Body.{Body}
+use Rattle.reply.specs.declared.Refusal.{Refusal}
 
 -- an enum of a = 1 and b = 3, the one that any path names; a request of the bytes C3, A9 and the names `b` and `c`
 abbrev sheet : List ℕ
@@ -39,7 +38,7 @@ request = 195 ∷ 169 ∷ 98 ∷ 99 ∷ []
 abbrev one-enum : Lookups
 one-enum = record {
   message = (walking []).message;
-  enumeration = λ p. Values (span 0 (length sheet));
+  enumeration = λ p. Ok (span 0 (length sheet));
   extension = (walking []).extension;
 }
 
@@ -58,18 +57,18 @@ unfolding is_skipped same_bytes
 skipped = refl
 
 -- ---- constants on types: what fits, and a scalar that fits its type where a builtin has none such
-unfoldable on : ℕ → Constants → Scalar
+unfoldable on : ℕ → Constants → Result Body Refusal
 unfolding scalar_on bool_on string_on ident_on integer_on is_integer is_small is_signed most_of pattern_of widen32_of is_scalar utf8 point_of stands
     lead_of utf8_from is_utf8 value_in value_at leaf_at walk_by field_at same_bytes big_at
 on t c = builtin_on one-enum sheet request (shape 1 t) c
 
 fitting :
     on TYPE_BOOL (single (BoolOf true)) ∷ on TYPE_STRING (single (Text (span 0 2))) ∷ on TYPE_ENUM (single (Ident (span 2 3))) ∷ []
-    ≡ Fits (Bits 1) ∷ Fits (Bytes (span 0 2)) ∷ Fits (Bits 3) ∷ []
+    ≡ Ok (Bits 1) ∷ Ok (Bytes (span 0 2)) ∷ Ok (Bits 3) ∷ []
 unfolding on
 fitting = refl
 
-no_text : on TYPE_STRING (single (Text (span 0 1))) ≡ Misfit StrLitDecodeError
+no_text : on TYPE_STRING (single (Text (span 0 1))) ≡ Err StrLitDecodeError
 unfolding on
 no_text = refl
 

@@ -8,7 +8,7 @@
 --       built_recs r b ==  the record of a builtin that is set
 --
 -- Assumes nothing.
-use Rattle.std.specs.Prelude.{Bool, true, false, ◌&&◌, ◌||◌, List, [], ◌∷◌, ℕ, eqb, Option, None, Some}
+use Rattle.std.specs.Prelude.{Bool, true, false, ◌&&◌, ◌||◌, List, [], ◌∷◌, ℕ, eqb, Option, None, Some, Err, Ok, Result}
 use Rattle.octets.specs.Octets.{same_bytes}
 use Rattle.octets.specs.Ascii.{ascii}
 use Rattle.reply.specs.declared.Refusal.TheVariants.{BuiltinOptionNotFound, BuiltinOptionPointsToNonSingularField}
@@ -19,11 +19,11 @@ use Rattle.sheet.specs.declared.declaration.Declaration.{Declaration}
 use Rattle.request.specs.Tree.{Constants, None as no_constant, scalar, message, list}
 use Rattle.records.specs.Records.{Recs, nil, record_of}
 use Rattle.lookups.specs.Lookups.{Lookups, Message, field_named}
-use Rattle.scalars.specs.declared.Scalar.{Scalar}
-use Rattle.scalars.specs.declared.Scalar.TheVariants.{Fits, Misfit}
 use Rattle.scalars.specs.Scalars.{scalar_on, unsupported}
 use Rattle.builtins.specs.declared.Built.{Built}
 use Rattle.builtins.specs.declared.Built.TheVariants.{Skipped, Sets, Wrong}
+use Rattle.records.specs.declared.Body.{Body}
+use Rattle.reply.specs.declared.Refusal.{Refusal}
 
 -- descriptor.proto's label LABEL_REPEATED
 abbrev pub repeated : ℕ
@@ -36,14 +36,14 @@ field_options = ascii "google.protobuf.FieldOptions"
 unfoldable pub is_skipped : (message name : List ℕ) → Bool
 is_skipped m n = same_bytes m field_options && (same_bytes n (ascii "default") || same_bytes n (ascii "json_name"))
 
-abbrev pub built_of : Shape → Scalar → Built
-built_of h (Misfit w) = Wrong w
-built_of h (Fits b) = Sets h b
+abbrev pub built_of : Shape → Result Body Refusal → Built
+built_of h (Err w) = Wrong w
+built_of h (Ok b) = Sets h b
 
 module _ (L : Lookups) (s r : List ℕ) where
   -- "be bool, enum or string with a matching constant; a misfit or unlisted enum name is 12, a string not UTF-8 is 15" [BUILTIN-4,
   -- BUILTIN-5, BUILTIN-6]
-  abbrev pub builtin_on : Shape → Constants → Scalar
+  abbrev pub builtin_on : Shape → Constants → Result Body Refusal
   builtin_on h no_constant = unsupported
   builtin_on h (scalar n c rest) = elim (is_any h.typ (TYPE_BOOL ∷ TYPE_ENUM ∷ TYPE_STRING ∷ [])) [
     | true ↦ scalar_on L s r UnsupportedExtensionType h c

@@ -17,10 +17,10 @@ use field::Span;
 use octets::same;
 use records::{Body, put_record};
 use reply::Refusal;
-use request::constant::{Held, constant_of};
-use scalars::{Scalar, scalar_on};
+use request::constant::constant_of;
+use scalars::scalar_on;
 use scope::lookup::LookupScope;
-use sheet::declaration::{Declaration, Declared, Shape};
+use sheet::declaration::{Declaration, Shape};
 use types::{TYPE_BOOL, TYPE_ENUM, TYPE_STRING};
 
 // What a builtin comes to: nothing is asked of it, it sets its field, or why not.
@@ -50,14 +50,14 @@ fn is_plain(typ: usize) -> bool
 }
 
 // The constant of this tag whose payload is from..to, on a builtin of that shape.
-fn builtin_on(sheet: &[u8], request: &[u8], shape: Shape, tag: u8, from: usize, to: usize) -> Scalar
+fn builtin_on(sheet: &[u8], request: &[u8], shape: Shape, tag: u8, from: usize, to: usize) -> Result<Body, Refusal>
     requires lies { Lies shape.path sheet.now }
     requires from_le_to { (from ≤ to) × (to ≤ length request.now) }
     ensures { result ≡ builtin_on (walking sheet.now) sheet.now request.now shape
         (constant_in most_constants request.now unnamed tag from to no_constant) }
 {
-    let Held::Holds(constant) = constant_of(request, tag, from, to) else {
-        return Scalar::Misfit(Refusal::UnsupportedExtensionType);
+    let Some(constant) = constant_of(request, tag, from, to) else {
+        return Err(Refusal::UnsupportedExtensionType);
     };
     if is_plain(octets::wide(shape.typ)) {
         return scalar_on(
@@ -68,7 +68,7 @@ fn builtin_on(sheet: &[u8], request: &[u8], shape: Shape, tag: u8, from: usize, 
             constant,
         );
     }
-    Scalar::Misfit(Refusal::UnsupportedExtensionType)
+    Err(Refusal::UnsupportedExtensionType)
 }
 
 // The same on the field that was found.
@@ -90,8 +90,8 @@ fn builtin_field(
         return Built::Wrong(Refusal::BuiltinOptionPointsToNonSingularField);
     }
     match builtin_on(sheet, request, shape, tag, from, to) {
-        Scalar::Fits(body) => Built::Sets(shape, body),
-        Scalar::Misfit(why) => Built::Wrong(why),
+        Ok(body) => Built::Sets(shape, body),
+        Err(why) => Built::Wrong(why),
     }
 }
 
@@ -118,7 +118,7 @@ pub fn builtin_of(
     if is_skipped(message, &request[a..e]) {
         return Built::Skipped;
     }
-    let Declared::Declares(found) = lookups::field_named(sheet, place, &request[a..e]) else {
+    let Some(found) = lookups::field_named(sheet, place, &request[a..e]) else {
         return Built::Wrong(Refusal::BuiltinOptionNotFound);
     };
     builtin_field(sheet, request, found, tag, from, to)

@@ -5,7 +5,7 @@
 --       file_asked m x o s t a e == how many are in a field of a sheet
 --
 -- Assumes nothing.
-use Rattle.std.specs.Prelude.{◌≡◌, refl, Bool, true, false, ◌&&◌, List, [], ℕ, ◌+◌, ◌-◌, ◌*◌, ◌≤◌, ◌<◌, eqb, ltb, length}
+use Rattle.std.specs.Prelude.{◌≡◌, refl, Bool, true, false, ◌&&◌, List, [], ℕ, ◌+◌, ◌-◌, ◌*◌, ◌≤◌, ◌<◌, eqb, ltb, length, None, Some, Option}
 use Rattle.basis.specs.Kit.{ap, ◌∙◌}
 use Rattle.basis.proofs.Kit.{arith, not-true, not-false, w64, Fits}
 use Rattle.basis.proofs.Never.{never}
@@ -14,9 +14,7 @@ use borrow.Author.Tests.{ltb-true, ltb-false, eqb-true}
 use mir.Facts.{Fits-le}
 use Rattle.limits.specs.Figures.{most_messages}
 use Rattle.octets.specs.Octets.{part}
-use Rattle.field.specs.declared.Leaf.{Leaf}
-use Rattle.field.specs.declared.Leaf.TheVariants.{At, Not}
-use Rattle.field.specs.Leaf.{any_bytes, leaf_at}
+use Rattle.field.specs.Leaf.{any_bytes, leaf_at, span}
 use Rattle.field.specs.Walk.{Walk, done, cut, step, walk}
 use Rattle.field.proofs.LeafLaws.{leaf-bounds, leaf-inside, leaf-ordered, leaf-within}
 use Rattle.field.proofs.Tally.{Tally, total, tally-start, tally-laws}
@@ -38,6 +36,7 @@ use Rattle.census.specs.inner.Census.{items_asked, files_asked}
 use Rattle.census.proofs.BearersLaws.{bearers-is, open-whole}
 use Rattle.census.proofs.NumbersLaws.{numbered_is}
 use Rattle.census.proofs.OtherLaws.{none-few}
+use Rattle.field.specs.declared.Span.{Span}
 
 abbrev pub item_asked : (m : List ℕ) (x : Asked) (o s : List ℕ) (w : Way) (left tag from to : ℕ) → ℕ
 item_asked m x o s w d t a e = items_asked m x o s w (item_at d s t a e)
@@ -136,7 +135,7 @@ module _ (m : List ℕ) (x : Asked) (o s : List ℕ) (w : Way) (d t a e : ℕ) w
       → y ≡ items_asked m x o s w (item_at d s t a e)
   in-item-other h y p = p ∙ ap (items_asked m x o s w) (level-other d s t a e h)
 
-  module _ (h : (eqb t message_tag && ltb 0 d) ≡ true) (r : Leaf) (q : r ≡ leaf_at name_tag any_bytes s a e) where
+  module _ (h : (eqb t message_tag && ltb 0 d) ≡ true) (r : Option Span) (q : r ≡ leaf_at name_tag any_bytes s a e) where
     is-message : t ≡ message_tag
     is-message = go (eqb t message_tag) refl h
       where
@@ -144,24 +143,24 @@ module _ (m : List ℕ) (x : Asked) (o s : List ℕ) (w : Way) (d t a e : ℕ) w
         go true q h = eqb-true t message_tag q
         go false q h = never cc
 
-    pub in-item-unnamed : r ≡ Not → 0 ≡ items_asked m x o s w (item_at d s t a e)
+    pub in-item-unnamed : r ≡ None → 0 ≡ items_asked m x o s w (item_at d s t a e)
     in-item-unnamed g = rw (item-message (message_in d s) s t a e none is-message, message-unnamed d s a e none r q g)
 
-    pub in-item-named : (n b : ℕ) → r ≡ At n b → (v : Way) → v ≡ onward m w (part s n b)
-        → (y : ℕ) → y ≡ own x message_tag v → (u : ℕ) → u ≡ items_asked m x o s v (items_in (d - 1) s (walk s b e))
+    pub in-item-named : (l : Span) → r ≡ Some l → (v : Way) → v ≡ onward m w (part s l.from l.to)
+        → (y : ℕ) → y ≡ own x message_tag v → (u : ℕ) → u ≡ items_asked m x o s v (items_in (d - 1) s (walk s l.to e))
         → y + u ≡ items_asked m x o s w (item_at d s t a e)
-    in-item-named n b g v k y p u p' =
+    in-item-named l g v k y p u p' =
         let z : d ≡ 0 → ⊥ = λ z. omega (arith, level-left d t (rw h)) in
-        rw (item-message (message_in d s) s t a e none is-message, message-named d s a e none z r q n b g, p, p', k) (omega arith)
+        rw (item-message (message_in d s) s t a e none is-message, message-named d s a e none z r q l.from l.to g, p, p', k) (omega arith)
 
 -- a message itself, and what it holds
-module _ (s : List ℕ) (a e : ℕ) (r : Leaf) (q : r ≡ leaf_at name_tag any_bytes s a e) (n b : ℕ) (g : r ≡ At n b) (y u : ℕ) (h : y ≤ 1)
-    (k : u ≤ e - b) where
+module _ (s : List ℕ) (a e : ℕ) (r : Option Span) (q : r ≡ leaf_at name_tag any_bytes s a e) (p : Span) (g : r ≡ Some p) (y u : ℕ) (h : y ≤ 1)
+    (k : u ≤ e - p.to) where
   pub message-few : y + u ≤ e - a + 1
-  message-few = let x = leaf-bounds name_tag any_bytes s a e r q n b g in omega (arith, x.starts, x.ordered, x.inside)
+  message-few = let x = leaf-bounds name_tag any_bytes s a e r q p g in omega (arith, x.starts, x.ordered, x.inside)
 
   pub message-fits : Fits w64 e → Fits w64 (y + u)
-  message-fits = let x = leaf-bounds name_tag any_bytes s a e r q n b g in Fits-le (omega (arith, x.starts, x.ordered, x.inside))
+  message-fits = let x = leaf-bounds name_tag any_bytes s a e r q p g in Fits-le (omega (arith, x.starts, x.ordered, x.inside))
 
 pub ruleset in-item-laws = (
   in-item-other,
@@ -192,22 +191,22 @@ pub ruleset in-items-laws = (items-start, open-counts, open-few, tally-laws)
 
 -- ---- in_file
 -- what stands after a package counts for no more than its bytes
-pub file-few : (s : List ℕ) (a e : ℕ) (r : Leaf) → r ≡ leaf_at package_tag any_bytes s a e → (n b : ℕ) → r ≡ At n b
-    → (y : ℕ) → y ≤ e - b → y ≤ e - a + 1
-file-few s a e r q n b g y h =
-    let x = leaf-bounds package_tag any_bytes s a e r q n b g in omega (arith, x.starts, x.ordered, x.inside)
+pub file-few : (s : List ℕ) (a e : ℕ) (r : Option Span) → r ≡ leaf_at package_tag any_bytes s a e → (p : Span) → r ≡ Some p
+    → (y : ℕ) → y ≤ e - p.to → y ≤ e - a + 1
+file-few s a e r q p g y h =
+    let x = leaf-bounds package_tag any_bytes s a e r q p.from p.to g in omega (arith, x.starts, x.ordered, x.inside)
 
 module _ (m : List ℕ) (x : Asked) (o s : List ℕ) (t a e : ℕ) where
   pub in-file-other : (t ≡ file_tag → ⊥) → 0 ≡ files_asked m x o s (file_at s t a e)
   in-file-other h = rw (file-other s t a e [] h)
 
-  module _ (h : t ≡ file_tag) (r : Leaf) (q : r ≡ leaf_at package_tag any_bytes s a e) where
-    pub in-file-unnamed : r ≡ Not → 0 ≡ files_asked m x o s (file_at s t a e)
+  module _ (h : t ≡ file_tag) (r : Option Span) (q : r ≡ leaf_at package_tag any_bytes s a e) where
+    pub in-file-unnamed : r ≡ None → 0 ≡ files_asked m x o s (file_at s t a e)
     in-file-unnamed g = rw (file-unnamed s t a e [] h r q g)
 
-    pub in-file-named : (n b : ℕ) → r ≡ At n b → (v : Way) → v ≡ file_way m (part s n b)
-        → (y : ℕ) → y ≡ items_asked m x o s v (items_in most_messages s (walk s b e)) → y ≡ files_asked m x o s (file_at s t a e)
-    in-file-named n b g v u y p = rw (file-named s t a e [] h r q n b g, p, u) (omega arith)
+    pub in-file-named : (l : Span) → r ≡ Some l → (v : Way) → v ≡ file_way m (part s l.from l.to)
+        → (y : ℕ) → y ≡ items_asked m x o s v (items_in most_messages s (walk s l.to e)) → y ≡ files_asked m x o s (file_at s t a e)
+    in-file-named l g v u y p = rw (file-named s t a e [] h r q l.from l.to g, p, u) (omega arith)
 
 pub ruleset in-file-laws = (in-file-other, in-file-unnamed, in-file-named, none-few, file-few, leaf-inside, leaf-ordered, leaf-within)
 

@@ -1,16 +1,12 @@
 -- The laws of what one declaration counts for: the ways through the functions that look at no message.
 -- Assumes nothing.
-use Rattle.std.specs.Prelude.{◌≡◌, refl, true, false, List, ℕ, ◌≤◌, length}
+use Rattle.std.specs.Prelude.{◌≡◌, refl, true, false, List, ℕ, ◌≤◌, length, None, Some, Option}
 use Rattle.basis.specs.Kit.{sym, ◌∙◌}
 use Rattle.basis.proofs.Kit.{arith, not-true, not-false}
 use Rattle.basis.proofs.Never.{never}
-use Rattle.field.specs.declared.Leaf.{Leaf}
-use Rattle.field.specs.declared.Leaf.TheVariants.{At, Not}
 use Rattle.field.specs.Leaf.{span, text, any_bytes, on_leaf, leaf_at}
 use Rattle.field.proofs.LeafLaws.{leaf-bounds}
 use Rattle.sheet.specs.declared.declaration.Declaration.{Declaration}
-use Rattle.sheet.specs.declared.declaration.Declared.{Declared}
-use Rattle.sheet.specs.declared.declaration.Declared.TheVariants.{Declares, NoDeclaration}
 use Rattle.sheet.specs.Table.{extension_tag, enum_tag, field_tag, name_tag}
 use Rattle.sheet.specs.Declaration.{extension_at, message_field_at}
 use Rattle.sheet.specs.Tree.{none, enum_in, message_in}
@@ -28,6 +24,7 @@ use Rattle.census.specs.declared.Asked.{Asked}
 use Rattle.census.specs.declared.Asked.TheVariants.{Bearers, Numbers}
 use Rattle.census.specs.inner.Census.{AskedOf, asked-numbers, onward, wanted, own, named}
 use Rattle.census.specs.inner.Census.{items_asked}
+use Rattle.field.specs.declared.Span.{Span}
 
 -- nothing is never too many
 pub none-few : (k : ℕ) → 0 ≤ k
@@ -63,51 +60,51 @@ pub ruleset own-laws = (own-numbers, own-unwanted, own-wanted, own-within, own-o
 
 -- ---- name_at
 module _ (s : List ℕ) (t a e : ℕ) where
-  pub name-enum : t ≡ enum_tag → (r : Leaf) → r ≡ leaf_at name_tag any_bytes s a e → r ≡ named (item_at 0 s t a e)
+  pub name-enum : t ≡ enum_tag → (r : Option Span) → r ≡ leaf_at name_tag any_bytes s a e → r ≡ named (item_at 0 s t a e)
   name-enum h r q = rw (item-enum (message_in 0 s) s t a e none h) (go r q)
     where
-      go : (r : Leaf) → r ≡ leaf_at name_tag any_bytes s a e → r ≡ named (enum_in s a e none)
-      go Not q = rw (enum-unnamed s a e none Not q refl)
-      go (At n b) q = rw (enum-named s a e none (At n b) q n b refl)
+      go : (r : Option Span) → r ≡ leaf_at name_tag any_bytes s a e → r ≡ named (enum_in s a e none)
+      go None q = rw (enum-unnamed s a e none None q refl)
+      go (Some place) q = rw (enum-named s a e none (Some (span place.from place.to)) q place refl)
 
-  pub name-other : (t ≡ enum_tag → ⊥) → (t ≡ extension_tag → ⊥) → Not ≡ named (item_at 0 s t a e)
+  pub name-other : (t ≡ enum_tag → ⊥) → (t ≡ extension_tag → ⊥) → None ≡ named (item_at 0 s t a e)
   name-other h g =
-      item-cases (λ f. Not ≡ named (f none)) s a e refl 0 t
+      item-cases (λ f. None ≡ named (f none)) s a e refl 0 t
       (λ _ _ _ _ _. refl) (λ y. absurd (g y)) (λ y. absurd (h y)) (λ _ _ _. refl)
 
-  module _ (h : t ≡ extension_tag) (r : Declared) (q : r ≡ extension_at s a e) where
-    pub name-none : r ≡ NoDeclaration → Not ≡ named (item_at 0 s t a e)
+  module _ (h : t ≡ extension_tag) (r : Option Declaration) (q : r ≡ extension_at s a e) where
+    pub name-none : r ≡ None → None ≡ named (item_at 0 s t a e)
     name-none g = rw (item-no-extension (message_in 0 s) s t a e none h r q g)
 
-    pub name-extension : (y : Declaration) → r ≡ Declares y → At y.name.from y.name.to ≡ named (item_at 0 s t a e)
+    pub name-extension : (y : Declaration) → r ≡ Some y → Some (span y.name.from y.name.to) ≡ named (item_at 0 s t a e)
     name-extension y g = rw (item-extension (message_in 0 s) s t a e none h r q y g)
 
 pub ruleset name-laws = (name-enum, name-other, name-none, name-extension)
 
 -- ---- bears
-module _ (s : List ℕ) (t a e : ℕ) (r : Leaf) (q : r ≡ named (item_at 0 s t a e)) where
-  name-lies : (n b : ℕ) → r ≡ At n b → Lying e n b
-  name-lies n b g =
-      item-cases (λ f. named (f none) ≡ At n b → Lying e n b) s a e (λ u. never cc) 0 t
+module _ (s : List ℕ) (t a e : ℕ) (r : Option Span) (q : r ≡ named (item_at 0 s t a e)) where
+  name-lies : (l : Span) → r ≡ Some l → Lying e l.from l.to
+  name-lies l g =
+      item-cases (λ f. named (f none) ≡ Some l → Lying e l.from l.to) s a e (λ u. never cc) 0 t
       (λ _ z. absurd (z refl))
-      (λ _ y p u. let v : y.name.from ≡ n = cc in let v' : y.name.to ≡ b = cc in rw (v, v') at (extension-places s a e y (sym p)).name)
+      (λ _ y p u. let v : y.name.from ≡ l.from = cc in let v' : y.name.to ≡ l.to = cc in rw (v, v') at (extension-places s a e y (sym p)).name)
       (λ _ n' b' p u.
-      let v : leaf_at name_tag any_bytes s a e ≡ At n b = cc in
-      let x = leaf-bounds name_tag any_bytes s a e _ refl n b v in record { ordered = x.ordered; inside = x.inside })
+      let v : leaf_at name_tag any_bytes s a e ≡ Some l = cc in
+      let x = leaf-bounds name_tag any_bytes s a e _ refl l.from l.to v in record { ordered = x.ordered; inside = x.inside })
       (λ _ _ _ u. never cc)
       (sym q ∙ g)
 
-  pub name-ordered : (n b : ℕ) → r ≡ At n b → n ≤ b
-  name-ordered n b g = (name-lies n b g).ordered
+  pub name-ordered : (p : Span) → r ≡ Some p → p.from ≤ p.to
+  name-ordered p g = (name-lies p.from p.to g).ordered
 
-  pub name-within : (n b : ℕ) → r ≡ At n b → e ≤ length s → b ≤ length s
-  name-within n b g h = let z = name-lies n b g in omega (arith, z.inside)
+  pub name-within : (p : Span) → r ≡ Some p → e ≤ length s → p.to ≤ length s
+  name-within p g h = let z = name-lies p.from p.to g in omega (arith, z.inside)
 
-  pub bears-none : (f : ℕ → ℕ → ℕ) → r ≡ Not → 0 ≡ on_leaf 0 (named (item_at 0 s t a e)) f
+  pub bears-none : (f : ℕ → ℕ → ℕ) → r ≡ None → 0 ≡ on_leaf 0 (named (item_at 0 s t a e)) f
   bears-none f g = rw (← q, g)
 
-  pub bears-some : (n b : ℕ) → r ≡ At n b → (f : ℕ → ℕ → ℕ) (y : ℕ) → y ≡ f n b → y ≡ on_leaf 0 (named (item_at 0 s t a e)) f
-  bears-some n b g f y p = rw (← q, g) p
+  pub bears-some : (u : Span) → r ≡ Some u → (f : ℕ → ℕ → ℕ) (y : ℕ) → y ≡ f u.from u.to → y ≡ on_leaf 0 (named (item_at 0 s t a e)) f
+  bears-some u g f y p = rw (← q, g) p
 
 pub bears-own : (x : Asked) (g : ℕ) (m : List ℕ) (w : Way) (n : List ℕ) (v : Way) → v ≡ onward m w n → (y : ℕ) → y ≡ own x g v
     → y ≡ own x g (onward m w n)
@@ -138,19 +135,19 @@ module _ (m : List ℕ) (x : Asked) (o s : List ℕ) (w : Way) (t a e : ℕ) whe
         → y ≡ items_asked m x o s w (item_at 0 s t a e)
     in-other-extension g y p = rw h (go (extension_at s a e) refl p)
       where
-        go : (r : Declared) → r ≡ extension_at s a e → y ≡ declared_likes (extension_likes m l o s) r
+        go : (r : Option Declaration) → r ≡ extension_at s a e → y ≡ declared_likes (extension_likes m l o s) r
             → y ≡ items_asked m (Numbers l) o s w (item_at 0 s t a e)
-        go NoDeclaration q p = rw (item-no-extension (message_in 0 s) s t a e none g NoDeclaration q refl) p
-        go (Declares z) q p = rw (item-extension (message_in 0 s) s t a e none g (Declares z) q z refl) (omega (arith, p))
+        go None q p = rw (item-no-extension (message_in 0 s) s t a e none g None q refl) p
+        go (Some z) q p = rw (item-extension (message_in 0 s) s t a e none g (Some z) q z refl) (omega (arith, p))
 
     pub in-other-field : t ≡ field_tag → (y : ℕ) → y ≡ declared_likes (field_likes l o s w) (message_field_at s a e)
         → y ≡ items_asked m x o s w (item_at 0 s t a e)
     in-other-field g y p = rw h (go (message_field_at s a e) refl p)
       where
-        go : (r : Declared) → r ≡ message_field_at s a e → y ≡ declared_likes (field_likes l o s w) r
+        go : (r : Option Declaration) → r ≡ message_field_at s a e → y ≡ declared_likes (field_likes l o s w) r
             → y ≡ items_asked m (Numbers l) o s w (item_at 0 s t a e)
-        go NoDeclaration q p = rw (item-no-field (message_in 0 s) s t a e none g NoDeclaration q refl) p
-        go (Declares z) q p = rw (item-field (message_in 0 s) s t a e none g (Declares z) q z refl) (omega (arith, p))
+        go None q p = rw (item-no-field (message_in 0 s) s t a e none g None q refl) p
+        go (Some z) q p = rw (item-field (message_in 0 s) s t a e none g (Some z) q z refl) (omega (arith, p))
 
     -- the name of an enum counts for no number
     pub in-other-none : (t ≡ extension_tag → ⊥) → (t ≡ field_tag → ⊥) → 0 ≡ items_asked m x o s w (item_at 0 s t a e)

@@ -12,12 +12,12 @@ ghost use Rattle.likeness.specs.inner.Likes.{Placed};
 ghost use Rattle.census.specs.inner.Census.{bearing, numbered as numbered_of, AskedOf, Reaches, onward as onward_of, file_way};
 ghost use Rattle.census.specs.inner.Census.{own as own_of, open_to, named, items_asked, files_asked};
 
-use field::{Field, Leaf, Span, field_at, leaf_at};
+use field::{Field, Span, field_at, leaf_at};
 use likeness::{Like, Way, in_extension, in_field};
 use limits::MOST_MESSAGES;
 use names::leads;
 use octets::same;
-use sheet::declaration::{Declared, extension_at};
+use sheet::declaration::extension_at;
 use sheet::table;
 
 // Every kind of declaration: no tag of 01's table.
@@ -85,7 +85,7 @@ fn open_to(asked: Asked, way: Way, body: Span) -> usize
 }
 
 // Where the name of an enum or an extension stands.
-fn name_at(s: &[u8], tag: u8, item: Span) -> Leaf
+fn name_at(s: &[u8], tag: u8, item: Span) -> Option<Span>
     requires { Lies item s.now }
     ensures { result ≡ named (item_at 0 s.now tag item.from item.to) }
 {
@@ -93,15 +93,15 @@ fn name_at(s: &[u8], tag: u8, item: Span) -> Leaf
         return leaf_at(s, item.from, item.to, table::NAME);
     }
     if tag != table::EXTENSION {
-        return Leaf::Not;
+        return None;
     }
-    let Declared::Declares(d) = extension_at(s, item.from, item.to) else {
-        return Leaf::Not;
+    let Some(d) = extension_at(s, item.from, item.to) else {
+        return None;
     };
-    Leaf::At {
+    Some(Span {
         from: d.name.from,
         to: d.name.to,
-    }
+    })
 }
 
 // 1 where an enum or an extension in a scope that stands so bears the full name, and such ones are asked for.
@@ -111,7 +111,7 @@ fn bears(s: &[u8], tag: u8, item: Span, text: &[u8], way: Way, asked: Asked) -> 
     ensures { (result ≡ on_leaf 0 (named (item_at 0 s.now tag item.from item.to))
         λ n b. own_of asked tag (onward_of text.now way (text_of s.now (span n b)))) × (result ≤ 1) }
 {
-    let Leaf::At { from, to } = name_at(s, tag, item) else {
+    let Some(Span { from, to }) = name_at(s, tag, item) else {
         return 0;
     };
     let next = onward(text, way, &s[from..to]);
@@ -159,7 +159,7 @@ fn in_item(
     if !((tag == table::MESSAGE) & (0 < left)) {
         return in_other(s, tag, item, text, way, o, asked);
     }
-    let Leaf::At { from, to: body } = leaf_at(s, item.from, item.to, table::NAME) else {
+    let Some(Span { from, to: body }) = leaf_at(s, item.from, item.to, table::NAME) else {
         return 0;
     };
     let inside = Span {
@@ -191,7 +191,7 @@ fn in_items(
     let mut n = 0;
     let mut p = body.from;
     while p < end {
-        let Field::Whole { tag, from, to } = field_at(s, p, end) else {
+        let Some(Field { tag, from, to }) = field_at(s, p, end) else {
             return n;
         };
         let item = Span { from: from, to: to };
@@ -225,7 +225,7 @@ fn in_file(s: &[u8], tag: u8, item: Span, text: &[u8], o: &[u8], asked: Asked) -
     if tag != table::FILE {
         return 0;
     }
-    let Leaf::At { from, to: body } = leaf_at(s, item.from, item.to, table::PACKAGE) else {
+    let Some(Span { from, to: body }) = leaf_at(s, item.from, item.to, table::PACKAGE) else {
         return 0;
     };
     let inside = Span {
@@ -245,7 +245,7 @@ fn in_files(s: &[u8], text: &[u8], o: &[u8], asked: Asked) -> usize
     let mut n = 0;
     let mut p = 0;
     while p < end {
-        let Field::Whole { tag, from, to } = field_at(s, p, end) else {
+        let Some(Field { tag, from, to }) = field_at(s, p, end) else {
             return n;
         };
         let item = Span { from: from, to: to };

@@ -3,10 +3,8 @@
 --   Fills r room <-> the bytes that were read lie within the room
 --
 -- Assumes nothing.
-use Rattle.std.specs.Prelude.{ℕ, ◌≤◌}
-use Rattle.console.specs.declared.input.Input.{Input}
-use Rattle.console.specs.declared.input.Input.TheVariants as input
+use Rattle.std.specs.Prelude.{ℕ, ◌≤◌, None, Some, Option}
 
-abbrev pub Fills : Input → ℕ → Type 0
-Fills (input.Bytes n) room = n ≤ room
-Fills input.Wrong room = Unit
+abbrev pub Fills : Option ℕ → ℕ → Type 0
+Fills (Some n) room = n ≤ room
+Fills None room = Unit

@@ -5,7 +5,6 @@ ghost use Rattle.field.specs.Leaf.{any_bytes, leaf_at};
 ghost use Rattle.console.specs.Input.{Fills};
 
 use crate::output::{hex_byte, number, text};
-use field::Leaf;
 use hexadecimal::digits::{Decoded, decode};
 use inputs::due::{Due, due_at, due_leaf};
 
@@ -15,15 +14,8 @@ pub const MOST_BYTES: usize = 131_076;
 // The text that is read, one byte more than is taken. The digits of MOST_BYTES bytes are 262,152; the rest is for blanks.
 const MOST_TEXT: usize = 524_288;
 
-#[derive(Clone, Copy)]
-pub enum Input {
-    // So many bytes of the buffer.
-    Bytes(usize),
-    Wrong,
-}
-
 // Standard input, decoded into a lent buffer.
-pub fn read(out: &mut [u8]) -> Input
+pub fn read(out: &mut [u8]) -> Option<usize>
     ensures { Fills result (length out.new) }
 {
     let mut buffer = [0u8; MOST_TEXT];
@@ -31,37 +23,37 @@ pub fn read(out: &mut [u8]) -> Input
 }
 
 // The same, by a buffer that holds a byte more than the longest text that is taken.
-fn read_by(buffer: &mut [u8], out: &mut [u8]) -> Input
+fn read_by(buffer: &mut [u8], out: &mut [u8]) -> Option<usize>
     ensures { Fills result (length out.new) }
 {
     let n = io::read_full(0, buffer);
     if n == buffer.len() {
         too_much(b"is longer than ", MOST_TEXT - 1);
-        return Input::Wrong;
+        return None;
     }
     let found = decode(&buffer[..n], out);
     taken(found, out.len())
 }
 
 // What was decoded, where there is room for it.
-fn taken(found: Decoded, room: usize) -> Input
+fn taken(found: Decoded, room: usize) -> Option<usize>
     ensures { Fills result room }
 {
     match found {
         Decoded::NoDigit(at) => {
             about(at, b" of the text is no hexadecimal digit\n");
-            Input::Wrong
+            None
         }
         Decoded::HalfByte => {
             text(b"input: the text ends within a byte, after its first digit\n");
-            Input::Wrong
+            None
         }
         Decoded::Bytes(n) => {
             if room < n {
                 too_much(b"spells more than ", room);
-                return Input::Wrong;
+                return None;
             }
-            Input::Bytes(n)
+            Some(n)
         }
     }
 }
@@ -75,7 +67,7 @@ fn too_much(verb: &[u8], most: usize) {
 }
 
 // The field at a place, which has to have this tag.
-pub fn field_of(s: &[u8], at: usize, tag: u8) -> Leaf
+pub fn field_of(s: &[u8], at: usize, tag: u8) -> Option<Span>
     requires { at ≤ length s.now }
     ensures { result ≡ leaf_at tag any_bytes s.now at (length s.now) }
 {

@@ -2,7 +2,7 @@
 ghost use Rattle.std.specs.Prelude.{◌≡◌, nat_abs};
 
 use field::part::span_in;
-use field::{Leaf, Span};
+use field::Span;
 use hexadecimal::digits::glyph;
 use inputs::words::least;
 use reply::{Answer, NOWHERE};
@@ -13,7 +13,7 @@ pub fn text(bytes: &[u8]) {
 
 // The text of a span. One that is none of the bytes has none: this asks nothing of callers, who have spans that no contract speaks of.
 pub fn text_at(s: &[u8], span: Span) {
-    let Leaf::At { from, to } = span_in(s, span) else {
+    let Some(Span { from, to }) = span_in(s, span) else {
         return;
     };
     text(&s[from..to]);

@@ -1,15 +1,13 @@
 -- Constants: the ways through `check_constant`, `check_elements` and `check_pairs`.
 -- Assumes nothing.
-use Rattle.std.specs.Prelude.{◌≡◌, refl, Bool, true, false, List, ℕ, zero, suc, ◌-◌, ◌≤◌, ◌<◌, length}
+use Rattle.std.specs.Prelude.{◌≡◌, refl, Bool, true, false, List, ℕ, zero, suc, ◌-◌, ◌≤◌, ◌<◌, length, Err, None, Some, Ok, Option}
 use Rattle.basis.specs.Kit.{sym, ap, ◌∙◌}
 use Rattle.basis.proofs.Kit.{arith, eq-eqb, ne_eqb, not-true, not-false}
 use mathlib.Core.Bool.{false≢true}
 use Rattle.octets.specs.Octets.{part}
 use Rattle.reply.specs.declared.Refusal.{Refusal}
 use Rattle.reply.specs.declared.Refusal.TheVariants.{BadRequest}
-use Rattle.reply.specs.declared.Verdict.{Verdict}
-use Rattle.reply.specs.declared.Verdict.TheVariants.{Fine, Refused}
-use Rattle.reply.specs.Verdicts.{judged}
+use Rattle.reply.specs.Verdicts.{judged, Verdict}
 use Rattle.field.specs.Walk.{Walk, done, cut, step}
 use Rattle.form.specs.Each.{each}
 use Rattle.field.proofs.FieldLaws.{field-ordered}
@@ -18,8 +16,6 @@ use Rattle.form.proofs.EachLaws.{each-laws}
 use Rattle.request.specs.Table.{message_constant_tag, list_tag, pair_field_tag, pair_extension_tag, pair_url_tag}
 use Rattle.request.specs.Constant.{is_pair_name}
 use Rattle.pair.specs.declared.Pair.{Pair}
-use Rattle.pair.specs.declared.Paired.{Paired}
-use Rattle.pair.specs.declared.Paired.TheVariants.{Pairs, NoPair}
 use Rattle.pair.specs.inner.Pair.{pair_at}
 use Rattle.pair.proofs.PairLaws.{Pairless, broken, unnamed, alone, cut_short, rest-pairless, rest-pair, rest-pair-next, pair-places}
 use Rattle.constantform.specs.Leaves.{is_constant, good_scalar, good_pair_name}
@@ -94,22 +90,22 @@ pairless-malformed inner s (step t a e cut) (unnamed y) = refl
 pairless-malformed inner s (step t a e (step k b f w)) (unnamed y) = simp (← unnamed-bad t (part s a e) y)
 
 module _ (inner : ℕ → ℕ → ℕ → Verdict) (v : Verdict) (s : List ℕ) (to i : ℕ) (k : Rest v (pairs_of inner s) s to i) where
-  pub pairs_end : to ≤ i → Fine ≡ v
+  pub pairs_end : to ≤ i → Ok tt ≡ v
   pairs_end h = sym (rest_end v (pairs_of inner s) s to i k h)
 
-  module _ (r : Paired) (q : r ≡ pair_at s i to) where
-    pub pairs-none : i < to → r ≡ NoPair → bad_request ≡ v
+  module _ (r : Option Pair) (q : r ≡ pair_at s i to) where
+    pub pairs-none : i < to → r ≡ None → bad_request ≡ v
     pairs-none h g = sym (rest-pairless v (pairs_of inner s) s to i k r q h g bad_request (pairless-malformed inner s))
 
-    module _ (p : Pair) (g : r ≡ Pairs p) (b : Bool) (x : b ≡ good_pair_name p.by (part s p.name.from p.name.to)) where
+    module _ (p : Pair) (g : r ≡ Some p) (b : Bool) (x : b ≡ good_pair_name p.by (part s p.name.from p.name.to)) where
       pub pairs-misnamed : b ≡ false → bad_request ≡ v
       pairs-misnamed y = rw (rest-pair v (pairs_of inner s) s to i k r q p g, ← x, y)
 
       module _ (y : b ≡ true) (u : Verdict) (z : u ≡ inner p.tag p.constant.from p.constant.to) where
-        pub pairs-refused : (w : Refusal) → u ≡ Refused w → Refused w ≡ v
+        pub pairs-refused : (w : Refusal) → u ≡ Err w → Err w ≡ v
         pairs-refused w o = rw (rest-pair v (pairs_of inner s) s to i k r q p g, ← x, y, ← z, o)
 
-        pub pairs_next : u ≡ Fine → Rest v (pairs_of inner s) s to p.constant.to
+        pub pairs_next : u ≡ Ok tt → Rest v (pairs_of inner s) s to p.constant.to
         pairs_next o = rest-pair-next v (pairs_of inner s) s to i k r q p g (pairs_of inner s) (rw (← x, y, ← z, o))
 
 pub ruleset pairs-laws =

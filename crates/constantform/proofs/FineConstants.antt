@@ -1,7 +1,7 @@
 -- What a fine verdict says of the tree of constants, from the leaves up: of payloads inside the bytes, of values, and of constants at
 -- every depth.
 -- Assumes nothing.
-use Rattle.std.specs.Prelude.{◌≡◌, refl, Bool, true, false, ◌&&◌, List, ◌∷◌, map, ℕ, zero, suc, ◌+◌, ◌-◌, ◌*◌, ◌^◌, ◌≤◌, eqb, ltb, leb, length, get_or}
+use Rattle.std.specs.Prelude.{◌≡◌, refl, Bool, true, false, ◌&&◌, List, ◌∷◌, map, ℕ, zero, suc, ◌+◌, ◌-◌, ◌*◌, ◌^◌, ◌≤◌, eqb, ltb, leb, length, get_or, Some, Ok, Option}
 use Rattle.basis.specs.Kit.{sym, ap, ◌∙◌}
 use Rattle.basis.proofs.Kit.{arith, ne_eqb}
 use mathlib.Core.Bool.{false≢true}
@@ -11,9 +11,7 @@ use lib.Ieee.{binary64, of_bits, nan_bits}
 use Rattle.octets.specs.Octets.{part, big_at}
 use Rattle.octets.proofs.Parts.{part-cons, part_length}
 use Rattle.reply.specs.declared.Refusal.TheVariants.{BadRequest, BeyondLimit}
-use Rattle.reply.specs.declared.Verdict.{Verdict}
-use Rattle.reply.specs.declared.Verdict.TheVariants.{Fine}
-use Rattle.reply.specs.Verdicts.{first_fault, judged}
+use Rattle.reply.specs.Verdicts.{first_fault, judged, Verdict}
 use Rattle.reply.proofs.VerdictLaws.{refused-fine, first-fine-front, first-fine-rest, judged-fine}
 use Rattle.field.specs.Leaf.{span}
 use Rattle.field.specs.Walk.{Walk, done, cut, step, walk, tags_in}
@@ -22,8 +20,6 @@ use Rattle.field.proofs.WalkLaws.{walk-holds}
 use Rattle.request.specs.declared.constant.Constant.{Constant}
 use Rattle.request.specs.declared.constant.Constant.TheVariants.{Bool as BoolOf, Integer, Float, NotANumber}
 use Rattle.request.specs.declared.constant.Constant.TheVariants.{Text, Ident}
-use Rattle.request.specs.declared.constant.Held.{Held}
-use Rattle.request.specs.declared.constant.Held.TheVariants.{Holds}
 use Rattle.request.specs.Table.{bool_tag, unsigned_tag, signed_tag, float_tag, string_tag, ident_tag, message_constant_tag, list_tag}
 use Rattle.request.specs.Table.{pair_field_tag, pair_extension_tag, pair_url_tag}
 use Rattle.request.specs.Constant.{integer_of, float_of, is_pair_name, constant_of}
@@ -52,9 +48,9 @@ record Plain (s : List ℕ) (t : ℕ) (c : Constant) : Type 0 where
   tag : constant_tag c ≡ kind_of t
   alone : (inner : ConstantReader) (l : PairName) (rest : Constants) → grown inner s l rest c ≡ scalar l c rest
 
-record PlainAt (s : List ℕ) (t : ℕ) (r : Held) : Type 0 where
+record PlainAt (s : List ℕ) (t : ℕ) (r : Option Constant) : Type 0 where
   value : Constant
-  held : r ≡ Holds value
+  held : r ≡ Some value
   plain : Plain s t value
 
 module _ (s : List ℕ) where
@@ -167,7 +163,7 @@ pub record FineConstant (s : List ℕ) (l : PairName) (t : ℕ) (rest c : Consta
   pub tags : constant_tags c ≡ with_name l (kind_of t ∷ constant_tags rest)
 
 module _ (s : List ℕ) (l : PairName) (named : good_name s l ≡ true) (rest : Constants) (inner : ConstantReader) where
-  plain-fine : (t : ℕ) (r : Held) → PlainAt s t r → FineConstant s l t rest (if_held inner s l rest r)
+  plain-fine : (t : ℕ) (r : Option Constant) → PlainAt s t r → FineConstant s l t rest (if_held inner s l rest r)
   plain-fine t r x =
       rw (x.held, x.plain.alone inner l rest)
       record {
@@ -188,7 +184,7 @@ pub record FinePairs (s : List ℕ) (w : Walk) (c : Constants) : Type 0 where
   pub tags : constant_tags c ≡ map kind_of (tags_in w)
 
 abbrev pub FineAt : ℕ → List ℕ → Type 0
-FineAt d s = (l : PairName) → good_name s l ≡ true → (t a e : ℕ) (rest : Constants) → e ≤ length s → judge_constant d s t a e ≡ Fine
+FineAt d s = (l : PairName) → good_name s l ≡ true → (t a e : ℕ) (rest : Constants) → e ≤ length s → judge_constant d s t a e ≡ Ok tt
     → FineConstant s l t rest (constant_in d s l t a e rest)
 
 -- a tag is one of the three of a pair's name, or another
@@ -228,7 +224,7 @@ pair-first inner t a e k b f w = go (is_pair_name t)
     go false y = absurd (false≢true y)
 
 module _ (d : ℕ) (s : List ℕ) (fine : FineAt d s) where
-  elements-with : (w : Walk) → Within s w → each BadRequest (judge_constant d s) w ≡ Fine → FineElements s w (elements_in (constant_in d s) w)
+  elements-with : (w : Walk) → Within s w → each BadRequest (judge_constant d s) w ≡ Ok tt → FineElements s w (elements_in (constant_in d s) w)
   elements-with done i p = record { good = refl; whole = refl; tags = refl }
   elements-with cut i p = absurd (refused-fine BadRequest p)
   elements-with (step t a e w) i p =
@@ -242,7 +238,7 @@ module _ (d : ℕ) (s : List ℕ) (fine : FineAt d s) where
         tags = here.tags ∙ ap (λ (r : List ℕ). kind_of t ∷ r) rest.tags;
       }
 
-  pairs-with : (w : Walk) → Within s w → pairs_of (judge_constant d s) s w ≡ Fine → FinePairs s w (pairs_in (constant_in d s) w)
+  pairs-with : (w : Walk) → Within s w → pairs_of (judge_constant d s) s w ≡ Ok tt → FinePairs s w (pairs_in (constant_in d s) w)
   pairs-with done i p = record { good = refl; whole = refl; tags = refl }
   pairs-with cut i p = absurd (refused-fine BadRequest p)
   pairs-with (step t a e done) i p = absurd (refused-fine BadRequest p)
@@ -268,7 +264,7 @@ module _ (d : ℕ) (s : List ℕ) (fine : FineAt d s) where
 -- ---- constants, with d levels left
 module _ (d : ℕ) (s : List ℕ) (fine : FineAt d s) (l : PairName) (named : good_name s l ≡ true) (a e : ℕ) (rest : Constants)
     (h : e ≤ length s) where
-  constant-with : (t : ℕ) → constant_with (judge_constant d s) s t a e ≡ Fine → FineConstant s l t rest (constant_in (suc d) s l t a e rest)
+  constant-with : (t : ℕ) → constant_with (judge_constant d s) s t a e ≡ Ok tt → FineConstant s l t rest (constant_in (suc d) s l t a e rest)
   unfolding constant_of
   constant-with t p = elim (ℕ_discrete t message_constant_tag) [
     | yes y ↦ rw y (at-message (rw y at p))
@@ -281,19 +277,19 @@ module _ (d : ℕ) (s : List ℕ) (fine : FineAt d s) (l : PairName) (named : go
     ]
   ]
     where
-      at-message : pairs_of (judge_constant d s) s (walk s a e) ≡ Fine
+      at-message : pairs_of (judge_constant d s) s (walk s a e) ≡ Ok tt
           → FineConstant s l message_constant_tag rest (constant_in (suc d) s l message_constant_tag a e rest)
       at-message q =
           let i = pairs-with d s fine (walk s a e) (walk-within s e h a) q in
           record { good = λ r. rw (named, i.good, r); whole = refl; tags = refl }
 
-      at-list : each BadRequest (judge_constant d s) (walk s a e) ≡ Fine
+      at-list : each BadRequest (judge_constant d s) (walk s a e) ≡ Ok tt
           → FineConstant s l list_tag rest (constant_in (suc d) s l list_tag a e rest)
       at-list q =
           let i = elements-with d s fine (walk s a e) (walk-within s e h a) q in
           record { good = λ r. rw (named, i.good, r); whole = refl; tags = refl }
 
-pub constant-opened : (b : Bool) (v : Verdict) → elim b [ true ↦ v | false ↦ bad_request ] ≡ Fine → v ≡ Fine
+pub constant-opened : (b : Bool) (v : Verdict) → elim b [ true ↦ v | false ↦ bad_request ] ≡ Ok tt → v ≡ Ok tt
 constant-opened true v p = p
 constant-opened false v p = absurd (refused-fine BadRequest p)
 
@@ -303,10 +299,10 @@ constant-fine (suc d) s l named t a e rest h p =
     constant-with d s (constant-fine d s) l named a e rest h t
     (constant-opened (is_constant t) (constant_with (judge_constant d s) s t a e) p)
 
-pub elements-fine : (d : ℕ) (s : List ℕ) (w : Walk) → Within s w → each BadRequest (judge_constant d s) w ≡ Fine
+pub elements-fine : (d : ℕ) (s : List ℕ) (w : Walk) → Within s w → each BadRequest (judge_constant d s) w ≡ Ok tt
     → FineElements s w (elements_in (constant_in d s) w)
 elements-fine d s = elements-with d s (constant-fine d s)
 
-pub pairs-fine : (d : ℕ) (s : List ℕ) (w : Walk) → Within s w → pairs_of (judge_constant d s) s w ≡ Fine
+pub pairs-fine : (d : ℕ) (s : List ℕ) (w : Walk) → Within s w → pairs_of (judge_constant d s) s w ≡ Ok tt
     → FinePairs s w (pairs_in (constant_in d s) w)
 pairs-fine d s = pairs-with d s (constant-fine d s)

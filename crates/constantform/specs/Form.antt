@@ -9,23 +9,21 @@
 --           judge_pairs d s a e == the pairs of a message constant
 --
 -- Assumes nothing.
-use Rattle.std.specs.Prelude.{true, false, List, ℕ, zero, suc, eqb}
+use Rattle.std.specs.Prelude.{true, false, List, ℕ, zero, suc, eqb, Err, Ok}
 use Rattle.octets.specs.Octets.{part}
 use Rattle.reply.specs.declared.Refusal.TheVariants.{BadRequest}
-use Rattle.reply.specs.declared.Verdict.{Verdict}
-use Rattle.reply.specs.declared.Verdict.TheVariants.{Fine, Refused}
-use Rattle.reply.specs.Verdicts.{first_fault, judged, beyond}
+use Rattle.reply.specs.Verdicts.{first_fault, judged, beyond, Verdict}
 use Rattle.field.specs.Walk.{Walk, done, cut, step, walk}
 use Rattle.form.specs.Each.{each}
 use Rattle.request.specs.Table.{message_constant_tag, list_tag}
 use Rattle.constantform.specs.Leaves.{is_constant, good_scalar, good_pair_name}
 
 abbrev pub bad_request : Verdict
-bad_request = Refused BadRequest
+bad_request = Err BadRequest
 
 -- "26 message, pairs of a name .. and a constant" [FORM-4, FAULT-7]
 abbrev pub pairs_of : (inner : (tag from to : ℕ) → Verdict) (s : List ℕ) → Walk → Verdict
-pairs_of inner s done = Fine
+pairs_of inner s done = Ok tt
 pairs_of inner s cut = bad_request
 pairs_of inner s (step t a e done) = bad_request
 pairs_of inner s (step t a e cut) = bad_request

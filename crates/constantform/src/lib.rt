@@ -8,21 +8,21 @@ ghost use Rattle.constantform.specs.Form.{judge_constant, judge_elements, judge_
 
 use crate::leaves::{good_pair_name, good_scalar, is_constant};
 use field::Field;
-use pair::{Paired, pair_at};
-use reply::{Refusal, Verdict};
+use pair::pair_at;
+use reply::Refusal;
 use request::table;
 
 // A constant's field, with `left` levels of constants left.
 #[cycle(check_constant_check_elements_check_pairs)]
-pub fn check_constant(s: &[u8], tag: u8, from: usize, to: usize, left: usize) -> Verdict
+pub fn check_constant(s: &[u8], tag: u8, from: usize, to: usize, left: usize) -> Result<(), Refusal>
     requires { (from ≤ to) × (to ≤ length s.now) }
     ensures { result ≡ judge_constant left s.now tag from to }
 {
     if !is_constant(tag) {
-        return Verdict::Refused(Refusal::BadRequest);
+        return Err(Refusal::BadRequest);
     }
     if left == 0 {
-        return Verdict::Refused(Refusal::BeyondLimit);
+        return Err(Refusal::BeyondLimit);
     }
     if tag == table::MESSAGE_CONSTANT {
         return check_pairs(s, from, to, left - 1);
@@ -35,54 +35,54 @@ pub fn check_constant(s: &[u8], tag: u8, from: usize, to: usize, left: usize) ->
 
 // The elements of a list.
 #[cycle(check_constant_check_elements_check_pairs)]
-fn check_elements(s: &[u8], from: usize, to: usize, left: usize) -> Verdict
+fn check_elements(s: &[u8], from: usize, to: usize, left: usize) -> Result<(), Refusal>
     requires { (from ≤ to) × (to ≤ length s.now) }
     ensures { result ≡ judge_elements left s.now from to }
 {
     let mut at = from;
     while at < to {
-        let Field::Whole {
+        let Some(Field {
             tag,
             from: a,
             to: e,
-        } = field::field_at(s, at, to)
+        }) = field::field_at(s, at, to)
         else {
-            return Verdict::Refused(Refusal::BadRequest);
+            return Err(Refusal::BadRequest);
         };
-        if let Verdict::Refused(why) = check_constant(s, tag, a, e, left) {
-            return Verdict::Refused(why);
+        if let Err(why) = check_constant(s, tag, a, e, left) {
+            return Err(why);
         }
         at = e;
     }
-    Verdict::Fine
+    Ok(())
 }
 
 // The pairs of a message constant.
 #[cycle(check_constant_check_elements_check_pairs)]
-fn check_pairs(s: &[u8], from: usize, to: usize, left: usize) -> Verdict
+fn check_pairs(s: &[u8], from: usize, to: usize, left: usize) -> Result<(), Refusal>
     requires { (from ≤ to) × (to ≤ length s.now) }
     ensures { result ≡ judge_pairs left s.now from to }
 {
     let mut at = from;
     while at < to {
-        let Paired::Pairs(p) = pair_at(s, at, to) else {
-            return Verdict::Refused(Refusal::BadRequest);
+        let Some(p) = pair_at(s, at, to) else {
+            return Err(Refusal::BadRequest);
         };
         let a = p.name.from;
         let e = p.name.to;
         if !good_pair_name(p.by, &s[a..e]) {
-            return Verdict::Refused(Refusal::BadRequest);
+            return Err(Refusal::BadRequest);
         }
-        if let Verdict::Refused(why) = check_constant(
+        if let Err(why) = check_constant(
             s,
             p.tag,
             p.constant.from,
             p.constant.to,
             left,
         ) {
-            return Verdict::Refused(why);
+            return Err(why);
         }
         at = p.constant.to;
     }
-    Verdict::Fine
+    Ok(())
 }

@@ -5,9 +5,9 @@ ghost use Rattle.sheet.specs.Tree.{none, values_in, enum_in, message_in, items_i
 ghost use Rattle.counts.specs.Declarations.{one as one_of, items_hold, files_hold};
 ghost use Rattle.counts.specs.inner.Fields.{declared_count, value_count, item_count, file_count};
 
-use field::{Field, Leaf, leaf_at};
+use field::{Field, leaf_at, Span};
 use limits::MOST_MESSAGES;
-use sheet::declaration::{Declared, Valued, extension_at, value_at};
+use sheet::declaration::{extension_at, value_at, Declaration};
 use sheet::table;
 
 // 1 where the tags are the same.
@@ -25,7 +25,7 @@ fn count_value(s: &[u8], tag: u8, from: usize, to: usize) -> usize
     if tag != table::VALUE {
         return 0;
     }
-    let Valued::Values(_) = value_at(s, from, to) else {
+    let Some(_) = value_at(s, from, to) else {
         return 0;
     };
     1
@@ -39,11 +39,11 @@ fn count_values(s: &[u8], from: usize, to: usize) -> usize
     let mut n = 0;
     let mut at = from;
     while at < to {
-        let Field::Whole {
+        let Some(Field {
             tag,
             from: a,
             to: e,
-        } = field::field_at(s, at, to)
+        }) = field::field_at(s, at, to)
         else {
             return n;
         };
@@ -58,17 +58,17 @@ fn count_enum(s: &[u8], from: usize, to: usize, want: u8) -> usize
     requires { (from ≤ to) × (to ≤ length s.now) }
     ensures { (result ≡ items_hold want (enum_in s.now from to none)) × (result ≤ to - from + 1) }
 {
-    let Leaf::At { from: _, to: body } = leaf_at(s, from, to, table::NAME) else {
+    let Some(Span { from: _, to: body }) = leaf_at(s, from, to, table::NAME) else {
         return 0;
     };
     one(want, table::ENUM) + one(want, table::VALUE) * count_values(s, body, to)
 }
 
 // 1 where there is a declaration and its tag is wanted.
-fn count_declared(d: Declared, tag: u8, want: u8) -> usize
+fn count_declared(d: Option<Declaration>, tag: u8, want: u8) -> usize
     ensures { (result ≡ declared_count d want tag) × (result ≤ 1) }
 {
-    let Declared::Declares(_) = d else {
+    let Some(_) = d else {
         return 0;
     };
     one(want, tag)
@@ -104,7 +104,7 @@ fn count_message(s: &[u8], from: usize, to: usize, left: usize, want: u8) -> usi
     if left == 0 {
         return 0;
     }
-    let Leaf::At { from: _, to: body } = leaf_at(s, from, to, table::NAME) else {
+    let Some(Span { from: _, to: body }) = leaf_at(s, from, to, table::NAME) else {
         return 0;
     };
     one(want, table::MESSAGE) + count_items(s, body, to, left - 1, want)
@@ -119,11 +119,11 @@ fn count_items(s: &[u8], from: usize, to: usize, left: usize, want: u8) -> usize
     let mut n = 0;
     let mut at = from;
     while at < to {
-        let Field::Whole {
+        let Some(Field {
             tag,
             from: a,
             to: e,
-        } = field::field_at(s, at, to)
+        }) = field::field_at(s, at, to)
         else {
             return n;
         };
@@ -141,7 +141,7 @@ fn count_file(s: &[u8], tag: u8, from: usize, to: usize, want: u8) -> usize
     if tag != table::FILE {
         return 0;
     }
-    let Leaf::At { from: _, to: body } = leaf_at(s, from, to, table::PACKAGE) else {
+    let Some(Span { from: _, to: body }) = leaf_at(s, from, to, table::PACKAGE) else {
         return 0;
     };
     one(want, table::FILE) + count_items(s, body, to, MOST_MESSAGES, want)
@@ -155,7 +155,7 @@ pub fn count(s: &[u8], want: u8) -> usize
     let mut n = 0;
     let mut at = 0;
     while at < end {
-        let Field::Whole { tag, from, to } = field::field_at(s, at, end) else {
+        let Some(Field { tag, from, to }) = field::field_at(s, at, end) else {
             return n;
         };
         n += count_file(s, tag, from, to, want);

@@ -6,8 +6,8 @@ ghost use Rattle.request.specs.Request.{request_of};
 ghost use Rattle.counts.specs.Options.{parts_of};
 
 use field::Field;
-use request::heading::{Headed, heading_of};
-use request::name::{Parted, part_at};
+use request::heading::heading_of;
+use request::name::part_at;
 use request::table;
 
 // How many parts stand from a place on.
@@ -18,7 +18,7 @@ fn count_parts_at(s: &[u8], from: usize, to: usize) -> usize
     let mut n = 0;
     let mut at = from;
     while at < to {
-        let Parted::Is(p) = part_at(s, at, to) else {
+        let Some(p) = part_at(s, at, to) else {
             return n;
         };
         n += 1;
@@ -31,14 +31,14 @@ fn count_parts_at(s: &[u8], from: usize, to: usize) -> usize
 pub fn count_options(s: &[u8]) -> usize
     ensures { result ≡ length (request_of s.now).options }
 {
-    let Headed::Heads(h) = heading_of(s) else {
+    let Some(h) = heading_of(s) else {
         return 0;
     };
     let end = s.len();
     let mut n = 0;
     let mut at = h.options;
     while at < end {
-        let Field::Whole { tag, from: _, to } = field::field_at(s, at, end) else {
+        let Some(Field { tag, from: _, to }) = field::field_at(s, at, end) else {
             return n;
         };
         if tag == table::OPTION {
@@ -53,14 +53,14 @@ pub fn count_options(s: &[u8]) -> usize
 pub fn count_parts(s: &[u8]) -> usize
     ensures { result ≡ parts_of (request_of s.now).options }
 {
-    let Headed::Heads(h) = heading_of(s) else {
+    let Some(h) = heading_of(s) else {
         return 0;
     };
     let end = s.len();
     let mut n = 0;
     let mut at = h.options;
     while at < end {
-        let Field::Whole { tag, from, to } = field::field_at(s, at, end) else {
+        let Some(Field { tag, from, to }) = field::field_at(s, at, end) else {
             return n;
         };
         if tag == table::OPTION {

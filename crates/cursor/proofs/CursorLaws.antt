@@ -4,17 +4,14 @@
 --   Onward L s t c c' <-> c' is a cursor that has the same scopes of L before it as c
 --
 -- Assumes nothing.
-use Rattle.std.specs.Prelude.{◌≡◌, refl, Bool, true, false, List, [], ◌∷◌, ◌++◌, ℕ, zero, suc, ◌+◌, ◌-◌, ◌≤◌, ◌<◌, eqb, length, get_or, take, drop}
+use Rattle.std.specs.Prelude.{◌≡◌, refl, Bool, true, false, List, [], ◌∷◌, ◌++◌, ℕ, zero, suc, ◌+◌, ◌-◌, ◌≤◌, ◌<◌, eqb, length, get_or, take, drop, None, Some, Option}
 use Rattle.basis.specs.Kit.{sym, ap, ◌∙◌}
 use Rattle.basis.proofs.Kit.{arith, ne_eqb}
 use mathlib.Core.List.{append-nil}
 use borrow.Author.Tests.{eqb-true}
 use Rattle.basis.proofs.Never.{never}
 use Rattle.octets.specs.Octets.{part}
-use Rattle.field.specs.declared.Field.{Field}
-use Rattle.field.specs.declared.Field.TheVariants.{Whole, Cut}
-use Rattle.field.specs.Field.{field_at}
-use Rattle.field.specs.declared.Leaf.{Leaf}
+use Rattle.field.specs.Field.{field_at, field}
 use Rattle.field.specs.Leaf.{on_leaf}
 use Rattle.field.specs.Walk.{walk}
 use Rattle.field.proofs.FieldLaws.{field-bounds, field-ordered, field-inside}
@@ -26,43 +23,42 @@ use Rattle.path.proofs.Names.{end-within, end-dot, names-past, names-next, front
 use Rattle.sheet.specs.Tree.{files_in, tree_of}
 use Rattle.sheet.proofs.TreeLaws.{tree-files, files-end, files-cut, files-step}
 use Rattle.scope.specs.declared.lookup.LookupScope.{LookupScope}
-use Rattle.scope.specs.declared.lookup.Reached.{Reached}
-use Rattle.scope.specs.declared.lookup.Reached.TheVariants.{To, Nowhere}
 use Rattle.cursor.specs.declared.Cursor.{Cursor}
-use Rattle.cursor.specs.declared.Next.{Next}
-use Rattle.cursor.specs.declared.Next.TheVariants.{At, NoMore}
 use Rattle.basis.specs.First.{onto}
 use Rattle.scope.specs.Scope.{Scope, holding}
 use Rattle.scope.specs.inner.Answers.{InSheet, placed}
 use Rattle.scopes.specs.Scopes.{scopes_in, scopes_from, scopes}
-use Rattle.cursor.specs.inner.Cursor.{front_at, wider, here, ahead, start_of, package_at, scope_at, Within, Stands, Steps, Nexts}
+use Rattle.cursor.specs.inner.Cursor.{front_at, wider, here, ahead, start_of, package_at, scope_at, Within, Stands, Steps, Nexts, next_of}
 use Rattle.basis.proofs.FirstLaws.{onto-none, onto-some}
 use Rattle.cursor.proofs.ScopesLaws.{end_fits, package-within, scopes-step, scope-nowhere, scope-to, scope-lies}
+use Rattle.cursor.specs.declared.Next.{Next}
+use Rattle.field.specs.declared.Field.{Field}
+use Rattle.field.specs.declared.Span.{Span}
 
 -- ---- what a step tells
-module _ (L : Cursor → List Scope) (s t : List ℕ) (c : Cursor) (r : Next) (n : Nexts L s t c r) where
-  pub nexts-none : r ≡ NoMore → L c ≡ []
+module _ (L : Cursor → List Scope) (s t : List ℕ) (c : Cursor) (r : Option Next) (n : Nexts L s t c r) where
+  pub nexts-none : r ≡ None → L c ≡ []
   nexts-none g = n.none g
 
-  module _ (p : LookupScope) (c' : Cursor) (g : r ≡ At p c') where
-    pub nexts-lies : InSheet s p
-    nexts-lies = (n.some p c' g).lies
+  module _ (m : Next) (g : r ≡ Some m) where
+    pub nexts-lies : InSheet s m.scope
+    nexts-lies = (n.some m g).lies
 
-    pub nexts-stands : Stands s t c'
-    nexts-stands = (n.some p c' g).stands
+    pub nexts-stands : Stands s t m.rest
+    nexts-stands = (n.some m g).stands
 
-    pub nexts-is : L c ≡ holding s p ∷ L c'
-    nexts-is = (n.some p c' g).is
+    pub nexts-is : L c ≡ holding s m.scope ∷ L m.rest
+    nexts-is = (n.some m g).is
 
-    pub nexts-less : length (L c') < length (L c)
+    pub nexts-less : length (L m.rest) < length (L c)
     nexts-less = rw nexts-is (omega arith)
 
 -- ---- what a step answers
 module _ (L : Cursor → List Scope) (s t : List ℕ) (c : Cursor) where
-  pub nexts-no-more : L c ≡ [] → Nexts L s t c NoMore
+  pub nexts-no-more : L c ≡ [] → Nexts L s t c None
   nexts-no-more e = record { some = λ p c' q. never cc; none = λ q. e }
 
-  pub nexts-at : (p : LookupScope) (c' : Cursor) → Steps L s t c p c' → Nexts L s t c (At p c')
+  pub nexts-at : (p : LookupScope) (c' : Cursor) → Steps L s t c p c' → Nexts L s t c (Some (next_of p c'))
   nexts-at p c' k = record {
     some = λ p₁ c₁ q. let u : p₁ ≡ p = cc in let v : c₁ ≡ c' = cc in rw (u, v) k;
     none = λ q. never cc;
@@ -158,36 +154,36 @@ pub onward-start : (L : Cursor → List Scope) (s t : List ℕ) (c : Cursor) →
 onward-start L s t c k = record { stands = k; rest = refl }
 
 module _ (L : Cursor → List Scope) (s t : List ℕ) (c c' : Cursor) (k : Onward L s t c c') where
-  onward-none : L c' ≡ [] → Nexts L s t c NoMore
+  onward-none : L c' ≡ [] → Nexts L s t c None
   onward-none e = nexts-no-more L s t c (k.rest ∙ e)
 
-  onward-at : (p : LookupScope) (c'' : Cursor) → InSheet s p → Stands s t c'' → L c' ≡ holding s p ∷ L c'' → Nexts L s t c (At p c'')
+  onward-at : (p : LookupScope) (c'' : Cursor) → InSheet s p → Stands s t c'' → L c' ≡ holding s p ∷ L c'' → Nexts L s t c (Some (next_of p c''))
   onward-at p c'' l d e = nexts-at L s t c p c'' (record { lies = l; stands = d; is = k.rest ∙ e })
 
 -- ---- next_here
 module _ (s t : List ℕ) (c : Cursor) (at file : ℕ)
     (k : Onward (here s t) s t c (record { next = c.next; at = at; file = file })) (end : ℕ) (l : end ≡ length s) where
-  pub here_end : end ≤ at → Nexts (here s t) s t c NoMore
+  pub here_end : end ≤ at → Nexts (here s t) s t c None
   here_end h = onward-none (here s t) s t c _ k (rw (files-end s at (length s) (rw (← l) h)))
 
-  module _ (h : at < end) (r : Field) (q : r ≡ field_at s at end) where
-    pub here-cut : r ≡ Cut → Nexts (here s t) s t c NoMore
+  module _ (h : at < end) (r : Option Field) (q : r ≡ field_at s at end) where
+    pub here-cut : r ≡ None → Nexts (here s t) s t c None
     here-cut g = onward-none (here s t) s t c _ k (rw (files-cut s at (length s) (rw (← l) h) r (rw (← l) q) g))
 
-    module _ (tag a e : ℕ) (g : r ≡ Whole tag a e) (pk : Leaf) (j : pk ≡ package_at s tag a e)
-        (n : ℕ) (f : n ≡ on_leaf 0 pk (λ n m. 1)) (o : Reached) (u : o ≡ placed (scope_at s t c.next file pk e)) where
+    module _ (it : Field) (g : r ≡ Some it) (pk : Option Span) (j : pk ≡ package_at s it.tag it.from it.to)
+        (n : ℕ) (f : n ≡ on_leaf 0 pk (λ n m. 1)) (o : Option LookupScope) (u : o ≡ placed (scope_at s t c.next file pk it.to)) where
       here-open : here s t (record { next = c.next; at = at; file = file })
-          ≡ onto (scope_at s t c.next file pk e) (here s t (record { next = c.next; at = e; file = file + n }))
+          ≡ onto (scope_at s t c.next file pk it.to) (here s t (record { next = c.next; at = it.to; file = file + n }))
       here-open =
           rw (
-            files-step s at (length s) (rw (← l) h) r (rw (← l) q) tag a e g,
-            scopes-step s t c.next file tag a e (files_in s (walk s e (length s))) pk j,
+            files-step s at (length s) (rw (← l) h) r (rw (← l) q) it g,
+            scopes-step s t c.next file it.tag it.from it.to (files_in s (walk s it.to (length s))) pk j,
             ← f,
           )
 
-      here-stands : n ≤ 1 → Stands s t (record { next = c.next; at = e; file = file + n })
+      here-stands : n ≤ 1 → Stands s t (record { next = c.next; at = it.to; file = file + n })
       here-stands one =
-          let b = field-bounds s at end r q tag a e g in
+          let b = field-bounds s at end r q it g in
           record {
             within = omega (arith, b.inside);
             counted = omega (arith, b.starts, b.ordered, k.stands.counted);
@@ -195,45 +191,45 @@ module _ (s t : List ℕ) (c : Cursor) (at file : ℕ)
             starts = k.stands.starts;
           }
 
-      here-within : Within pk e
-      here-within = package-within s tag a e pk j
+      here-within : Within pk it.to
+      here-within = package-within s it.tag it.from it.to pk j
 
-      here-inside : e ≤ length s
-      here-inside = omega (arith, field-inside s at end r q tag a e g)
+      here-inside : it.to ≤ length s
+      here-inside = omega (arith, field-inside s at end r q it g)
 
-      pub here-next : n ≤ 1 → o ≡ Nowhere → Onward (here s t) s t c (record { next = c.next; at = e; file = file + n })
+      pub here-next : n ≤ 1 → o ≡ None → Onward (here s t) s t c (record { next = c.next; at = it.to; file = file + n })
       here-next one x = record {
         stands = here-stands one;
-        rest = k.rest ∙ here-open ∙ onto-none _ _ (scope-nowhere s t c.next file pk e here-within here-inside o u x);
+        rest = k.rest ∙ here-open ∙ onto-none _ _ (scope-nowhere s t c.next file pk it.to here-within here-inside o u x);
       }
 
-      pub here-at : n ≤ 1 → (p : LookupScope) → o ≡ To p
-          → Nexts (here s t) s t c (At p (record { next = c.next; at = e; file = file + n }))
+      pub here-at : n ≤ 1 → (p : LookupScope) → o ≡ Some p
+          → Nexts (here s t) s t c (Some (next_of p (record { next = c.next; at = it.to; file = file + n })))
       here-at one p x =
-          onward-at (here s t) s t c _ k p _ (scope-lies s t c.next file pk e here-within here-inside o u p x) (here-stands one)
-          (here-open ∙ onto-some _ _ _ (scope-to s t c.next file pk e here-within here-inside o u p x))
+          onward-at (here s t) s t c _ k p _ (scope-lies s t c.next file pk it.to here-within here-inside o u p x) (here-stands one)
+          (here-open ∙ onto-some _ _ _ (scope-to s t c.next file pk it.to here-within here-inside o u p x))
 
 -- it stays at its packages
-pub level-none : (next : ℕ) (p : LookupScope) (c : Cursor) → NoMore ≡ At p c → c.next ≡ next
-level-none next p c g = never cc
+pub level-none : (next : ℕ) (n : Next) → None ≡ Some n → n.rest.next ≡ next
+level-none next n g = never cc
 
-pub level-at : (p : LookupScope) (c : Cursor) (next : ℕ) → c.next ≡ next
-    → (p' : LookupScope) (c' : Cursor) → At p c ≡ At p' c' → c'.next ≡ next
-level-at p c next h p' c' g = let u : c' ≡ c = cc in rw u h
+pub level-at : (n : Next) (next : ℕ) → n.rest.next ≡ next
+    → (m : Next) → Some n ≡ Some m → m.rest.next ≡ next
+level-at n.scope n.rest next h m.scope m.rest g = let u : m.rest ≡ n.rest = cc in rw u h
 
 pub ruleset here-laws =
     (onward-start, here_end, here-cut, here-next, here-at, level-none, level-at, package-within, field-ordered, field-within, field-less)
 
 -- ---- next_scope
-module _ (s t : List ℕ) (c₀ c : Cursor) (k : Onward (ahead s t) s t c₀ c) (r : Next) (n : Nexts (here s t) s t c r) where
-  pub scopes-at : ((p : LookupScope) (c' : Cursor) → r ≡ At p c' → c'.next ≡ c.next) → (p : LookupScope) (c' : Cursor) → r ≡ At p c'
-      → Nexts (ahead s t) s t c₀ (At p c')
-  scopes-at l p c' g =
-      let st = n.some p c' g in
-      onward-at (ahead s t) s t c₀ c k p c' st.lies st.stands (ahead-some s t c p c' st.is (l p c' g))
+module _ (s t : List ℕ) (c₀ c : Cursor) (k : Onward (ahead s t) s t c₀ c) (r : Option Next) (n : Nexts (here s t) s t c r) where
+  pub scopes-at : ((m : Next) → r ≡ Some m → m.rest.next ≡ c.next) → (m.scope : LookupScope) (m.rest : Cursor) → r ≡ Some m
+      → Nexts (ahead s t) s t c₀ (Some m)
+  scopes-at l m g =
+      let st = n.some m.scope m.rest g in
+      onward-at (ahead s t) s t c₀ c k m.scope m.rest st.lies st.stands (ahead-some s t c m.scope m.rest st.is (l m.scope m.rest g))
 
-  module _ (g : r ≡ NoMore) where
-    pub scopes-end : length t < c.next → Nexts (ahead s t) s t c₀ NoMore
+  module _ (g : r ≡ None) where
+    pub scopes-end : length t < c.next → Nexts (ahead s t) s t c₀ None
     scopes-end h = onward-none (ahead s t) s t c₀ c k (ahead_none s t c (n.none g) h)
 
     pub scopes-next : c.next ≤ length t → (e : ℕ) → e ≡ c.next + length (until_dot (drop c.next t))

@@ -12,8 +12,6 @@ use native.Mathlib.Nat.{add-zero}
 use Rattle.basis.proofs.Never.{never}
 use Rattle.limits.specs.Figures.{most_messages}
 use Rattle.octets.specs.Octets.{part, same_bytes}
-use Rattle.field.specs.declared.Leaf.{Leaf}
-use Rattle.field.specs.declared.Leaf.TheVariants.{At, Not}
 use Rattle.field.specs.Leaf.{span, any_bytes, leaf_at, on_leaf}
 use Rattle.field.specs.Walk.{walk}
 use Rattle.field.proofs.LeafLaws.{leaf-ordered, leaf-inside}
@@ -22,8 +20,6 @@ use Rattle.path.proofs.Names.{end_after, end-within, names-past, names-next}
 use Rattle.sheet.specs.Table.{file_tag, package_tag}
 use Rattle.sheet.specs.Tree.{File, file_with, items_in, file_in}
 use Rattle.scope.specs.declared.lookup.LookupScope.{LookupScope}
-use Rattle.scope.specs.declared.lookup.Reached.{Reached}
-use Rattle.scope.specs.declared.lookup.Reached.TheVariants.{To, Nowhere}
 use Rattle.cursor.specs.declared.Cursor.{Cursor}
 use Rattle.basis.specs.First.{only_if, onto}
 use Rattle.scope.specs.Scope.{Scope, holding, down}
@@ -33,6 +29,7 @@ use Rattle.cursor.specs.inner.Cursor.{start_of, package_at, scope_at, Within}
 use Rattle.scopes.proofs.PlacedLaws.{Placed, followed-placed}
 use Rattle.scope.proofs.Answers.{placed-nowhere}
 use Rattle.scope.proofs.Held.{down-nowhere, down_to, down-to-lies}
+use Rattle.field.specs.declared.Span.{Span}
 
 -- ---- start
 pub start-bare : (b : Bool) → b ≡ true → ◌≡◌ {A = Cursor} (record { next = 1; at = 0; file = 0 }) (start_of b)
@@ -45,19 +42,19 @@ pub ruleset start-laws = (start-bare, start-named)
 
 -- ---- package_at
 module _ (s : List ℕ) (tag a e : ℕ) where
-  pub package-other : (tag ≡ file_tag → ⊥) → Not ≡ package_at s tag a e
+  pub package-other : (tag ≡ file_tag → ⊥) → None ≡ package_at s tag a e
   unfolding package_at
   package-other h = simp (package_at, ne_eqb tag file_tag h)
 
-  pub package-file : tag ≡ file_tag → (l : Leaf) → l ≡ leaf_at package_tag any_bytes s a e → l ≡ package_at s tag a e
+  pub package-file : tag ≡ file_tag → (l : Option Span) → l ≡ leaf_at package_tag any_bytes s a e → l ≡ package_at s tag a e
   unfolding package_at
   package-file h l q = rw (q, h)
 
-  pub package-within : (l : Leaf) → l ≡ package_at s tag a e → Within l e
+  pub package-within : (l : Option Span) → l ≡ package_at s tag a e → Within l e
   unfolding package_at
   package-within l q = go (eqb tag file_tag) q
     where
-      go : (b : Bool) → l ≡ elim b [ true ↦ leaf_at package_tag any_bytes s a e | false ↦ Not ] → Within l e
+      go : (b : Bool) → l ≡ elim b [ true ↦ leaf_at package_tag any_bytes s a e | false ↦ None ] → Within l e
       go true q = record { ordered = leaf-ordered package_tag any_bytes s a e l q; inside = leaf-inside package_tag any_bytes s a e l q }
       go false q = record {
         ordered = λ n m g. never cc;
@@ -74,30 +71,30 @@ module _ (s : List ℕ) (tag a e : ℕ) where
       file n m = file_with (span n m) (span m e) (items_in most_messages s (walk s m e)) ∷ rest
 
       go : (b : Bool) → elim b [ true ↦ on_leaf rest (leaf_at package_tag any_bytes s a e) file | false ↦ rest ]
-          ≡ on_leaf rest (elim b [ true ↦ leaf_at package_tag any_bytes s a e | false ↦ Not ]) file
+          ≡ on_leaf rest (elim b [ true ↦ leaf_at package_tag any_bytes s a e | false ↦ None ]) file
       go true = refl
       go false = refl
 
 pub ruleset package-laws = (package-other, package-file)
 
 -- what a field adds to the scopes
-pub scopes-step : (s t : List ℕ) (next i tag a e : ℕ) (rest : List File) (l : Leaf) → l ≡ package_at s tag a e
+pub scopes-step : (s t : List ℕ) (next i tag a e : ℕ) (rest : List File) (l : Option Span) → l ≡ package_at s tag a e
     → scopes_in s (take (next - 1) t) (names_from t next) i (file_in s tag a e rest)
     ≡ onto (scope_at s t next i l e) (scopes_in s (take (next - 1) t) (names_from t next) (i + on_leaf 0 l (λ n m. 1)) rest)
 scopes-step s t next i tag a e rest l q = rw (file-package s tag a e rest, ← q) (go l)
   where
-    go : (l : Leaf)
+    go : (l : Option Span)
         → scopes_in s (take (next - 1) t) (names_from t next) i
         (on_leaf rest l λ n m. file_with (span n m) (span m e) (items_in most_messages s (walk s m e)) ∷ rest)
         ≡ onto (scope_at s t next i l e) (scopes_in s (take (next - 1) t) (names_from t next) (i + on_leaf 0 l (λ n m. 1)) rest)
-    go Not = rw (add-zero i)
-    go (At n m) = refl
+    go None = rw (add-zero i)
+    go (Some place) = refl
 
 -- ---- a scope that names lead to
 module _ (s : List ℕ) where
   -- so it is the scope at the place that a look-up answers
-  placed-to : (o : Option Scope) → ((c : Scope) → o ≡ Some c → Placed s c) → (r : Reached) → r ≡ placed o
-      → (p : LookupScope) → r ≡ To p → o ≡ Some (holding s p)
+  placed-to : (o : Option Scope) → ((c : Scope) → o ≡ Some c → Placed s c) → (r : Option LookupScope) → r ≡ placed o
+      → (p : LookupScope) → r ≡ Some p → o ≡ Some (holding s p)
   placed-to None k r q p g = never cc
   placed-to (Some c) k r q p g = let u : p ≡ c.place = cc in rw u (ap Some (k c refl).held)
 
@@ -112,15 +109,15 @@ pub following-start : (s t : List ℕ) (at : ℕ) (p : LookupScope) → InSheet 
 following-start s t at p h l = record { lies = h; reached = l; rest = refl }
 
 module _ (v : Option Scope) (s t : List ℕ) (at : ℕ) (p : LookupScope) (k : Following v s t at p) where
-  pub following-end : length t < at → To p ≡ placed v
+  pub following-end : length t < at → Some p ≡ placed v
   following-end h = rw (k.rest, names-past t at h)
 
-  module _ (h : at ≤ length t) (e : ℕ) (f : e ≡ at + length (until_dot (drop at t))) (r : Reached)
+  module _ (h : at ≤ length t) (e : ℕ) (f : e ≡ at + length (until_dot (drop at t))) (r : Option LookupScope)
       (q : r ≡ placed (down s (part t at e) (holding s p))) where
-    pub following-none : r ≡ Nowhere → Nowhere ≡ placed v
+    pub following-none : r ≡ None → None ≡ placed v
     following-none g = rw (k.rest, names-next t at h e f, down-nowhere s (part t at e) p r q g)
 
-    pub following-next : (x : LookupScope) → r ≡ To x → Following v s t (e + 1) x
+    pub following-next : (x : LookupScope) → r ≡ Some x → Following v s t (e + 1) x
     following-next x g =
         let w = end-within t at e f h in
         record {
@@ -139,33 +136,33 @@ pub ruleset follow-laws = (following-start, following-end, following-none, follo
 abbrev pub file_place : ℕ → ℕ → ℕ → LookupScope
 file_place i m e = record { file = i; message = false; body = span m e; left = most_messages }
 
-module _ (s t : List ℕ) (next i : ℕ) (l : Leaf) (e : ℕ) where
-  pub scope-none : l ≡ Not → Nowhere ≡ placed (scope_at s t next i l e)
+module _ (s t : List ℕ) (next i : ℕ) (l : Option Span) (e : ℕ) where
+  pub scope-none : l ≡ None → None ≡ placed (scope_at s t next i l e)
   scope-none g = rw g
 
-  module _ (n m : ℕ) (g : l ≡ At n m) (x : List ℕ) (f : x ≡ take (next - 1) t) (b : Bool) (y : b ≡ same_bytes x (part s n m)) where
-    scope-open : scope_at s t next i l e ≡ only_if b (follow s (names_from t next) (holding s (file_place i m e))) None
+  module _ (q : Span) (g : l ≡ Some q) (x : List ℕ) (f : x ≡ take (next - 1) t) (b : Bool) (y : b ≡ same_bytes x (part s q.from q.to)) where
+    scope-open : scope_at s t next i l e ≡ only_if b (follow s (names_from t next) (holding s (file_place i q.to e))) None
     scope-open = rw (g, ← f, ← y)
 
-    pub scope-elsewhere : b ≡ false → Nowhere ≡ placed (scope_at s t next i l e)
+    pub scope-elsewhere : b ≡ false → None ≡ placed (scope_at s t next i l e)
     scope-elsewhere z = rw (scope-open, z)
 
-    pub scope-followed : b ≡ true → (o : Reached) → o ≡ placed (follow s (names_from t next) (holding s (file_place i m e)))
+    pub scope-followed : b ≡ true → (o : Option LookupScope) → o ≡ placed (follow s (names_from t next) (holding s (file_place i q.to e)))
         → o ≡ placed (scope_at s t next i l e)
     scope-followed z o p = p ∙ rw (scope-open, z)
 
 -- where the package lies
-module _ (l : Leaf) (e : ℕ) (w : Within l e) (n m : ℕ) (g : l ≡ At n m) where
-  pub within-ordered : n ≤ m
-  within-ordered = w.ordered n m g
+module _ (l : Option Span) (e : ℕ) (w : Within l e) (p : Span) (g : l ≡ Some p) where
+  pub within-ordered : p.from ≤ p.to
+  within-ordered = w.ordered p g
 
-  pub within-sheet : (s : List ℕ) → e ≤ length s → m ≤ length s
-  within-sheet s h = omega (arith, w.inside n m g)
+  pub within-sheet : (s : List ℕ) → e ≤ length s → p.to ≤ length s
+  within-sheet s h = omega (arith, w.inside p g)
 
-  pub file-lies : (s : List ℕ) (i : ℕ) → e ≤ length s → InSheet s (file_place i m e)
-  file-lies s i h = record { ordered = w.inside n m g; within = h }
+  pub file-lies : (s : List ℕ) (i : ℕ) → e ≤ length s → InSheet s (file_place i p.to e)
+  file-lies s i h = record { ordered = w.inside p g; within = h }
 
-module _ (s t : List ℕ) (next i : ℕ) (l : Leaf) (e : ℕ) (w : Within l e) (h : e ≤ length s) where
+module _ (s t : List ℕ) (next i : ℕ) (l : Option Span) (e : ℕ) (w : Within l e) (h : e ≤ length s) where
   scope-placed : (c : Scope) → scope_at s t next i l e ≡ Some c → Placed s c
   scope-placed c = go l w
     where
@@ -175,16 +172,16 @@ module _ (s t : List ℕ) (next i : ℕ) (l : Leaf) (e : ℕ) (w : Within l e) (
           let f : InSheet s (file_place i m e) = record { ordered = k; within = h } in
           followed-placed s (names_from t next) (holding s (file_place i m e)) (record { held = refl; lies = f }) c q
 
-      go : (l : Leaf) → Within l e → scope_at s t next i l e ≡ Some c → Placed s c
-      go Not w q = never cc
-      go (At n m) w q = at m (w.inside n m refl) (same_bytes (take (next - 1) t) (part s n m)) q
+      go : (l : Option Span) → Within l e → scope_at s t next i l e ≡ Some c → Placed s c
+      go None w q = never cc
+      go (Some it) w q = at it.to (w.inside it refl) (same_bytes (take (next - 1) t) (part s it.from it.to)) q
 
   -- what `scope_at` answers, to its caller
-  module _ (r : Reached) (q : r ≡ placed (scope_at s t next i l e)) where
-    pub scope-nowhere : r ≡ Nowhere → scope_at s t next i l e ≡ None
+  module _ (r : Option LookupScope) (q : r ≡ placed (scope_at s t next i l e)) where
+    pub scope-nowhere : r ≡ None → scope_at s t next i l e ≡ None
     scope-nowhere = placed-nowhere r (scope_at s t next i l e) q
 
-    module _ (p : LookupScope) (g : r ≡ To p) where
+    module _ (p : LookupScope) (g : r ≡ Some p) where
       pub scope-to : scope_at s t next i l e ≡ Some (holding s p)
       scope-to = placed-to s (scope_at s t next i l e) scope-placed r q p g
 

@@ -2,19 +2,18 @@
 // a place in it where a name starts; past the end there are no names left.
 #![tactic(auto)]
 
-ghost use Rattle.std.specs.Prelude.{◌≡◌, suc, ◌≤◌, length};
+ghost use Rattle.std.specs.Prelude.{◌≡◌, suc, ◌≤◌, length, Some};
 ghost use Rattle.field.specs.Leaf.{on_leaf};
 ghost use Rattle.path.specs.inner.Places.{names_from};
 ghost use Rattle.scope.specs.Scope.{holding};
 ghost use Rattle.scope.specs.inner.Answers.{InSheet, placed};
 ghost use Rattle.scopes.specs.Scopes.{follow as follow_of};
-ghost use Rattle.cursor.specs.declared.Next.TheVariants.{At};
-ghost use Rattle.cursor.specs.inner.Cursor.{here, ahead, start_of, package_at, scope_at, Within, Stands, Nexts};
+ghost use Rattle.cursor.specs.inner.Cursor.{here, ahead, start_of, package_at, scope_at, Within, Stands, Nexts, next_of};
 
-use field::{Field, Leaf, Span};
+use field::{Field, Span};
 use limits::MOST_MESSAGES;
 use path::protobuf_rel_path::{before, component_end};
-use scope::lookup::{LookupScope, Reached, down};
+use scope::lookup::{LookupScope, down};
 use sheet::table;
 
 // How far a walk through the scopes at a path has come.
@@ -27,11 +26,11 @@ pub struct Cursor {
     pub file: usize,
 }
 
-// What the next step of such a walk comes to.
+// The next scope of such a walk, and where the walk goes on.
 #[derive(Clone, Copy)]
-pub enum Next {
-    At { scope: LookupScope, rest: Cursor },
-    NoMore,
+pub struct Next {
+    pub scope: LookupScope,
+    pub rest: Cursor,
 }
 
 // Before the first scope. A path with no names starts past its end.
@@ -53,7 +52,7 @@ pub fn start(bare: bool) -> Cursor
 }
 
 // The scope that the names from a place on lead to, each the first message of its name.
-fn follow(s: &[u8], names: &[u8], next: usize, scope: LookupScope) -> Reached
+fn follow(s: &[u8], names: &[u8], next: usize, scope: LookupScope) -> Option<LookupScope>
     requires { InSheet s.now scope × (next ≤ suc (length names.now)) }
     ensures { result ≡ placed (follow_of s.now (names_from names.now next) (holding s.now scope)) }
 {
@@ -61,31 +60,31 @@ fn follow(s: &[u8], names: &[u8], next: usize, scope: LookupScope) -> Reached
     let mut at = next;
     while at <= names.len() {
         let end = component_end(names, at);
-        let Reached::To(inner) = down(s, reached, &names[at..end]) else {
-            return Reached::Nowhere;
+        let Some(inner) = down(s, reached, &names[at..end]) else {
+            return None;
         };
         reached = inner;
         at = end + 1;
     }
-    Reached::To(reached)
+    Some(reached)
 }
 
 // The package of a field of the sheet that is a file.
-fn package_at(s: &[u8], tag: u8, from: usize, to: usize) -> Leaf
+fn package_at(s: &[u8], tag: u8, from: usize, to: usize) -> Option<Span>
     requires { (from ≤ to) × (to ≤ length s.now) }
     ensures { result ≡ package_at s.now tag from to }
 {
     if tag != table::FILE {
-        return Leaf::Not;
+        return None;
     }
     field::leaf_at(s, from, to, table::PACKAGE)
 }
 
 // How many files a field of this package is: one, or none.
-fn files_in(package_name: Leaf) -> usize
+fn files_in(package_name: Option<Span>) -> usize
     ensures { (result ≡ on_leaf 0 package_name (λ n m. 1)) × (result ≤ 1) }
 {
-    let Leaf::At { from: _, to: _ } = package_name else {
+    let Some(Span { from: _, to: _ }) = package_name else {
         return 0;
     };
     1
@@ -95,20 +94,20 @@ fn files_in(package_name: Leaf) -> usize
 // the others are followed.
 fn scope_at(
     s: &[u8],
-    package_name: Leaf,
+    package_name: Option<Span>,
     to: usize,
     names: &[u8],
     next: usize,
     file: usize,
-) -> Reached
+) -> Option<LookupScope>
     requires { Within package_name to × (to ≤ length s.now) × (next ≤ suc (length names.now)) }
     ensures { result ≡ placed (scope_at s.now names.now next file package_name to) }
 {
-    let Leaf::At { from, to: body } = package_name else {
-        return Reached::Nowhere;
+    let Some(Span { from, to: body }) = package_name else {
+        return None;
     };
     if !octets::same(before(names, next), &s[from..body]) {
-        return Reached::Nowhere;
+        return None;
     }
     follow(
         s,
@@ -124,51 +123,51 @@ fn scope_at(
 }
 
 // The next scope of a file whose package is the names before the cursor's place.
-fn next_here(s: &[u8], names: &[u8], cursor: Cursor) -> Next
+fn next_here(s: &[u8], names: &[u8], cursor: Cursor) -> Option<Next>
     requires { Stands s.now names.now cursor }
     ensures next { Nexts (here s.now names.now) s.now names.now cursor result }
-    ensures level { (p : LookupScope) (c : Cursor) → result ≡ At p c → c.next ≡ cursor.next }
+    ensures level { (p : LookupScope) (c : Cursor) → result ≡ Some (next_of p c) → c.next ≡ cursor.next }
 {
     let end = s.len();
     let mut at = cursor.at;
     let mut file = cursor.file;
     while at < end {
-        let Field::Whole { tag, from, to } = field::field_at(s, at, end) else {
-            return Next::NoMore;
+        let Some(Field { tag, from, to }) = field::field_at(s, at, end) else {
+            return None;
         };
         let package_name = package_at(s, tag, from, to);
         let index = file;
         file = index + files_in(package_name);
         at = to;
-        if let Reached::To(scope) = scope_at(s, package_name, to, names, cursor.next, index) {
-            return Next::At {
+        if let Some(scope) = scope_at(s, package_name, to, names, cursor.next, index) {
+            return Some(Next {
                 scope: scope,
                 rest: Cursor {
                     next: cursor.next,
                     at: at,
                     file: file,
                 },
-            };
+            });
         }
     }
-    Next::NoMore
+    None
 }
 
 // The next scope at the path.
-pub fn next_scope(s: &[u8], names: &[u8], cursor: Cursor) -> Next
+pub fn next_scope(s: &[u8], names: &[u8], cursor: Cursor) -> Option<Next>
     requires { Stands s.now names.now cursor }
     ensures { Nexts (ahead s.now names.now) s.now names.now cursor result }
 {
     let mut c = cursor;
     loop {
-        if let Next::At { scope, rest } = next_here(s, names, c) {
-            return Next::At {
+        if let Some(Next { scope, rest }) = next_here(s, names, c) {
+            return Some(Next {
                 scope: scope,
                 rest: rest,
-            };
+            });
         }
         if names.len() < c.next {
-            return Next::NoMore;
+            return None;
         }
         let end = component_end(names, c.next);
         c = Cursor {

@@ -1,7 +1,7 @@
 -- The laws of what a declaration's leaves may hold: the ways through `good_type_path`, `good_shape`,
 -- `good_field`, `is_field`, `is_extension` and `is_value`.
 -- Assumes nothing.
-use Rattle.std.specs.Prelude.{◌≡◌, Bool, true, false, ◌&&◌, List, ℕ}
+use Rattle.std.specs.Prelude.{◌≡◌, Bool, true, false, ◌&&◌, List, ℕ, None, Option, Some}
 use Rattle.basis.proofs.Kit.{not-true, not-false}
 use Rattle.limits.specs.Figures.{most_number, most_type, most_label}
 use Rattle.octets.specs.Octets.{part}
@@ -9,11 +9,7 @@ use Rattle.ident.specs.Ident.{is_ident}
 use Rattle.path.specs.Path.{is_rel_path}
 use Rattle.sheet.specs.declared.declaration.Shape.{Shape}
 use Rattle.sheet.specs.declared.declaration.Declaration.{Declaration}
-use Rattle.sheet.specs.declared.declaration.Declared.{Declared}
-use Rattle.sheet.specs.declared.declaration.Declared.TheVariants.{Declares, NoDeclaration}
 use Rattle.sheet.specs.declared.declaration.Value.{Value}
-use Rattle.sheet.specs.declared.declaration.Valued.{Valued}
-use Rattle.sheet.specs.declared.declaration.Valued.TheVariants.{Values, NoValue}
 use Rattle.sheet.specs.Declaration.{has_type_path, extension_at, message_field_at, value_at}
 use Rattle.sheet.proofs.PlaceLaws.{extension-places-laws, field-places-laws, value-places-laws}
 use Rattle.declform.specs.Declarations.{in_range, good_type_path, good_shape, good_field, is_field, is_extension, is_value}
@@ -45,24 +41,24 @@ unfolding good_field
 good-field-is s d b x h y = rw (x, y)
 
 -- ---- is_field
-module _ (s : List ℕ) (a e : ℕ) (r : Declared) (q : r ≡ message_field_at s a e) where
-  pub field-none : r ≡ NoDeclaration → false ≡ is_field s a e
+module _ (s : List ℕ) (a e : ℕ) (r : Option Declaration) (q : r ≡ message_field_at s a e) where
+  pub field-none : r ≡ None → false ≡ is_field s a e
   unfolding is_field
   field-none g = simp (is_field, ← q, g)
 
-  pub field-some : (d : Declaration) → r ≡ Declares d → (b : Bool) → b ≡ good_field s d → b ≡ is_field s a e
+  pub field-some : (d : Declaration) → r ≡ Some d → (b : Bool) → b ≡ good_field s d → b ≡ is_field s a e
   unfolding is_field
   field-some d g b x = simp (is_field, ← q, g) x
 
 pub ruleset is-field-laws = (field-none, field-some, field-places-laws)
 
 -- ---- is_extension
-module _ (s : List ℕ) (a e : ℕ) (r : Declared) (q : r ≡ extension_at s a e) where
-  pub extension-none : r ≡ NoDeclaration → false ≡ is_extension s a e
+module _ (s : List ℕ) (a e : ℕ) (r : Option Declaration) (q : r ≡ extension_at s a e) where
+  pub extension-none : r ≡ None → false ≡ is_extension s a e
   unfolding is_extension
   extension-none g = simp (is_extension, ← q, g)
 
-  pub extension-some : (d : Declaration) → r ≡ Declares d → (b : Bool) → b ≡ is_rel_path (part s d.extendee.from d.extendee.to)
+  pub extension-some : (d : Declaration) → r ≡ Some d → (b : Bool) → b ≡ is_rel_path (part s d.extendee.from d.extendee.to)
       → (f : Bool) → f ≡ good_field s d → (b && f) ≡ is_extension s a e
   unfolding is_extension
   extension-some d g b x f y = simp (is_extension, ← q, g, x, y)
@@ -70,12 +66,12 @@ module _ (s : List ℕ) (a e : ℕ) (r : Declared) (q : r ≡ extension_at s a e
 pub ruleset is-extension-laws = (extension-none, extension-some, extension-places-laws)
 
 -- ---- is_value
-module _ (s : List ℕ) (a e : ℕ) (r : Valued) (q : r ≡ value_at s a e) where
-  pub value_none : r ≡ NoValue → false ≡ is_value s a e
+module _ (s : List ℕ) (a e : ℕ) (r : Option Value) (q : r ≡ value_at s a e) where
+  pub value_none : r ≡ None → false ≡ is_value s a e
   unfolding is_value
   value_none g = simp (is_value, ← q, g)
 
-  pub value-some : (v : Value) → r ≡ Values v → (b : Bool) → b ≡ is_ident (part s v.name.from v.name.to) → b ≡ is_value s a e
+  pub value-some : (v : Value) → r ≡ Some v → (b : Bool) → b ≡ is_ident (part s v.name.from v.name.to) → b ≡ is_value s a e
   unfolding is_value
   value-some v g b x = simp (is_value, ← q, g) x
 

@@ -10,15 +10,13 @@
 --       is_value s a e <=> an enum value's payload is from a to e
 --
 -- Assumes nothing.
-use Rattle.std.specs.Prelude.{Bool, true, false, ◌&&◌, List, ℕ, leb}
+use Rattle.std.specs.Prelude.{Bool, true, false, ◌&&◌, List, ℕ, leb, Some, None}
 use Rattle.limits.specs.Figures.{most_number, most_type, most_label}
 use Rattle.ident.specs.Ident.{is_ident}
 use Rattle.path.specs.Path.{is_rel_path}
 use Rattle.field.specs.Leaf.{text}
 use Rattle.sheet.specs.declared.declaration.Shape.{Shape}
 use Rattle.sheet.specs.declared.declaration.Declaration.{Declaration}
-use Rattle.sheet.specs.declared.declaration.Declared.TheVariants.{Declares, NoDeclaration}
-use Rattle.sheet.specs.declared.declaration.Valued.TheVariants.{Values, NoValue}
 use Rattle.sheet.specs.Declaration.{has_type_path, extension_at, message_field_at, value_at}
 
 abbrev pub in_range : (n most : ℕ) → Bool
@@ -36,11 +34,11 @@ unfoldable pub good_field : (s : List ℕ) (declaration : Declaration) → Bool
 good_field s d = is_ident (text s d.name) && good_shape s d.shape
 
 unfoldable pub is_field : (s : List ℕ) (from to : ℕ) → Bool
-is_field s a e = elim (message_field_at s a e) [ Declares d ↦ good_field s d | NoDeclaration ↦ false ]
+is_field s a e = elim (message_field_at s a e) [ Some d ↦ good_field s d | None ↦ false ]
 
 unfoldable pub is_extension : (s : List ℕ) (from to : ℕ) → Bool
 is_extension s a e =
-    elim (extension_at s a e) [ Declares d ↦ is_rel_path (text s d.extendee) && good_field s d | NoDeclaration ↦ false ]
+    elim (extension_at s a e) [ Some d ↦ is_rel_path (text s d.extendee) && good_field s d | None ↦ false ]
 
 unfoldable pub is_value : (s : List ℕ) (from to : ℕ) → Bool
-is_value s a e = elim (value_at s a e) [ Values v ↦ is_ident (text s v.name) | NoValue ↦ false ]
+is_value s a e = elim (value_at s a e) [ Some v ↦ is_ident (text s v.name) | None ↦ false ]

@@ -8,7 +8,7 @@ ghost use Rattle.declform.specs.Declarations.{in_range, good_type_path, good_sha
 use ident::protobuf_ident::is_ident;
 use limits::{MOST_LABEL, MOST_NUMBER, MOST_TYPE};
 use path::protobuf_rel_path::is_rel_path;
-use sheet::declaration::{Declaration, Declared, Shape, Valued, has_type_path};
+use sheet::declaration::{Declaration, Shape, has_type_path};
 
 // Whether a number is 1 to `most`.
 fn in_range(n: u64, most: u64) -> bool
@@ -56,7 +56,7 @@ pub fn is_field(s: &[u8], from: usize, to: usize) -> bool
     requires { (from ≤ to) × (to ≤ length s.now) }
     ensures { result ≡ is_field s.now from to }
 {
-    let Declared::Declares(d) = sheet::declaration::message_field_at(s, from, to) else {
+    let Some(d) = sheet::declaration::message_field_at(s, from, to) else {
         return false;
     };
     good_field(s, d)
@@ -67,7 +67,7 @@ pub fn is_extension(s: &[u8], from: usize, to: usize) -> bool
     requires { (from ≤ to) × (to ≤ length s.now) }
     ensures { result ≡ is_extension s.now from to }
 {
-    let Declared::Declares(d) = sheet::declaration::extension_at(s, from, to) else {
+    let Some(d) = sheet::declaration::extension_at(s, from, to) else {
         return false;
     };
     let x = d.extendee.from;
@@ -80,7 +80,7 @@ pub fn is_value(s: &[u8], from: usize, to: usize) -> bool
     requires { (from ≤ to) × (to ≤ length s.now) }
     ensures { result ≡ is_value s.now from to }
 {
-    let Valued::Values(v) = sheet::declaration::value_at(s, from, to) else {
+    let Some(v) = sheet::declaration::value_at(s, from, to) else {
         return false;
     };
     let n = v.name.from;

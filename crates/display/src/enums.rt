@@ -1,30 +1,29 @@
 // The name of a value of an enum.
 use console::output::text_at;
 use field::part::span_in;
-use field::{Field, Leaf, Span, field_at};
-use fullname::LookedUpEnum;
-use sheet::declaration::{Valued, value_at};
+use field::{Field, Span, field_at};
+use sheet::declaration::value_at;
 
 // Prints the first name that a number has in the enum that a type path of the sheet names, and says whether it has one.
 pub fn show_enumerator(s: &[u8], path: Span, number: u32) -> bool {
-    let Leaf::At { from, to } = span_in(s, path) else {
+    let Some(Span { from, to }) = span_in(s, path) else {
         return false;
     };
-    let LookedUpEnum::Values(values) = lookups::enum_at(s, Span { from: from, to: to }) else {
+    let Ok(values) = lookups::enum_at(s, Span { from: from, to: to }) else {
         return false;
     };
     let end = values.to;
     let mut at = values.from;
     while at < end {
-        let Field::Whole {
+        let Some(Field {
             tag: _,
             from: a,
             to: e,
-        } = field_at(s, at, end)
+        }) = field_at(s, at, end)
         else {
             return false;
         };
-        if let Valued::Values(v) = value_at(s, a, e) {
+        if let Some(v) = value_at(s, a, e) {
             if v.number == number {
                 text_at(s, v.name);
                 return true;

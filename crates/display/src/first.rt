@@ -4,7 +4,6 @@ ghost use Rattle.limits.specs.Figures.{most_option_bytes};
 ghost use Rattle.levels.specs.inner.Stack.{stack_words};
 ghost use Rattle.display.specs.inner.Waits.{Waits};
 
-use fullname::LookedUp;
 use levels::{Event, next, start};
 
 // The first record under a sheet; none where the options type is not found.
@@ -13,7 +12,7 @@ pub fn first_of(sheet: &[u8], options_type: &[u8], bytes: &[u8], stack: &mut [us
     requires bytes_len_bound { length bytes.now ≤ most_option_bytes }
     ensures { Waits sheet.now bytes.now stack.new result }
 {
-    let LookedUp::Message(place) = lookups::message(sheet, options_type) else {
+    let Ok(place) = lookups::message(sheet, options_type) else {
         return Event::End;
     };
     let cursor = start(bytes, stack, place);

@@ -11,7 +11,7 @@ fn around(s: &[u8], place: usize) {
     let end = s.len();
     let mut at = 0;
     while at < end {
-        let Field::Whole { tag, from, to } = field_at(s, at, end) else {
+        let Some(Field { tag, from, to }) = field_at(s, at, end) else {
             return;
         };
         if place < to {

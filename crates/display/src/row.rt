@@ -5,7 +5,7 @@ use crate::words::{BLANK, EQUALS, LINE_END, UNKNOWN, WIRES, show_word};
 use console::output::{number, text_at};
 use entries::{Entry, Row};
 use field::Span;
-use sheet::declaration::{Declaration, Declared};
+use sheet::declaration::Declaration;
 use types::TYPE_MESSAGE;
 
 // Two blanks, and two more for each level: there are 32 at most (MOST_LEVELS).
@@ -51,8 +51,8 @@ fn show_known(sheet: &[u8], bytes: &[u8], d: Declaration, entry: Entry) {
 pub fn show_entry(sheet: &[u8], bytes: &[u8], entry: Entry) {
     let by = entry.by;
     match by {
-        Declared::NoDeclaration => show_unknown(entry.number, entry.wire),
-        Declared::Declares(d) => show_known(sheet, bytes, d, entry),
+        None => show_unknown(entry.number, entry.wire),
+        Some(d) => show_known(sheet, bytes, d, entry),
     }
 }
 

@@ -1,7 +1,7 @@
 -- A loop that writes elements as it goes, and a public call that runs it twice: once over nothing, to measure, and once over the lent
 -- memory. One set of laws for elements of any type.
 -- Assumes nothing.
-use Rattle.std.specs.Prelude.{◌≡◌, refl, List, [], ◌∷◌, ◌++◌, ℕ, ◌+◌, ◌≤◌, ◌<◌, length, drop}
+use Rattle.std.specs.Prelude.{◌≡◌, refl, List, [], ◌∷◌, ◌++◌, ℕ, ◌+◌, ◌≤◌, ◌<◌, length, drop, Err, Ok, Result}
 use Rattle.basis.specs.Kit.{sym, ap, ◌∙◌, sets}
 use Rattle.basis.proofs.Kit.{arith}
 use mathlib.Core.List.{append-nil}
@@ -16,8 +16,6 @@ use Rattle.reply.specs.declared.Answer.{Answer}
 use Rattle.reply.specs.Reply.{refused_for, refused_by, done_with}
 use Rattle.reply.specs.Outcome.{Outcome, refused, give, push, Answered}
 use Rattle.reply.proofs.Outcomes.{push-push, push-nil, answered-refused, answered-no-room, answered-done}
-use Rattle.emit.specs.declared.Put.{Put}
-use Rattle.emit.specs.declared.Put.TheVariants.{Wrote, Refused}
 use Rattle.emit.specs.inner.Puts.{Puts, wrote, refuses}
 
 pub give-inv : {A : Type 0} {xs ys : List A} → give xs ≡ give ys → xs ≡ ys
@@ -50,10 +48,10 @@ module _ {A : Type 0} where
     pub front_length : length m ≡ length l
     front_length = laid-length k.front k.laid
 
-    pub front-refused : (c : Cause) → r ≡ refused c → Puts o at l m (Refused c)
+    pub front-refused : (c : Cause) → r ≡ refused c → Puts o at l m (Err c)
     front-refused c e = let q : o ≡ refused c = k.rest ∙ ap (push k.front) e in rw q refuses
 
-    pub front-done : r ≡ give [] → Puts o at l m (Wrote n)
+    pub front-done : r ≡ give [] → Puts o at l m (Ok n)
     front-done e =
         let q : o ≡ give k.front = k.rest ∙ ap (push k.front) e ∙ ap give (append-nil k.front) in
         rw q (wrote k.laid)
@@ -67,17 +65,17 @@ pub record Given {A : Type 0} (o : Outcome A) (at : ℕ) (l l' : List A) (n : �
   pub laid : Laid l at elements l' n
 
 module _ {A : Type 0} where
-  pub put-wrote : {o : Outcome A} {at : ℕ} {l l' : List A} {p : Put} (n : ℕ) → Puts o at l l' p → p ≡ Wrote n → Given o at l l' n
+  pub put-wrote : {o : Outcome A} {at : ℕ} {l l' : List A} {p : Result ℕ Cause} (n : ℕ) → Puts o at l l' p → p ≡ Ok n → Given o at l l' n
   put-wrote n (wrote {elements} {at} {next} laid) e =
       let same : next ≡ n = cc in
       record { elements = elements; is = refl; laid = rw same at laid }
   put-wrote n refuses e = never cc
 
-  pub put_refused : {o : Outcome A} {at : ℕ} {l l' : List A} {p : Put} (c : Cause) → Puts o at l l' p → p ≡ Refused c → o ≡ refused c
+  pub put_refused : {o : Outcome A} {at : ℕ} {l l' : List A} {p : Result ℕ Cause} (c : Cause) → Puts o at l l' p → p ≡ Err c → o ≡ refused c
   put_refused c (wrote laid) e = never cc
   put_refused c (refuses {cause}) e = let same : cause ≡ c = cc in ap refused same
 
-  pub put-left : {o : Outcome A} {at : ℕ} {l l' : List A} {p : Put} (es : List A) → Puts o at l l' p → o ≡ give es → l' ≡ sets l at es
+  pub put-left : {o : Outcome A} {at : ℕ} {l l' : List A} {p : Result ℕ Cause} (es : List A) → Puts o at l l' p → o ≡ give es → l' ≡ sets l at es
   put-left es (wrote {elements} laid) e = rw (give-inv e) at laid.left
   put-left es refuses e = never cc
 
@@ -91,11 +89,11 @@ module _ {A : Type 0} where
   sets-front es l h = sets-eq es l 0 (rw zero-add h) ∙ ap (λ n. es ++ drop n l) (zero-add (length es))
 
   -- the room that was lent to measure was empty, so it came back as it was
-  module _ (whole o : Outcome A) (e : whole ≡ o) (l z z' : List A) (p : Put) (measured : Puts o 0 z z' p) (empty : length z' ≡ 0) where
-    pub call-refused : (c : Cause) (r : Answer) → p ≡ Refused c → r ≡ refused_for c → Answered whole l (z' ++ l) r
+  module _ (whole o : Outcome A) (e : whole ≡ o) (l z z' : List A) (p : Result ℕ Cause) (measured : Puts o 0 z z' p) (empty : length z' ≡ 0) where
+    pub call-refused : (c : Cause) (r : Answer) → p ≡ Err c → r ≡ refused_for c → Answered whole l (z' ++ l) r
     call-refused c r q a = rw (a, empty-front z' l empty) (answered-refused whole l c (e ∙ put_refused c measured q))
 
-    pub call-no-room : (n : ℕ) (r : Answer) → p ≡ Wrote n → length (z' ++ l) < n → r ≡ refused_by NoRoom → Answered whole l (z' ++ l) r
+    pub call-no-room : (n : ℕ) (r : Answer) → p ≡ Ok n → length (z' ++ l) < n → r ≡ refused_by NoRoom → Answered whole l (z' ++ l) r
     call-no-room n r q h a =
         let g = put-wrote n measured q in
         let same : z' ++ l ≡ l = empty-front z' l empty in
@@ -104,9 +102,9 @@ module _ {A : Type 0} where
 
   -- the second run writes what the first measured
   module _
-      (whole o : Outcome A) (l l' z z' : List A) (n : ℕ) (r : Answer) (p p' : Put)
+      (whole o : Outcome A) (l l' z z' : List A) (n : ℕ) (r : Answer) (p p' : Result ℕ Cause)
       (a : r ≡ done_with n) (written : Puts o 0 (z' ++ l) l' p') where
-    pub call-done : Puts o 0 z z' p → p ≡ Wrote n → length z' ≡ 0 → n ≤ length (z' ++ l) → whole ≡ o → Answered whole l l' r
+    pub call-done : Puts o 0 z z' p → p ≡ Ok n → length z' ≡ 0 → n ≤ length (z' ++ l) → whole ≡ o → Answered whole l l' r
     call-done measured q empty h e =
         let g = put-wrote n measured q in
         let size : n ≡ length g.elements = g.laid.next ∙ zero-add (length g.elements) in

@@ -9,13 +9,6 @@ ghost use Rattle.reply.specs.Outcome.{give, Answered};
 
 use reply::{Answer, Cause, Refusal};
 
-// What a writer comes to: the place after its elements, or why it is refused.
-#[derive(Clone, Copy)]
-pub enum Put {
-    Wrote(usize),
-    Refused(Cause),
-}
-
 // One word at a place; past the end nothing is written.
 pub fn put_word(out: &mut [u32], at: usize, word: u32)
     ensures { out.new ≡ sets out.old at (word ∷ []) }

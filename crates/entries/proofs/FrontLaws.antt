@@ -1,6 +1,6 @@
 -- The record at a place, as the code answers it, is the item of the definition.
 -- Assumes nothing.
-use Rattle.std.specs.Prelude.{◌≡◌, refl, Bool, true, false, List, [], ◌∷◌, ℕ, ◌+◌, eqb, take, drop, Option, None}
+use Rattle.std.specs.Prelude.{◌≡◌, refl, Bool, true, false, List, [], ◌∷◌, ℕ, ◌+◌, eqb, take, drop, Option, None, Err, Some, Ok, Result}
 use Rattle.basis.specs.Kit.{sym, ap, ◌∙◌, some as is}
 use Rattle.basis.proofs.Kit.{arith}
 use Rattle.basis.proofs.Never.{never}
@@ -12,17 +12,13 @@ use Rattle.reply.specs.declared.Refusal.TheVariants.{BadBytes}
 use Rattle.field.specs.declared.Span.{Span}
 use Rattle.field.specs.Leaf.{text}
 use Rattle.types.specs.Types.{wire_of, TYPE_MESSAGE}
-use Rattle.varint.specs.declared.Read.{Read}
-use Rattle.varint.specs.declared.Read.TheVariants.{Varint, Bad}
-use Rattle.varint.specs.Varint.{read_varint, at_place, varint_at}
+use Rattle.varint.specs.Varint.{read_varint, at_place, varint_at, read}
 use Rattle.wire.specs.Tag.{number_of, wire_type_of, tag_good}
 use Rattle.payloads.specs.Extent.{Extent, payload_at}
 use Rattle.payloads.specs.Value.{said, value_of}
 use Rattle.payloads.specs.inner.Placed.{placed, payload_in}
 use Rattle.taken.specs.inner.Taking.{unknown_taken, plain_taken, known_taken}
 use Rattle.sheet.specs.declared.declaration.Declaration.{Declaration}
-use Rattle.fullname.specs.declared.LookedUp.{LookedUp}
-use Rattle.fullname.specs.declared.LookedUp.TheVariants.{Message as Found, NoMessage}
 use Rattle.lookups.specs.Lookups.{Lookups, Message}
 use Rattle.entries.specs.declared.Entry.{Entry}
 use Rattle.entries.specs.declared.Front.{Front}
@@ -31,6 +27,9 @@ use Rattle.entries.specs.Item.{Item, some, wrong, declared, entered, entry, plai
 use Rattle.entries.specs.inner.Fronts.{unknown_of, on_message, entered_of, entry_of, known_front, known_of, by_declared, behind_tag}
 use Rattle.entries.specs.inner.Fronts.{Shows, leaf, inside, wrongly}
 use Rattle.entries.proofs.PartLaws.{part-behind}
+use Rattle.reply.specs.declared.Refusal.{Refusal}
+use Rattle.scope.specs.declared.lookup.LookupScope.{LookupScope}
+use Rattle.varint.specs.declared.Read.{Read}
 
 -- ---- behind a good tag of n bytes
 shows-either : {A : Type 0} (s : List ℕ) (at : ℕ) (f : A → Front) (b : Bool) (i j : Item) (x y : A) → Shows s at i (f x) → Shows s at j (f y)
@@ -38,10 +37,10 @@ shows-either : {A : Type 0} (s : List ℕ) (at : ℕ) (f : A → Front) (b : Boo
 shows-either s at f true i j x y p q = p
 shows-either s at f false i j x y p q = q
 
-shows-message : (s : List ℕ) (at : ℕ) (e : Entry) (p : Span) (skip : ℕ) → e.place ≡ at + skip → (u : LookedUp)
+shows-message : (s : List ℕ) (at : ℕ) (e : Entry) (p : Span) (skip : ℕ) → e.place ≡ at + skip → (u : Result LookupScope Refusal)
     → Shows s at (entered e (text s p) skip e.size u) (on_message e p u)
-shows-message s at e p skip h (NoMessage y) = wrongly
-shows-message s at e p skip h (Found q) = inside h
+shows-message s at e p skip h (Err y) = wrongly
+shows-message s at e p skip h (Ok q) = inside h
 
 module _ (L : Lookups) (s : List ℕ) (m : Message) (at : ℕ) (bs : List ℕ) (t n : ℕ) where
   abbrev w : ℕ
@@ -84,62 +83,62 @@ module _ (L : Lookups) (s : List ℕ) (m : Message) (at : ℕ) (bs : List ℕ) (
 
 -- ---- the item by its tag
 module _ (L : Lookups) (s : List ℕ) (m : Message) (at : ℕ) (bs : List ℕ) where
-  item-no-tag : read_varint bs ≡ Bad → item L s m at bs ≡ wrong BadBytes
+  item-no-tag : read_varint bs ≡ None → item L s m at bs ≡ wrong BadBytes
   unfolding item
   item-no-tag e = rw e
 
-  module _ (t n : ℕ) (e : read_varint bs ≡ Varint t n) where
-    item-bad-tag : tag_good t ≡ false → item L s m at bs ≡ wrong BadBytes
+  module _ (x : Read) (e : read_varint bs ≡ Some x) where
+    item-bad-tag : tag_good x.value ≡ false → item L s m at bs ≡ wrong BadBytes
     unfolding item
     item-bad-tag g = rw e (rw (g, by_tag))
 
-    item-good : tag_good t ≡ true
-        → item L s m at bs ≡ by_declaration L s m at bs (declared s m (number_of t)) t n (payload_at (wire_type_of t) (drop n bs))
+    item-good : tag_good x.value ≡ true
+        → item L s m at bs ≡ by_declaration L s m at bs (declared s m (number_of x.value)) x.value x.next (payload_at (wire_type_of x.value) (drop x.next bs))
     unfolding item
     item-good g = rw e (rw (g, by_tag))
 
 -- ---- what `varint_at` has read
-placed-bad : (at : ℕ) (r : Read) → Bad ≡ at_place at r → r ≡ Bad
-placed-bad at (Varint v n) e = never cc
-placed-bad at Bad e = refl
+placed-bad : (at : ℕ) (r : Option Read) → None ≡ at_place at r → r ≡ None
+placed-bad at (Some it) e = never cc
+placed-bad at None e = refl
 
 record ReadAs (bs : List ℕ) (at t next : ℕ) : Type 0 where
   pub size : ℕ
-  pub read : read_varint bs ≡ Varint t size
+  pub read : read_varint bs ≡ Some (read t size)
   pub place : next ≡ at + size
 
-placed-read : (bs : List ℕ) (at t next : ℕ) (r : Read) → read_varint bs ≡ r → Varint t next ≡ at_place at r → ReadAs bs at t next
-placed-read bs at t next (Varint v n) e q = record { size = n; read = cc; place = cc }
-placed-read bs at t next Bad e q = never cc
+placed-read : (bs : List ℕ) (at : ℕ) (x : Read) (r : Option Read) → read_varint bs ≡ r → Some x ≡ at_place at r → ReadAs bs at x.value x.next
+placed-read bs at x (Some it1) e q = record { size = it1.next; read = cc; place = cc }
+placed-read bs at x None e q = never cc
 
 module _ (L : Lookups) (s : List ℕ) (m : Message) (bs : List ℕ) (at end : ℕ) where
   abbrev left : List ℕ
   left = part bs at end
 
-  pub shows-behind : (t n : ℕ) → read_varint left ≡ Varint t n → tag_good t ≡ true
-      → Shows s at (item L s m at left) (behind_tag L s m bs t (at + n) end)
+  pub shows-behind : (x : Read) → read_varint left ≡ Some x → tag_good x.value ≡ true
+      → Shows s at (item L s m at left) (behind_tag L s m bs x.value (at + x.next) end)
   unfolding behind_tag payload_in
-  shows-behind t n e g =
-      rw (item-good L s m at left t n e g, ← (part-behind bs at n end))
-      (shows-declared L s m at left t n (declared s m (number_of t)) (payload_at (wire_type_of t) (drop n left)))
+  shows-behind x e g =
+      rw (item-good L s m at left x.value x.next e g, ← (part-behind bs at x.next end))
+      (shows-declared L s m at left x.value x.next (declared s m (number_of x.value)) (payload_at (wire_type_of x.value) (drop x.next left)))
 
-  module _ (v : Read) (p : v ≡ varint_at bs at end) where
-    pub front-no-tag : v ≡ Bad → Shows s at (item L s m at left) (Wrong BadBytes)
+  module _ (v : Option Read) (p : v ≡ varint_at bs at end) where
+    pub front-no-tag : v ≡ None → Shows s at (item L s m at left) (Wrong BadBytes)
     unfolding varint_at
     front-no-tag q = rw (item-no-tag L s m at left (placed-bad at (read_varint left) (sym q ∙ p))) wrongly
 
-    module _ (t next : ℕ) (q : v ≡ Varint t next) (b : Bool) (g : b ≡ tag_good t) where
-      tag_read : ReadAs left at t next
+    module _ (y : Read) (q : v ≡ Some y) (b : Bool) (g : b ≡ tag_good y.value) where
+      tag_read : ReadAs left at y.value y.next
       unfolding varint_at
-      tag_read = placed-read left at t next (read_varint left) refl (sym q ∙ p)
+      tag_read = placed-read left at y.value y.next (read_varint left) refl (sym q ∙ p)
 
       pub front-bad-tag : b ≡ false → Shows s at (item L s m at left) (Wrong BadBytes)
-      front-bad-tag h = rw (item-bad-tag L s m at left t tag_read.size tag_read.read (sym g ∙ h)) wrongly
+      front-bad-tag h = rw (item-bad-tag L s m at left y.value tag_read.size tag_read.read (sym g ∙ h)) wrongly
 
-      pub front-good : b ≡ true → (r : Front) → r ≡ behind_tag L s m bs t next end → Shows s at (item L s m at left) r
+      pub front-good : b ≡ true → (r : Front) → r ≡ behind_tag L s m bs y.value y.next end → Shows s at (item L s m at left) r
       front-good h r e =
-          subst (Shows s at (item L s m at left)) (sym (e ∙ ap (λ (x : ℕ). behind_tag L s m bs t x end) tag_read.place))
-          (shows-behind t tag_read.size tag_read.read (sym g ∙ h))
+          subst (Shows s at (item L s m at left)) (sym (e ∙ ap (λ (x : ℕ). behind_tag L s m bs y.value x end) tag_read.place))
+          (shows-behind y.value tag_read.size tag_read.read (sym g ∙ h))
 
 pub tag-good : (t : ℕ) (b : Bool) → b ≡ tag_good t → b ≡ true → tag_good t ≡ true
 tag-good t b g h = sym g ∙ h

@@ -1,6 +1,6 @@
 -- The records of a level, one after the other: the first is the item at the front, and the others are read where it ends.
 -- Assumes nothing.
-use Rattle.std.specs.Prelude.{◌≡◌, refl, List, [], ◌∷◌, ℕ, zero, suc, ◌+◌, ◌-◌, ◌≤◌, ◌<◌, eqb, length, drop, Option, None}
+use Rattle.std.specs.Prelude.{◌≡◌, refl, List, [], ◌∷◌, ℕ, zero, suc, ◌+◌, ◌-◌, ◌≤◌, ◌<◌, eqb, length, drop, Option, None, Err, Some, Ok, Result}
 use Rattle.basis.specs.Kit.{sym, ap, ◌∙◌, some as is}
 use Rattle.basis.proofs.Kit.{arith}
 use mathlib.Core.Path.{subst}
@@ -8,21 +8,20 @@ use native.Mathlib.Nat.{add-zero}
 use native.Mathlib.Numerals.{sub-one}
 use Rattle.field.specs.Leaf.{text}
 use Rattle.types.specs.Types.{wire_of, TYPE_MESSAGE}
-use Rattle.varint.specs.declared.Read.{Read}
-use Rattle.varint.specs.declared.Read.TheVariants.{Varint, Bad}
 use Rattle.varint.specs.Varint.{read_varint}
 use Rattle.varint.proofs.VarintLaws.{read_some}
 use Rattle.wire.specs.Tag.{number_of, wire_type_of, tag_good}
 use Rattle.payloads.specs.Extent.{Extent, payload_at}
 use Rattle.sheet.specs.declared.declaration.Declaration.{Declaration}
-use Rattle.fullname.specs.declared.LookedUp.{LookedUp}
-use Rattle.fullname.specs.declared.LookedUp.TheVariants.{Message as Found, NoMessage}
 use Rattle.lookups.specs.Lookups.{Lookups, Message}
 use Rattle.entries.specs.declared.Entry.{Entry}
 use Rattle.entries.specs.Tree.{end}
 use Rattle.entries.specs.Item.{Item, some, into, wrong, declared, entered, entry, plain, by_declaration, by_tag, item}
 use Rattle.entries.specs.Reading.{Listed, listed, follow, records_from}
 use Rattle.entries.proofs.Either.{either}
+use Rattle.reply.specs.declared.Refusal.{Refusal}
+use Rattle.scope.specs.declared.lookup.LookupScope.{LookupScope}
+use Rattle.varint.specs.declared.Read.{Read}
 
 -- ---- every item takes at least one byte, that of its tag
 abbrev pub Takes : Item → Type 0
@@ -30,9 +29,9 @@ Takes (some es k) = 1 ≤ k
 Takes (into e n k size) = 1 ≤ k
 Takes (wrong w) = Unit {0}
 
-entered-takes : (e : Entry) (name : List ℕ) (k size : ℕ) (l : LookedUp) → 1 ≤ k → Takes (entered e name k size l)
-entered-takes e name k size (NoMessage w) h = tt
-entered-takes e name k size (Found p) h = h
+entered-takes : (e : Entry) (name : List ℕ) (k size : ℕ) (l : Result LookupScope Refusal) → 1 ≤ k → Takes (entered e name k size l)
+entered-takes e name k size (Err w) h = tt
+entered-takes e name k size (Ok p) h = h
 
 module _ (L : Lookups) (s : List ℕ) (m : Message) (place : ℕ) (bs : List ℕ) where
   module _ (t n : ℕ) (h : 1 ≤ n) where
@@ -52,11 +51,11 @@ module _ (L : Lookups) (s : List ℕ) (m : Message) (place : ℕ) (bs : List ℕ
     declared-takes (is d) x =
         either Takes (eqb (wire_of d.shape.typ) (wire_type_of t)) (plain L s m place bs d t n x) _ (plain-takes d x) tt
 
-  tag-takes : (r : Read) → read_varint bs ≡ r → Takes (by_tag L s m place bs r)
-  tag-takes Bad e = tt
-  tag-takes (Varint t n) e =
-      either Takes (tag_good t) (by_declaration L s m place bs (declared s m (number_of t)) t n (payload_at (wire_type_of t) (drop n bs))) _
-      (declared-takes t n (read_some bs t n e) (declared s m (number_of t)) (payload_at (wire_type_of t) (drop n bs)))
+  tag-takes : (r : Option Read) → read_varint bs ≡ r → Takes (by_tag L s m place bs r)
+  tag-takes None e = tt
+  tag-takes (Some it) e =
+      either Takes (tag_good it.value) (by_declaration L s m place bs (declared s m (number_of it.value)) it.value it.next (payload_at (wire_type_of it.value) (drop it.next bs))) _
+      (declared-takes it.value it.next (read_some bs it.value it.next e) (declared s m (number_of it.value)) (payload_at (wire_type_of it.value) (drop it.next bs)))
       tt
 
   pub item-takes : Takes (item L s m place bs)

@@ -1,6 +1,6 @@
 -- The laws of the record behind a tag, one for each way through the code: of a number that nothing declares, and of a known one.
 -- Assumes nothing.
-use Rattle.std.specs.Prelude.{◌≡◌, refl, true, List, ℕ, Option, None}
+use Rattle.std.specs.Prelude.{◌≡◌, refl, true, List, ℕ, Option, None, Err, Some, Ok, Result}
 use Rattle.basis.specs.Kit.{sym, ◌∙◌, some as is}
 use Rattle.basis.proofs.Kit.{arith, eq-eqb, ne_eqb, Fits}
 use Rattle.basis.proofs.Never.{never}
@@ -11,55 +11,51 @@ use Rattle.field.specs.Leaf.{text}
 use Rattle.types.specs.Types.{TYPE_MESSAGE}
 use Rattle.wire.specs.Tag.{number_of, wire_type_of, wire_read, tag_good}
 use Rattle.wire.proofs.TagLaws.{tag-good-le, tag-good-wire}
-use Rattle.payloads.specs.declared.Payload.{Payload}
 use Rattle.payloads.specs.inner.Placed.{payload_in}
 use Rattle.taken.specs.declared.Taken.{Taken}
 use Rattle.taken.specs.declared.Taken.TheVariants as taken
 use Rattle.taken.specs.inner.Taking.{unknown_taken, known_taken}
 use Rattle.sheet.specs.declared.declaration.Declaration.{Declaration}
-use Rattle.sheet.specs.declared.declaration.Declared.{Declared}
-use Rattle.sheet.specs.declared.declaration.Declared.TheVariants.{Declares, NoDeclaration}
 use Rattle.scope.specs.declared.lookup.LookupScope.{LookupScope}
 use Rattle.scope.specs.Scope.{holding}
 use Rattle.scope.specs.inner.Answers.{declared}
 use Rattle.scope.proofs.Answers.{declared-some}
 use Rattle.numbers.specs.Number.{declaration_of}
-use Rattle.fullname.specs.declared.LookedUp.{LookedUp}
-use Rattle.fullname.specs.declared.LookedUp.TheVariants.{Message as Found, NoMessage}
 use Rattle.lookups.specs.Lookups.{walking}
 use Rattle.entries.specs.declared.Entry.{Entry}
 use Rattle.entries.specs.declared.Front.{Front}
 use Rattle.entries.specs.declared.Front.TheVariants.{Leaf, Inside, Wrong}
 use Rattle.entries.specs.inner.Fronts.{message, unknown_of, entered_of, known_front, known_of, by_declared, behind_tag}
 use Rattle.entries.proofs.LiesLaws.{payload-in-laws}
+use Rattle.payloads.specs.declared.Payload.{Payload}
 
 -- ---- unknown
-module _ (k w : ℕ) (p : Payload) (x : Taken) (q : x ≡ unknown_taken p) where
+module _ (k w : ℕ) (p : Option Payload) (x : Taken) (q : x ≡ unknown_taken p) where
   pub unknown-wrong : (r : Refusal) → x ≡ taken.Wrong r → Wrong r ≡ unknown_of k w p
   unfolding unknown_of
   unknown-wrong r e = rw (← q, e)
 
   pub unknown-record : (at size v next : ℕ) → x ≡ taken.Record at size v next
-      → Leaf (record { number = k; typ = 0; wire = w; place = at; size = size; value = v; by = NoDeclaration }) next ≡ unknown_of k w p
+      → Leaf (record { number = k; typ = 0; wire = w; place = at; size = size; value = v; by = None }) next ≡ unknown_of k w p
   unfolding unknown_of
   unknown-record at size v next e = rw (← q, e)
 
 pub ruleset unknown-laws = (unknown-wrong, unknown-record)
 
 -- ---- entered
-module _ (s : List ℕ) (e : Entry) (p : Span) (u : LookedUp) (q : u ≡ (walking s).message (text s p)) where
-  pub entered-none : (w : Refusal) → u ≡ NoMessage w → Wrong w ≡ entered_of (walking s) s e p
+module _ (s : List ℕ) (e : Entry) (p : Span) (u : Result LookupScope Refusal) (q : u ≡ (walking s).message (text s p)) where
+  pub entered-none : (w : Refusal) → u ≡ Err w → Wrong w ≡ entered_of (walking s) s e p
   unfolding entered_of
   entered-none w g = rw (← q, g)
 
-  pub entered-found : (c : LookupScope) → u ≡ Found c → Inside e p c ≡ entered_of (walking s) s e p
+  pub entered-found : (c : LookupScope) → u ≡ Ok c → Inside e p c ≡ entered_of (walking s) s e p
   unfolding entered_of
   entered-found c g = rw (← q, g)
 
 pub ruleset entered-laws = (entered-none, entered-found)
 
 -- ---- known
-module _ (s : List ℕ) (d : Declaration) (k w : ℕ) (p : Payload) (t : ℕ) (i : t ≡ d.shape.typ) (x : Taken) (q : x ≡ known_taken t w p) where
+module _ (s : List ℕ) (d : Declaration) (k w : ℕ) (p : Option Payload) (t : ℕ) (i : t ≡ d.shape.typ) (x : Taken) (q : x ≡ known_taken t w p) where
   taken-by : (y : Taken) → x ≡ y → known_of (walking s) s d k w p ≡ known_front (walking s) s d k w y
   unfolding known_of
   taken-by y e = rw (← e, q, i)
@@ -69,7 +65,7 @@ module _ (s : List ℕ) (d : Declaration) (k w : ℕ) (p : Payload) (t : ℕ) (i
 
   module _ (at size v next : ℕ) (e : x ≡ taken.Record at size v next) where
     abbrev here : Entry
-    here = record { number = k; typ = d.shape.typ; wire = w; place = at; size = size; value = v; by = Declares d }
+    here = record { number = k; typ = d.shape.typ; wire = w; place = at; size = size; value = v; by = Some d }
 
     pub known-message : t ≡ TYPE_MESSAGE → (r : Front) → r ≡ entered_of (walking s) s here d.shape.path
         → r ≡ known_of (walking s) s d k w p
@@ -90,22 +86,22 @@ module _ (t : ℕ) (g : tag_good t ≡ true) where
   pub wire-read : (w : ℕ) → w ≡ wire_type_of t → wire_read w ≡ true
   wire-read w e = rw e (tag-good-wire t g)
 
-none-declared : (o : Option Declaration) → declared o ≡ NoDeclaration → o ≡ None
+none-declared : (o : Option Declaration) → declared o ≡ None → o ≡ None
 none-declared None e = refl
 none-declared (is d) e = never cc
 
 module _ (s name : List ℕ) (place : LookupScope) (bs : List ℕ) (t at end k : ℕ) (i : k ≡ number_of t) (w : ℕ) (j : w ≡ wire_type_of t)
-    (p : Payload) (q : p ≡ payload_in w bs at end) (a : Declared) (c : a ≡ declared (declaration_of s (holding s place) name k)) where
+    (p : Option Payload) (q : p ≡ payload_in w bs at end) (a : Option Declaration) (c : a ≡ declared (declaration_of s (holding s place) name k)) where
   by-declared : (o : Option Declaration) → declaration_of s (holding s place) name k ≡ o
       → behind_tag (walking s) s (message name place) bs t at end ≡ by_declared (walking s) s o k w p
   unfolding behind_tag
   by-declared o e = rw (← e, q, i, j)
 
-  pub behind-unknown : a ≡ NoDeclaration → (r : Front) → r ≡ unknown_of k w p
+  pub behind-unknown : a ≡ None → (r : Front) → r ≡ unknown_of k w p
       → r ≡ behind_tag (walking s) s (message name place) bs t at end
   behind-unknown g r e = e ∙ sym (by-declared None (none-declared (declaration_of s (holding s place) name k) (sym c ∙ g)))
 
-  pub behind-known : (d : Declaration) → a ≡ Declares d → (r : Front) → r ≡ known_of (walking s) s d k w p
+  pub behind-known : (d : Declaration) → a ≡ Some d → (r : Front) → r ≡ known_of (walking s) s d k w p
       → r ≡ behind_tag (walking s) s (message name place) bs t at end
   behind-known d g r e = e ∙ sym (by-declared (is d) (declared-some a (declaration_of s (holding s place) name k) c d g))
 

@@ -12,26 +12,23 @@
 --   item L s m place bs == the record at the front
 --
 -- Assumes nothing.
-use Rattle.std.specs.Prelude.{true, false, List, [], ◌∷◌, ℕ, ◌+◌, eqb, take, drop, Option, None}
+use Rattle.std.specs.Prelude.{true, false, List, [], ◌∷◌, ℕ, ◌+◌, eqb, take, drop, Option, None, Err, Some, Ok, Result}
 use Rattle.basis.specs.Kit.{some as is}
 use Rattle.reply.specs.declared.Refusal.{Refusal}
 use Rattle.reply.specs.declared.Refusal.TheVariants.{BadBytes, WireMismatch}
 use Rattle.field.specs.Leaf.{text}
 use Rattle.types.specs.Types.{wire_of, TYPE_MESSAGE}
-use Rattle.varint.specs.declared.Read.{Read}
-use Rattle.varint.specs.declared.Read.TheVariants.{Varint, Bad}
 use Rattle.varint.specs.Varint.{read_varint}
 use Rattle.wire.specs.Tag.{number_of, wire_type_of, tag_good}
 use Rattle.payloads.specs.Extent.{Extent, payload_at}
 use Rattle.payloads.specs.Value.{said, value_of}
 use Rattle.sheet.specs.declared.declaration.Declaration.{Declaration}
-use Rattle.sheet.specs.declared.declaration.Declared.TheVariants.{Declares, NoDeclaration}
 use Rattle.scope.specs.Scope.{holding}
 use Rattle.numbers.specs.Number.{declaration_of}
-use Rattle.fullname.specs.declared.LookedUp.{LookedUp}
-use Rattle.fullname.specs.declared.LookedUp.TheVariants.{Message as Found, NoMessage}
 use Rattle.lookups.specs.Lookups.{Lookups, Message}
 use Rattle.entries.specs.declared.Entry.{Entry}
+use Rattle.scope.specs.declared.lookup.LookupScope.{LookupScope}
+use Rattle.varint.specs.declared.Read.{Read}
 
 pub data Item : Type 0 where
   some : List Entry → (skip : ℕ) → Item
@@ -43,9 +40,9 @@ abbrev pub declared : (s : List ℕ) → Message → (number : ℕ) → Option D
 declared s m k = declaration_of s (holding s m.place) m.name k
 
 -- 7 or 8 for a known message's type path [LIST-9]
-abbrev pub entered : Entry → (name : List ℕ) (skip size : ℕ) → LookedUp → Item
-entered e name k size (NoMessage w) = wrong w
-entered e name k size (Found p) = into e (record { name = name; place = p }) k size
+abbrev pub entered : Entry → (name : List ℕ) (skip size : ℕ) → Result LookupScope Refusal → Item
+entered e name k size (Err w) = wrong w
+entered e name k size (Ok p) = into e (record { name = name; place = p }) k size
 
 module _ (L : Lookups) (s : List ℕ) (m : Message) (place : ℕ) (bs : List ℕ) where
   -- "unknown ones are not entered"; "Length-delimited and unknown records have value 0" [LIST-2, LIST-7]
@@ -58,7 +55,7 @@ module _ (L : Lookups) (s : List ℕ) (m : Message) (place : ℕ) (bs : List ℕ
     place = place + (n + x.before);
     size = x.size;
     value = 0;
-    by = NoDeclaration;
+    by = None;
   } ∷ []) (n + x.before + x.size)
 
   -- "place and length of the payload": the place counts from the first of all option bytes, at every level [LIST-5]
@@ -70,7 +67,7 @@ module _ (L : Lookups) (s : List ℕ) (m : Message) (place : ℕ) (bs : List ℕ
     place = place + (n + x.before);
     size = x.size;
     value = value_of d.shape.typ (said (wire_type_of t) (take x.size (drop (n + x.before) bs)));
-    by = Declares d;
+    by = Some d;
   }
 
   abbrev pub plain : Declaration → (tag size : ℕ) → Option Extent → Item
@@ -93,10 +90,10 @@ module _ (L : Lookups) (s : List ℕ) (m : Message) (place : ℕ) (bs : List ℕ
   by_declaration (is d) t n x = known d t n x
 
   -- "Wire types 3, 4, 6, 7, a number outside the range above, a longer varint or a cut record are 18" [WIRE-5, LIST-4, LIST-9]
-  abbrev pub by_tag : Read → Item
-  by_tag Bad = wrong BadBytes
-  by_tag (Varint t n) = elim (tag_good t) [
-    | true ↦ by_declaration (declared s m (number_of t)) t n (payload_at (wire_type_of t) (drop n bs))
+  abbrev pub by_tag : Option Read → Item
+  by_tag None = wrong BadBytes
+  by_tag (Some r) = elim (tag_good r.value) [
+    | true ↦ by_declaration (declared s m (number_of r.value)) r.value r.next (payload_at (wire_type_of r.value) (drop r.next bs))
     | false ↦ wrong BadBytes
   ]
 

@@ -10,16 +10,15 @@
 --       records_of L s t bs == the message that the options type t is, with the records of bs under it; or the first fault
 --
 -- Assumes nothing.
-use Rattle.std.specs.Prelude.{List, [], ◌∷◌, ℕ, zero, suc, ◌+◌, ◌-◌, take, drop}
+use Rattle.std.specs.Prelude.{List, [], ◌∷◌, ℕ, zero, suc, ◌+◌, ◌-◌, take, drop, Err, Ok, Result}
 use Rattle.limits.specs.Figures.{most_levels}
 use Rattle.reply.specs.declared.Refusal.{Refusal}
 use Rattle.reply.specs.declared.Refusal.TheVariants.{BeyondLimit}
-use Rattle.fullname.specs.declared.LookedUp.{LookedUp}
-use Rattle.fullname.specs.declared.LookedUp.TheVariants.{Message as Found, NoMessage}
 use Rattle.lookups.specs.Lookups.{Lookups, Message}
 use Rattle.entries.specs.declared.Entry.{Entry}
 use Rattle.entries.specs.Tree.{Tree, end, held, leaves}
 use Rattle.entries.specs.Item.{Item, some, into, wrong, item}
+use Rattle.scope.specs.declared.lookup.LookupScope.{LookupScope}
 
 pub data Listed : Type 0 where
   listed : Tree → Listed
@@ -62,9 +61,9 @@ within m (refused w) = refused_by w
 
 -- 01, Replies: "Then the options type, then the option bytes" [ORDER-1, QUERY-2]
 module _ (L : Lookups) (s type bs : List ℕ) where
-  abbrev pub on_type : LookedUp → Under
-  on_type (NoMessage w) = refused_by w
-  on_type (Found p) = within (record { name = type; place = p }) (reading L s most_levels (record { name = type; place = p }) 0 bs)
+  abbrev pub on_type : Result LookupScope Refusal → Under
+  on_type (Err w) = refused_by w
+  on_type (Ok p) = within (record { name = type; place = p }) (reading L s most_levels (record { name = type; place = p }) 0 bs)
 
   unfoldable pub records_of : Under
   records_of = on_type (L.message type)

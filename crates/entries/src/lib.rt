@@ -14,12 +14,11 @@ ghost use Rattle.entries.specs.Item.{item};
 ghost use Rattle.entries.specs.inner.Fronts.{message as message_of, unknown_of, known_of, entered_of, behind_tag, Shows, FrontLies};
 
 use field::Span;
-use fullname::LookedUp;
 use numbers::declaration_of;
 use payloads::{Payload, payload_at};
 use reply::Refusal;
 use scope::lookup::LookupScope;
-use sheet::declaration::{Declaration, Declared};
+use sheet::declaration::Declaration;
 use taken::{Taken, take_known, take_unknown};
 use types::TYPE_MESSAGE;
 use varint::{Read, varint_at};
@@ -34,7 +33,7 @@ pub struct Entry {
     pub place: u32,
     pub size: u32,
     pub value: u64,
-    pub by: Declared,
+    pub by: Option<Declaration>,
 }
 
 // A record with its level, 0 the outermost.
@@ -61,7 +60,7 @@ pub enum Front {
 }
 
 // A record of a number that nothing declares.
-fn unknown(number: u32, wire: u8, payload: Payload) -> Front
+fn unknown(number: u32, wire: u8, payload: Option<Payload>) -> Front
     requires { PayloadIn most_option_bytes payload }
     ensures { result ≡ unknown_of number wire payload }
 {
@@ -80,7 +79,7 @@ fn unknown(number: u32, wire: u8, payload: Payload) -> Front
                 place: place,
                 size: size,
                 value: value,
-                by: Declared::NoDeclaration,
+                by: None,
             },
             next: next,
         },
@@ -93,8 +92,8 @@ fn entered(sheet: &[u8], entry: Entry, path: Span) -> Front
     ensures { result ≡ entered_of (walking sheet.now) sheet.now entry path }
 {
     match lookups::message_at(sheet, path) {
-        LookedUp::NoMessage(why) => Front::Wrong(why),
-        LookedUp::Message(place) => Front::Inside {
+        Err(why) => Front::Wrong(why),
+        Ok(place) => Front::Inside {
             entry: entry,
             path: path,
             place: place,
@@ -103,7 +102,7 @@ fn entered(sheet: &[u8], entry: Entry, path: Span) -> Front
 }
 
 // A record that this declares.
-fn known(sheet: &[u8], d: Declaration, number: u32, wire: u8, payload: Payload) -> Front
+fn known(sheet: &[u8], d: Declaration, number: u32, wire: u8, payload: Option<Payload>) -> Front
     requires payload_in { PayloadIn most_option_bytes payload }
     requires lies { Lies d.shape.path sheet.now }
     ensures { result ≡ known_of (walking sheet.now) sheet.now d number wire payload }
@@ -124,7 +123,7 @@ fn known(sheet: &[u8], d: Declaration, number: u32, wire: u8, payload: Payload) 
                 place: place,
                 size: size,
                 value: value,
-                by: Declared::Declares(d),
+                by: Some(d),
             };
             if typ == TYPE_MESSAGE {
                 return entered(sheet, entry, d.shape.path);
@@ -158,8 +157,8 @@ fn behind_tag(
     let wire = wire_type_of(tag);
     let payload = payload_at(bytes, wire, at, end);
     match declaration_of(sheet, place, message, number) {
-        Declared::NoDeclaration => unknown(number, wire, payload),
-        Declared::Declares(d) => known(sheet, d, number, wire, payload),
+        None => unknown(number, wire, payload),
+        Some(d) => known(sheet, d, number, wire, payload),
     }
 }
 
@@ -179,7 +178,7 @@ pub fn front_at(
         (message_of message.now place) at (part bytes.now at end)) result }
     ensures lies { FrontLies sheet.now at end result }
 {
-    let Read::Varint { value: tag, next } = varint_at(bytes, at, end) else {
+    let Some(Read { value: tag, next }) = varint_at(bytes, at, end) else {
         return Front::Wrong(Refusal::BadBytes);
     };
     if !tag_good(tag) {

@@ -1,13 +1,11 @@
 -- The laws of a loop over the fields of a message that looks for the first reason, whatever that is of a declaration.
 -- Assumes nothing.
-use Rattle.std.specs.Prelude.{◌≡◌, refl, true, false, List, ◌++◌, ℕ, eqb}
+use Rattle.std.specs.Prelude.{◌≡◌, refl, true, false, List, ◌++◌, ℕ, eqb, Some, None, Option}
 use Rattle.basis.specs.Kit.{sym, ap, ◌∙◌}
 use Rattle.field.specs.declared.Span.{Span}
 use Rattle.field.specs.Walk.{Walk, done, cut, step, walk}
 use Rattle.field.proofs.Seek.{seek, seek_is, seek-laws}
 use Rattle.sheet.specs.declared.declaration.Declaration.{Declaration}
-use Rattle.sheet.specs.declared.declaration.Declared.{Declared}
-use Rattle.sheet.specs.declared.declaration.Declared.TheVariants.{Declares, NoDeclaration}
 use Rattle.sheet.specs.Table.{field_tag}
 use Rattle.sheet.specs.Declaration.{message_field_at}
 use Rattle.sheet.specs.Tree.{items_in}
@@ -25,11 +23,11 @@ pub also-stays : (r : Reason) (w : Why) (k : ℕ) (p : Span) → r ≡ No w k p 
 also-stays r w k p g q = rw g refl
 
 -- ---- one field
-module _ (f : Declaration → Reason) (r x : Declared) (q : r ≡ x) where
-  pub declared-none : r ≡ NoDeclaration → Yes ≡ on_declared f x
+module _ (f : Declaration → Reason) (r x : Option Declaration) (q : r ≡ x) where
+  pub declared-none : r ≡ None → Yes ≡ on_declared f x
   declared-none g = rw (← q, g) refl
 
-  pub declared-one : (d : Declaration) → r ≡ Declares d → (u : Reason) → u ≡ f d → u ≡ on_declared f x
+  pub declared-one : (d : Declaration) → r ≡ Some d → (u : Reason) → u ≡ f d → u ≡ on_declared f x
   declared-one d g u p = p ∙ rw (← q, g) refl
 
 pub ruleset declared-laws = (declared-none, declared-one)
@@ -39,16 +37,16 @@ abbrev pub field_reason : (Declaration → Reason) → (s : List ℕ) (tag from 
 field_reason f s t a e = on_declared f (declaration_at field_tag s t a e)
 
 module _ (f : Declaration → Reason) where
-  listed-reason : (x : Declared) (ds : List Declaration) → reasons f (listed x ++ ds) ≡ also (on_declared f x) (reasons f ds)
-  listed-reason NoDeclaration ds = refl
-  listed-reason (Declares d) ds = refl
+  listed-reason : (x : Option Declaration) (ds : List Declaration) → reasons f (listed x ++ ds) ≡ also (on_declared f x) (reasons f ds)
+  listed-reason None ds = refl
+  listed-reason (Some d) ds = refl
 
   pub fields-is : (s : List ℕ) (p : Span) (r : Reason) → r ≡ seek Yes also (field_reason f s) (walk s p.from p.to)
       → r ≡ reasons f (fields_at s p)
   unfolding items_in declaration_at
   fields-is s p r q =
       q ∙ sym (seek_is Yes also (field_reason f s) (λ w. reasons f (fields_of (items_in 0 s w))) refl refl
-      (λ t a e w. ap (reasons f) (fields-item 0 s t a e (items_in 0 s w)) ∙ listed-reason (elim (eqb t field_tag) [ true ↦ message_field_at s a e | false ↦ NoDeclaration ]) (fields_of (items_in 0 s w)))
+      (λ t a e w. ap (reasons f) (fields-item 0 s t a e (items_in 0 s w)) ∙ listed-reason (elim (eqb t field_tag) [ true ↦ message_field_at s a e | false ↦ None ]) (fields_of (items_in 0 s w)))
       (walk s p.from p.to))
 
 pub ruleset fields-laws = (fields-is, also-stays, seek-laws)
@@ -60,5 +58,5 @@ fields-any d d' s done = refl
 fields-any d d' s cut = refl
 fields-any d d' s (step t a e w) =
     fields-item d s t a e (items_in d s w)
-    ∙ ap (λ x. listed (elim (eqb t field_tag) [ true ↦ message_field_at s a e | false ↦ NoDeclaration ]) ++ x) (fields-any d d' s w)
+    ∙ ap (λ x. listed (elim (eqb t field_tag) [ true ↦ message_field_at s a e | false ↦ None ]) ++ x) (fields-any d d' s w)
     ∙ sym (fields-item d' s t a e (items_in d' s w))

@@ -1,12 +1,10 @@
 -- Where that lies which a declaration is made of: what is asked of the spans that are read.
 -- Assumes nothing.
-use Rattle.std.specs.Prelude.{◌≡◌, List, ℕ, ◌≤◌, length}
+use Rattle.std.specs.Prelude.{◌≡◌, List, ℕ, ◌≤◌, length, Some, Option}
 use Rattle.basis.proofs.Never.{never}
 use Rattle.field.specs.declared.Span.{Span}
 use Rattle.field.specs.Leaf.{Lies}
 use Rattle.sheet.specs.declared.declaration.Declaration.{Declaration}
-use Rattle.sheet.specs.declared.declaration.Declared.{Declared}
-use Rattle.sheet.specs.declared.declaration.Declared.TheVariants.{Declares}
 use Rattle.sheet.specs.Table.{field_tag}
 use Rattle.sheet.proofs.PlaceLaws.{Places}
 use Rattle.scope.specs.inner.Steps.{declaration_at}
@@ -50,7 +48,7 @@ module _ (s : List ℕ) (d : Declaration) (k : DeclaredLies s d) where
 pub ruleset declared-lies-laws = (name-lies, name-ordered, name-within, extendee-lies, extendee-ordered, extendee-within, path-lies)
 
 -- the declaration that a field of a message is
-pub field-lies : (s : List ℕ) (t a e : ℕ) (r : Declared) → r ≡ declaration_at field_tag s t a e → (d : Declaration) → r ≡ Declares d
+pub field-lies : (s : List ℕ) (t a e : ℕ) (r : Option Declaration) → r ≡ declaration_at field_tag s t a e → (d : Declaration) → r ≡ Some d
     → e ≤ length s → DeclaredLies s d
 field-lies s t a e r q d g h = places-lie (declaration-at-places field_tag s t a e r q d g h)
 

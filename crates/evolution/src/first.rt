@@ -13,7 +13,7 @@ use field::{Field, Span, field_at};
 use named::declaration_at;
 use reasons::Reason;
 use roster::{Bearer, Nth, nth_declared};
-use sheet::declaration::{Declaration, Declared};
+use sheet::declaration::Declaration;
 use sheet::table;
 
 // What is asked of a sheet: whether it is clean, or whether a newer one contains it.
@@ -56,7 +56,7 @@ fn field_reason(
         (λ d. number_reason question s.now newer.now index (number_for message.now d))
         (declaration_at field_tag s.now tag item.from item.to) }
 {
-    let Declared::Declares(d) = declaration_at(s, tag, item.from, item.to, table::FIELD) else {
+    let Some(d) = declaration_at(s, tag, item.from, item.to, table::FIELD) else {
         return Reason::Yes;
     };
     number_reason(s, message, d, newer, question, index)
@@ -79,7 +79,7 @@ fn fields_reason(
     let end = body.to;
     let mut p = body.from;
     while p < end {
-        let Field::Whole { tag, from, to } = field_at(s, p, end) else {
+        let Some(Field { tag, from, to }) = field_at(s, p, end) else {
             return Reason::Yes;
         };
         let item = Span { from: from, to: to };

@@ -13,7 +13,7 @@ ghost use Rattle.evolution.specs.inner.Bearers.{first_reason, why_not};
 use crate::first::{Question, first_reason};
 use limits::MOST_SHEET;
 use reasons::{Reason, holds};
-use reply::{Answer, Verdict};
+use reply::Answer;
 use sheetform::check_sheet;
 
 // The first reason, of a sheet that is short enough.
@@ -53,7 +53,7 @@ pub fn why_uncontained(older: &[u8], newer: &[u8]) -> Reason
 pub fn clean(sheet: &[u8]) -> Answer
     ensures { result ≡ clean_answer sheet.now }
 {
-    if let Verdict::Refused(why) = check_sheet(sheet) {
+    if let Err(why) = check_sheet(sheet) {
         return reply::refused(why);
     }
     reply::decided(holds(why_unclean(sheet)))
@@ -63,10 +63,10 @@ pub fn clean(sheet: &[u8]) -> Answer
 pub fn contained(older: &[u8], newer: &[u8]) -> Answer
     ensures { result ≡ contained_answer older.now newer.now }
 {
-    if let Verdict::Refused(why) = check_sheet(older) {
+    if let Err(why) = check_sheet(older) {
         return reply::refused(why);
     }
-    if let Verdict::Refused(why) = check_sheet(newer) {
+    if let Err(why) = check_sheet(newer) {
         return reply::refused(why);
     }
     reply::decided(holds(why_uncontained(older, newer)))

@@ -2,12 +2,11 @@
 // is its extendee compared. Everything is a walk over the lent sheet, and code equals definition on every sheet, well-formed or not.
 #![tactic(auto)]
 
-ghost use Rattle.std.specs.Prelude.{◌≡◌, true, ◌≤◌, length};
+ghost use Rattle.std.specs.Prelude.{◌≡◌, true, ◌≤◌, length, Err, Ok};
 ghost use Rattle.limits.specs.Figures.{most_candidate};
 ghost use Rattle.path.specs.Path.{components, is_rel_or_empty, is_path};
 ghost use Rattle.basis.specs.First.{first_some};
 ghost use Rattle.cursor.specs.inner.Cursor.{ahead, Stands};
-ghost use Rattle.search.specs.declared.extension.Resolved.TheVariants.{Field, Refused};
 ghost use Rattle.search.specs.Lookup.{found_in, or_not_found, find_extension_by_abs_path, tried, find_extension_by_path, ext_resolve_field};
 
 use candidates::protobuf_path::{candidate, candidates};
@@ -15,24 +14,23 @@ use cursor::{Cursor, Next, next_scope, start};
 use named::{declaration_named, extends};
 use path::protobuf_rel_path::{before, last_at};
 use reply::Refusal;
-use search::extension::{Candidate, Compared, Found, Resolved, Tried};
-use sheet::declaration::Declared;
+use search::extension::{Candidate, Compared, Found};
 use sheet::table;
 
 // The first extension of that name in the scopes that are still to come.
-fn first_extension(s: &[u8], names: &[u8], cursor: Cursor, name: &[u8]) -> Resolved
+fn first_extension(s: &[u8], names: &[u8], cursor: Cursor, name: &[u8]) -> Result<Found, Refusal>
     requires { Stands s.now names.now cursor }
-    ensures { result ≡ or_not_found Field Refused (first_some (found_in s.now name.now)
+    ensures { result ≡ or_not_found Ok Err (first_some (found_in s.now name.now)
         (ahead s.now names.now cursor)) }
 {
     let mut c = cursor;
     loop {
-        let Next::At { scope, rest } = next_scope(s, names, c) else {
-            return Resolved::Refused(Refusal::ExtensionNotFound);
+        let Some(Next { scope, rest }) = next_scope(s, names, c) else {
+            return Err(Refusal::ExtensionNotFound);
         };
         c = rest;
-        if let Declared::Declares(d) = declaration_named(s, scope, table::EXTENSION, name) {
-            return Resolved::Field(Found {
+        if let Some(d) = declaration_named(s, scope, table::EXTENSION, name) {
+            return Ok(Found {
                 file: scope.file,
                 declaration: d,
             });
@@ -41,18 +39,18 @@ fn first_extension(s: &[u8], names: &[u8], cursor: Cursor, name: &[u8]) -> Resol
 }
 
 // The extension of a full name.
-pub fn find_extension_by_abs_path(s: &[u8], path: &[u8]) -> Resolved
+pub fn find_extension_by_abs_path(s: &[u8], path: &[u8]) -> Result<Found, Refusal>
     ensures { result ≡ find_extension_by_abs_path s.now (components path.now) }
 {
     if path.len() == 0 {
-        return Resolved::Refused(Refusal::ExtensionNotFound);
+        return Err(Refusal::ExtensionNotFound);
     }
     let last = last_at(path);
     first_extension(s, before(path, last), start(last == 0), &path[last..])
 }
 
 // The candidates of a name in a scope, put together in lent room and looked up one after the other, until one answers.
-pub fn try_candidates(s: &[u8], scope: &[u8], path: &[u8], room: &mut [u8]) -> Tried
+pub fn try_candidates(s: &[u8], scope: &[u8], path: &[u8], room: &mut [u8]) -> Result<Candidate, Refusal>
     requires { (is_rel_or_empty scope.now ≡ true) × (is_path path.now ≡ true) × (most_candidate ≤ length room.old) }
     ensures { result ≡ tried s.now scope.now path.now }
 {
@@ -60,27 +58,27 @@ pub fn try_candidates(s: &[u8], scope: &[u8], path: &[u8], room: &mut [u8]) -> T
     let mut i = 0;
     while i < count {
         let n = candidate(scope, path, i, room);
-        if let Resolved::Field(found) = find_extension_by_abs_path(s, &room[..n]) {
-            return Tried::Answers(Candidate {
+        if let Ok(found) = find_extension_by_abs_path(s, &room[..n]) {
+            return Ok(Candidate {
                 position: i,
                 found: found,
             });
         }
         i += 1;
     }
-    Tried::Refused(Refusal::ExtensionNotFound)
+    Err(Refusal::ExtensionNotFound)
 }
 
 // The extension that a name finds in a scope.
-pub fn find_extension_by_path(s: &[u8], scope: &[u8], path: &[u8], room: &mut [u8]) -> Resolved
+pub fn find_extension_by_path(s: &[u8], scope: &[u8], path: &[u8], room: &mut [u8]) -> Result<Found, Refusal>
     requires { (is_rel_or_empty scope.now ≡ true) × (is_path path.now ≡ true) × (most_candidate ≤ length room.old) }
     ensures { result ≡ find_extension_by_path s.now scope.now path.now }
 {
     match try_candidates(s, scope, path, room) {
-        Tried::Refused(why) => Resolved::Refused(why),
-        Tried::Answers(first) => {
+        Err(why) => Err(why),
+        Ok(first) => {
             let found = first.found;
-            Resolved::Field(found)
+            Ok(found)
         }
     }
 }
@@ -97,8 +95,8 @@ pub fn ext_resolve_field_ext(
     ensures { result ≡ ext_resolve_field s.now scope.now message.now path.now }
 {
     match try_candidates(s, scope, path, room) {
-        Tried::Refused(why) => Compared::Refused(why),
-        Tried::Answers(first) => {
+        Err(why) => Compared::Refused(why),
+        Ok(first) => {
             if !extends(s, message, first.found.declaration) {
                 return Compared::ExtendsOther(first);
             }

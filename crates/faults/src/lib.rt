@@ -7,7 +7,6 @@ ghost use Rattle.limits.specs.Figures.{most_options};
 ghost use Rattle.faults.specs.Faults.{cause_at};
 ghost use Rattle.faults.specs.inner.Answering.{stepped_by};
 
-use records::Wrote;
 use reply::{Cause, Refusal, Where};
 
 // Why an option is refused, and at which part of its name, counted from 0.
@@ -17,20 +16,13 @@ pub struct Fault {
     pub why: Refusal,
 }
 
-// What the step over name parts answers: the place after what it wrote, or the fault.
-#[derive(Clone, Copy)]
-pub enum Stepped {
-    Next(usize),
-    Refused(Fault),
-}
-
 // What the step on the last part answers, where the writer of the constant answered this: its refusal is one of that part.
-pub fn on_last(part: u32, wrote: Wrote) -> Stepped
+pub fn on_last(part: u32, wrote: Result<usize, Refusal>) -> Result<usize, Fault>
     ensures { result ≡ stepped_by part wrote }
 {
     match wrote {
-        Wrote::Next(next) => Stepped::Next(next),
-        Wrote::Refused(why) => Stepped::Refused(Fault { part, why }),
+        Ok(next) => Ok(next),
+        Err(why) => Err(Fault { part, why }),
     }
 }
 

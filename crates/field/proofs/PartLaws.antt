@@ -1,24 +1,23 @@
 -- The laws of parts: the ways through `span_in`, what its places say, and that no bytes are empty wherever they start.
 -- Assumes nothing.
-use Rattle.std.specs.Prelude.{◌≡◌, refl, Bool, true, false, ◌&&◌, List, [], ℕ, ◌-◌, ◌≤◌, leb, length}
+use Rattle.std.specs.Prelude.{◌≡◌, refl, Bool, true, false, ◌&&◌, List, [], ℕ, ◌-◌, ◌≤◌, leb, length, None, Some, Option}
 use Rattle.basis.specs.Kit.{sym, ◌∙◌}
 use Rattle.basis.proofs.Kit.{arith}
 use borrow.Author.Tests.{leb-true}
 use Rattle.basis.specs.First.{only_if}
 use Rattle.basis.proofs.Never.{never}
 use Rattle.octets.specs.Octets.{part}
-use Rattle.field.specs.declared.Leaf.{Leaf}
-use Rattle.field.specs.declared.Leaf.TheVariants.{At, Not}
 use Rattle.field.specs.declared.Span.{Span}
 use Rattle.field.specs.Part.{span_in}
+use Rattle.field.specs.Leaf.{span}
 
 -- ---- span_in
 module _ (t : List ℕ) (p : Span) where
-  pub span-is : (leb p.from p.to && leb p.to (length t)) ≡ true → At p.from p.to ≡ span_in t p
+  pub span-is : (leb p.from p.to && leb p.to (length t)) ≡ true → Some (span p.from p.to) ≡ span_in t p
   unfolding span_in
   span-is h = rw h
 
-  pub span-not : (leb p.from p.to && leb p.to (length t)) ≡ false → Not ≡ span_in t p
+  pub span-not : (leb p.from p.to && leb p.to (length t)) ≡ false → None ≡ span_in t p
   unfolding span_in
   span-not h = rw h
 
@@ -26,25 +25,24 @@ record Inside (t : List ℕ) (a e : ℕ) : Type 0 where
   ordered : a ≤ e
   within : e ≤ length t
 
-span-inside : (t : List ℕ) (p : Span) (a e : ℕ) → At a e ≡ span_in t p → Inside t a e
+span-inside : (t : List ℕ) (p : Span) (l : Span) → Some l ≡ span_in t p → Inside t l.from l.to
 unfolding span_in
-span-inside t p a e = go (leb p.from p.to) refl (leb p.to (length t)) refl
+span-inside t p l = go (leb p.from p.to) refl (leb p.to (length t)) refl
   where
     go : (b : Bool) → leb p.from p.to ≡ b → (b' : Bool) → leb p.to (length t) ≡ b'
-        → At a e ≡ only_if (b && b') (At p.from p.to) Not → Inside t a e
+        → Some l ≡ only_if (b && b') (Some (span p.from p.to)) None → Inside t l.from l.to
     go false x b' x' q = never cc
     go true x false x' q = never cc
     go true x true x' q =
-        let u : a ≡ p.from = cc in
-        let v : e ≡ p.to = cc in
-        rw (u, v) record { ordered = leb-true p.from p.to x; within = leb-true p.to (length t) x' }
+        let u : l ≡ span p.from p.to = cc in
+        rw u record { ordered = leb-true p.from p.to x; within = leb-true p.to (length t) x' }
 
-module _ (t : List ℕ) (p : Span) (r : Leaf) (q : r ≡ span_in t p) (a e : ℕ) (g : r ≡ At a e) where
-  pub span-ordered : a ≤ e
-  span-ordered = (span-inside t p a e (sym g ∙ q)).ordered
+module _ (t : List ℕ) (p : Span) (r : Option Span) (q : r ≡ span_in t p) (u : Span) (g : r ≡ Some u) where
+  pub span-ordered : u.from ≤ u.to
+  span-ordered = (span-inside t p u.from u.to (sym g ∙ q)).ordered
 
-  pub span-within : e ≤ length t
-  span-within = (span-inside t p a e (sym g ∙ q)).within
+  pub span-within : u.to ≤ length t
+  span-within = (span-inside t p u.from u.to (sym g ∙ q)).within
 
 -- ---- none_of: no bytes, wherever they start
 pub empty-part : (s : List ℕ) (a : ℕ) → part s a a ≡ []

@@ -12,12 +12,12 @@
 -- A reader's ruleset is one of the loops' (Rest, Seek, Tally; EachLaws in `form`) with `reads-laws` and the proof of `Reads` for it.
 --
 -- Assumes nothing.
-use Rattle.std.specs.Prelude.{◌≡◌, List, ℕ, ◌-◌, ◌≤◌, ◌<◌, length}
+use Rattle.std.specs.Prelude.{◌≡◌, List, ℕ, ◌-◌, ◌≤◌, ◌<◌, length, Some, Option}
 use Rattle.basis.specs.Kit.{sym, ◌∙◌}
 use Rattle.basis.proofs.Kit.{arith}
-use Rattle.field.specs.declared.Field.{Field}
-use Rattle.field.specs.declared.Field.TheVariants.{Whole}
 use Rattle.field.specs.Walk.{Reader}
+use Rattle.field.specs.Field.{field}
+use Rattle.field.specs.declared.Field.{Field}
 
 -- an empty payload too starts further on: past its header
 pub record Ahead (at end from to : ℕ) : Type 0 where
@@ -26,23 +26,23 @@ pub record Ahead (at end from to : ℕ) : Type 0 where
   pub inside : to ≤ end
 
 pub record Reads (next : Reader) : Type 0 where
-  pub ahead : (s : List ℕ) (at end t a e : ℕ) → next s at end ≡ Whole t a e → Ahead at end a e
+  pub ahead : (s : List ℕ) (at end : ℕ) (f : Field) → next s at end ≡ Some f → Ahead at end f.from f.to
 
-module _ {next : Reader} (reads : Reads next) (s : List ℕ) (at end : ℕ) (r : Field) (q : r ≡ next s at end) (t a e : ℕ)
-    (g : r ≡ Whole t a e) where
-  pub reads-ahead : Ahead at end a e
-  reads-ahead = reads.ahead s at end t a e (sym q ∙ g)
+module _ {next : Reader} (reads : Reads next) (s : List ℕ) (at end : ℕ) (r : Option Field) (q : r ≡ next s at end) (f : Field)
+    (g : r ≡ Some f) where
+  pub reads-ahead : Ahead at end f.from f.to
+  reads-ahead = reads.ahead s at end f.tag f.from f.to (sym q ∙ g)
 
-  pub reads-ordered : a ≤ e
+  pub reads-ordered : f.from ≤ f.to
   reads-ordered = reads-ahead.ordered
 
-  pub reads-inside : e ≤ end
+  pub reads-inside : f.to ≤ end
   reads-inside = reads-ahead.inside
 
-  pub reads-within : end ≤ length s → e ≤ length s
+  pub reads-within : end ≤ length s → f.to ≤ length s
   reads-within h = omega (arith, reads-inside)
 
-  pub reads-less : at < end → end - e < end - at
+  pub reads-less : at < end → end - f.to < end - at
   reads-less h = omega (arith, reads-ahead.starts, reads-ordered)
 
 pub ruleset reads-laws = (reads-ordered, reads-within, reads-less)

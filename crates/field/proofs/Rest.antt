@@ -13,15 +13,14 @@
 -- A search does not put `Rest` together from its parts: each loop states its own start, by `rest-start`.
 --
 -- Assumes nothing.
-use Rattle.std.specs.Prelude.{◌≡◌, refl, List, ℕ, ◌≤◌, ◌<◌, length}
+use Rattle.std.specs.Prelude.{◌≡◌, refl, List, ℕ, ◌≤◌, ◌<◌, length, None, Some, Option}
 use Rattle.basis.specs.Kit.{ap, ◌∙◌}
-use Rattle.field.specs.declared.Field.{Field}
-use Rattle.field.specs.declared.Field.TheVariants.{Whole, Cut}
-use Rattle.field.specs.Field.{field_at}
+use Rattle.field.specs.Field.{field_at, field}
 use Rattle.field.specs.Walk.{Reader, Walk, done, cut, step, walk_by, walk}
 use Rattle.field.proofs.ReaderLaws.{Reads, reads-inside}
 use Rattle.field.proofs.FieldLaws.{field-reads}
 use Rattle.field.proofs.WalkLaws.{walk-by-done, walk-by-cut, walk-by-step}
+use Rattle.field.specs.declared.Field.{Field}
 
 pub record RestBy {A : Type 0} (next : Reader) (v : A) (F : Walk → A) (s : List ℕ) (to i : ℕ) : Type 0 where
   pub reads : Reads next
@@ -43,14 +42,14 @@ module _ {A : Type 0} {next : Reader} (v : A) (F : Walk → A) (s : List ℕ) (t
   pub rest_end : to ≤ i → v ≡ F done
   rest_end h = k.rest ∙ ap F (walk-by-done k.reads s i to h)
 
-  module _ (h : i < to) (r : Field) (q : r ≡ next s i to) where
-    pub rest-cut : r ≡ Cut → v ≡ F cut
+  module _ (h : i < to) (r : Option Field) (q : r ≡ next s i to) where
+    pub rest-cut : r ≡ None → v ≡ F cut
     rest-cut g = k.rest ∙ ap F (walk-by-cut k.reads s i to h r q g)
 
-    module _ (t a e : ℕ) (g : r ≡ Whole t a e) where
-      pub rest-step : v ≡ F (step t a e (walk_by next s e to))
-      rest-step = k.rest ∙ ap F (walk-by-step k.reads s i to h r q t a e g)
+    module _ (f : Field) (g : r ≡ Some f) where
+      pub rest-step : v ≡ F (step f.tag f.from f.to (walk_by next s f.to to))
+      rest-step = k.rest ∙ ap F (walk-by-step k.reads s i to h r q f g)
 
-      pub rest-next : (G : Walk → A) → F (step t a e (walk_by next s e to)) ≡ G (walk_by next s e to) → RestBy next v G s to e
+      pub rest-next : (G : Walk → A) → F (step f.tag f.from f.to (walk_by next s f.to to)) ≡ G (walk_by next s f.to to) → RestBy next v G s to f.to
       rest-next G p =
-          record { reads = k.reads; within = reads-inside k.reads s i to r q t a e g; inside = k.inside; rest = rest-step ∙ p }
+          record { reads = k.reads; within = reads-inside k.reads s i to r q f g; inside = k.inside; rest = rest-step ∙ p }

@@ -15,15 +15,14 @@
 -- `seek-loop` has those of the turns, for any reader; `seek-laws` all that a loop over the fields of `field_at` needs.
 --
 -- Assumes nothing.
-use Rattle.std.specs.Prelude.{◌≡◌, List, ℕ, ◌≤◌, ◌<◌, length}
+use Rattle.std.specs.Prelude.{◌≡◌, List, ℕ, ◌≤◌, ◌<◌, length, None, Some, Option}
 use Rattle.basis.specs.Kit.{sym, ap, ◌∙◌}
-use Rattle.field.specs.declared.Field.{Field}
-use Rattle.field.specs.declared.Field.TheVariants.{Whole, Cut}
-use Rattle.field.specs.Field.{field_at}
+use Rattle.field.specs.Field.{field_at, field}
 use Rattle.field.specs.Walk.{Reader, Walk, done, cut, step, walk_by}
 use Rattle.field.proofs.ReaderLaws.{Reads}
 use Rattle.field.proofs.FieldLaws.{field-reads, field-place-laws}
 use Rattle.field.proofs.Rest.{RestBy, rest-by-start, rest_end, rest-cut, rest-step, rest-next}
+use Rattle.field.specs.declared.Field.{Field}
 
 abbrev pub seek : {A : Type 0} (none : A) (or : A → A → A) (f : (tag from to : ℕ) → A) → Walk → A
 seek none or f done = none
@@ -60,16 +59,16 @@ module _ {A : Type 0} {next : Reader} {none : A} {or : A → A → A} {f : ℕ �
   pub seek-end : to ≤ i → none ≡ seek none or f (walk_by next s from to)
   seek-end h = sym (rest_end _ (seek none or f) s to i k.left h)
 
-  module _ (h : i < to) (r : Field) (q : r ≡ next s i to) where
-    pub seek-cut : r ≡ Cut → none ≡ seek none or f (walk_by next s from to)
+  module _ (h : i < to) (r : Option Field) (q : r ≡ next s i to) where
+    pub seek-cut : r ≡ None → none ≡ seek none or f (walk_by next s from to)
     seek-cut g = sym (rest-cut _ (seek none or f) s to i k.left h r q g)
 
-    module _ (t a e : ℕ) (g : r ≡ Whole t a e) (u : A) (p : u ≡ f t a e) where
+    module _ (here : Field) (g : r ≡ Some here) (u : A) (p : u ≡ f here.tag here.from here.to) where
       pub seek_hit : (x : A) → u ≡ x → ((y : A) → or x y ≡ x) → x ≡ seek none or f (walk_by next s from to)
-      seek_hit x y l = sym (rest-step _ (seek none or f) s to i k.left h r q t a e g ∙ rw (← p, y) (l _))
+      seek_hit x y l = sym (rest-step _ (seek none or f) s to i k.left h r q here g ∙ rw (← p, y) (l _))
 
-      pub seek-next : u ≡ none → ((y : A) → or none y ≡ y) → SeekingBy next none or f s from to e
-      seek-next y l = record { left = rest-next _ (seek none or f) s to i k.left h r q t a e g (seek none or f) (rw (← p, y) (l _)) }
+      pub seek-next : u ≡ none → ((y : A) → or none y ≡ y) → SeekingBy next none or f s from to here.to
+      seek-next y l = record { left = rest-next _ (seek none or f) s to i k.left h r q here g (seek none or f) (rw (← p, y) (l _)) }
 
 pub ruleset seek-loop = (seek-end, seek-cut, seek_hit, seek-next)
 

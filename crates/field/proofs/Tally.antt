@@ -17,18 +17,17 @@
 -- `tally-loop` has those of the turns, for any reader; `tally-laws` all that a loop over the fields of `field_at` needs, but its start.
 --
 -- Assumes nothing.
-use Rattle.std.specs.Prelude.{◌≡◌, List, ℕ, ◌+◌, ◌-◌, ◌≤◌, ◌<◌, length}
+use Rattle.std.specs.Prelude.{◌≡◌, List, ℕ, ◌+◌, ◌-◌, ◌≤◌, ◌<◌, length, None, Some, Option}
 use Rattle.basis.specs.Kit.{sym, ◌∙◌}
 use Rattle.basis.proofs.Kit.{arith, w64, Fits}
 use native.Mathlib.Nat.{zero-add, add-zero, add_assoc}
 use mir.Facts.{Fits-le}
-use Rattle.field.specs.declared.Field.{Field}
-use Rattle.field.specs.declared.Field.TheVariants.{Whole, Cut}
-use Rattle.field.specs.Field.{field_at}
+use Rattle.field.specs.Field.{field_at, field}
 use Rattle.field.specs.Walk.{Reader, Walk, done, cut, step, walk_by, walk}
 use Rattle.field.proofs.ReaderLaws.{Reads, reads-ahead}
 use Rattle.field.proofs.FieldLaws.{field-reads, field-place-laws}
 use Rattle.field.proofs.Rest.{RestBy, rest_end, rest-cut, rest-next}
+use Rattle.field.specs.declared.Field.{Field}
 
 abbrev pub counted : (F : Walk → ℕ) (n : ℕ) → Walk → ℕ
 counted F n w = n + F w
@@ -60,24 +59,24 @@ module _ {next : Reader} (v : ℕ) (F : Walk → ℕ) (s : List ℕ) (from to n 
   pub tally-end : to ≤ i → F done ≡ 0 → n ≡ v
   tally-end h z = sym (rest_end v (counted F n) s to i k.left h ∙ rw z (add-zero n))
 
-  module _ (h : i < to) (r : Field) (q : r ≡ next s i to) where
-    pub tally-cut : r ≡ Cut → F cut ≡ 0 → n ≡ v
+  module _ (h : i < to) (r : Option Field) (q : r ≡ next s i to) where
+    pub tally-cut : r ≡ None → F cut ≡ 0 → n ≡ v
     tally-cut g z = sym (rest-cut v (counted F n) s to i k.left h r q g ∙ rw z (add-zero n))
 
-    module _ (t a e : ℕ) (g : r ≡ Whole t a e) (u : ℕ) where
-      pub tally-fits : u ≤ e - a + 1 → Fits w64 to → Fits w64 (n + u)
+    module _ (f : Field) (g : r ≡ Some f) (u : ℕ) where
+      pub tally-fits : u ≤ f.to - f.from + 1 → Fits w64 to → Fits w64 (n + u)
       tally-fits b =
-          let x = reads-ahead k.left.reads s i to r q t a e g in
+          let x = reads-ahead k.left.reads s i to r q f g in
           Fits-le (omega (arith, k.few, x.starts, x.ordered, x.inside))
 
       -- the field counts for u
-      pub tally-more : F (step t a e (walk_by next s e to)) ≡ u + F (walk_by next s e to) → u ≤ e - a + 1
-          → TallyBy next v F s from to (n + u) e
+      pub tally-more : F (step f.tag f.from f.to (walk_by next s f.to to)) ≡ u + F (walk_by next s f.to to) → u ≤ f.to - f.from + 1
+          → TallyBy next v F s from to (n + u) f.to
       tally-more p b =
-          let x = reads-ahead k.left.reads s i to r q t a e g in
-          let same = sym (add_assoc n u (F (walk_by next s e to))) in
+          let x = reads-ahead k.left.reads s i to r q f g in
+          let same = sym (add_assoc n u (F (walk_by next s f.to to))) in
           record {
-            left = rest-next v (counted F n) s to i k.left h r q t a e g (counted F (n + u)) (rw p same);
+            left = rest-next v (counted F n) s to i k.left h r q f g (counted F (n + u)) (rw p same);
             few = omega (arith, k.few, x.starts, x.ordered);
           }
 
@@ -88,9 +87,9 @@ total f cut = 0
 total f (step t a e w) = f t a e + total f w
 
 pub tally-next : {next : Reader} (v : ℕ) (f : ℕ → ℕ → ℕ → ℕ) (s : List ℕ) (from to n i : ℕ) → TallyBy next v (total f) s from to n i
-    → i < to → (r : Field) → r ≡ next s i to → (t a e : ℕ) → r ≡ Whole t a e
-    → (u : ℕ) → u ≡ f t a e → u ≤ e - a + 1 → TallyBy next v (total f) s from to (n + u) e
-tally-next v f s from to n i k h r q t a e g u p b = tally-more v (total f) s from to n i k h r q t a e g u (rw p) b
+    → i < to → (r : Option Field) → r ≡ next s i to → (here : Field) → r ≡ Some here
+    → (u : ℕ) → u ≡ f here.tag here.from here.to → u ≤ here.to - here.from + 1 → TallyBy next v (total f) s from to (n + u) here.to
+tally-next v f s from to n i k h r q here g u p b = tally-more v (total f) s from to n i k h r q here.tag here.from here.to g u (rw p) b
 
 pub ruleset tally-loop = (tally-few, tally-end, tally-cut, tally-fits, tally-next)
 

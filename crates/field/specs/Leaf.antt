@@ -11,15 +11,12 @@
 --       on_leaf none l some ==  `some` of a leaf's two places, `none` where there is no leaf
 --
 -- Assumes nothing.
-use Rattle.std.specs.Prelude.{Bool, true, ◌&&◌, List, ℕ, ◌≤◌, eqb, length}
+use Rattle.std.specs.Prelude.{Bool, true, ◌&&◌, List, ℕ, ◌≤◌, eqb, length, None, Some, Option}
 use Rattle.basis.specs.First.{only_if}
 use Rattle.octets.specs.Octets.{part, same_bytes}
-use Rattle.field.specs.declared.Field.{Field}
-use Rattle.field.specs.declared.Field.TheVariants.{Whole, Cut}
-use Rattle.field.specs.declared.Leaf.{Leaf}
-use Rattle.field.specs.declared.Leaf.TheVariants.{At, Not}
 use Rattle.field.specs.declared.Span.{Span}
 use Rattle.field.specs.Field.{field_at}
+use Rattle.field.specs.declared.Field.{Field}
 
 abbrev pub span : (a e : ℕ) → Span
 span a e = record { from = a; to = e }
@@ -39,13 +36,13 @@ any_bytes bs = true
 abbrev pub of_size : ℕ → List ℕ → Bool
 of_size n bs = eqb (length bs) n
 
-abbrev pub leaf_of : (tag : ℕ) (good : List ℕ → Bool) (s : List ℕ) (f : Field) → Leaf
-leaf_of k good s Cut = Not
-leaf_of k good s (Whole t a e) = only_if (eqb t k && good (part s a e)) (At a e) Not
+abbrev pub leaf_of : (tag : ℕ) (good : List ℕ → Bool) (s : List ℕ) (f : Option Field) → Option Span
+leaf_of k good s None = None
+leaf_of k good s (Some found) = only_if (eqb found.tag k && good (part s found.from found.to)) (Some (span found.from found.to)) None
 
-unfoldable pub leaf_at : (tag : ℕ) (good : List ℕ → Bool) (s : List ℕ) (at end : ℕ) → Leaf
+unfoldable pub leaf_at : (tag : ℕ) (good : List ℕ → Bool) (s : List ℕ) (at end : ℕ) → Option Span
 leaf_at k good s at end = leaf_of k good s (field_at s at end)
 
-abbrev pub on_leaf : {A : Type 0} (none : A) (l : Leaf) (some : (from to : ℕ) → A) → A
-on_leaf none Not some = none
-on_leaf none (At a e) some = some a e
+abbrev pub on_leaf : {A : Type 0} (none : A) (l : Option Span) (some : (from to : ℕ) → A) → A
+on_leaf none None some = none
+on_leaf none (Some place) some = some place.from place.to

@@ -7,11 +7,9 @@
 --             span_in t p ==  the two places of the span, where it is one of the bytes t
 --
 -- Assumes nothing.
-use Rattle.std.specs.Prelude.{◌≡◌, ◌&&◌, List, ℕ, ◌+◌, leb, length}
+use Rattle.std.specs.Prelude.{◌≡◌, ◌&&◌, List, ℕ, ◌+◌, leb, length, None, Some, Option}
 use Rattle.basis.specs.First.{only_if}
 use Rattle.field.specs.declared.Span.{Span}
-use Rattle.field.specs.declared.Leaf.{Leaf}
-use Rattle.field.specs.declared.Leaf.TheVariants.{At, Not}
 use Rattle.field.specs.Leaf.{span, text}
 
 pub record PartOf (p : Span) (s : List ℕ) (b o : ℕ) (t : List ℕ) (b' o' : ℕ) : Type 0 where
@@ -23,5 +21,5 @@ pub record PartOf (p : Span) (s : List ℕ) (b o : ℕ) (t : List ℕ) (b' o' : 
 abbrev pub no_bytes : Span
 no_bytes = span 0 0
 
-unfoldable pub span_in : (t : List ℕ) (p : Span) → Leaf
-span_in t p = only_if (leb p.from p.to && leb p.to (length t)) (At p.from p.to) Not
+unfoldable pub span_in : (t : List ℕ) (p : Span) → Option Span
+span_in t p = only_if (leb p.from p.to && leb p.to (length t)) (Some (span p.from p.to)) None

@@ -9,13 +9,12 @@
 --                  tags_in w == the tags of the fields, in order
 --
 -- Assumes nothing.
-use Rattle.std.specs.Prelude.{true, false, List, [], ◌∷◌, ℕ, zero, suc, ◌-◌, ltb}
-use Rattle.field.specs.declared.Field.{Field}
-use Rattle.field.specs.declared.Field.TheVariants.{Whole, Cut}
+use Rattle.std.specs.Prelude.{true, false, List, [], ◌∷◌, ℕ, zero, suc, ◌-◌, ltb, None, Some, Option}
 use Rattle.field.specs.Field.{field_at}
+use Rattle.field.specs.declared.Field.{Field}
 
 abbrev pub Reader : Type 0
-Reader = (s : List ℕ) (at end : ℕ) → Field
+Reader = (s : List ℕ) (at end : ℕ) → Option Field
 
 pub data Walk : Type 0 where
   done : Walk
@@ -23,9 +22,9 @@ pub data Walk : Type 0 where
   step : (tag from to : ℕ) → Walk → Walk
 
 -- a field, and what stands after it
-abbrev pub walk_on : (f : Field) (after : (at : ℕ) → Walk) → Walk
-walk_on Cut after = cut
-walk_on (Whole t a e) after = step t a e (after e)
+abbrev pub walk_on : (f : Option Field) (after : (at : ℕ) → Walk) → Walk
+walk_on None after = cut
+walk_on (Some found) after = step found.tag found.from found.to (after found.to)
 
 -- every field goes on by at least a byte, so as many steps as there are bytes are enough
 abbrev pub walk_for : (next : Reader) (n : ℕ) (s : List ℕ) (at end : ℕ) → Walk

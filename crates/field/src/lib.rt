@@ -7,13 +7,12 @@ ghost use Rattle.std.specs.Prelude.{◌≡◌, ◌≤◌, length};
 ghost use Rattle.field.specs.Field.{field_at};
 ghost use Rattle.field.specs.Leaf.{leaf_at, any_bytes, of_size};
 
-// What stands at a place.
+// A whole field: its payload is from..to, and the next field starts at `to`.
 #[derive(Clone, Copy)]
-pub enum Field {
-    // A whole field: its payload is from..to, and the next field starts at `to`.
-    Whole { tag: u8, from: usize, to: usize },
-    // A header that is cut, or a length that runs past the end.
-    Cut,
+pub struct Field {
+    pub tag: u8,
+    pub from: usize,
+    pub to: usize,
 }
 
 // A part of the bytes: those from a place up to another.
@@ -23,65 +22,57 @@ pub struct Span {
     pub to: usize,
 }
 
-// What is wanted at a place: a whole field of one tag whose payload passes a test.
-#[derive(Clone, Copy)]
-pub enum Leaf {
-    // The payload is from..to, and the next field starts at `to`.
-    At { from: usize, to: usize },
-    Not,
-}
-
 // The bytes of a field before its payload.
 const HEADER: usize = 3;
 
-pub fn field_at(s: &[u8], at: usize, end: usize) -> Field
+pub fn field_at(s: &[u8], at: usize, end: usize) -> Option<Field>
     requires { (at ≤ end) × (end ≤ length s.now) }
     ensures { result ≡ field_at s.now at end }
 {
     if end - at < HEADER {
-        return Field::Cut;
+        return None;
     }
     let from = at + HEADER;
     let n = octets::u16_at(s, at + 1);
     if end - from < n {
-        return Field::Cut;
+        return None;
     }
-    Field::Whole {
+    Some(Field {
         tag: s[at],
         from: from,
         to: from + n,
-    }
+    })
 }
 
 // A field of this tag, with any payload.
-pub fn leaf_at(s: &[u8], at: usize, end: usize, tag: u8) -> Leaf
+pub fn leaf_at(s: &[u8], at: usize, end: usize, tag: u8) -> Option<Span>
     requires { (at ≤ end) × (end ≤ length s.now) }
     ensures { result ≡ leaf_at tag any_bytes s.now at end }
 {
-    let Field::Whole {
+    let Some(Field {
         tag: found,
         from,
         to,
-    } = field_at(s, at, end)
+    }) = field_at(s, at, end)
     else {
-        return Leaf::Not;
+        return None;
     };
     if found != tag {
-        return Leaf::Not;
+        return None;
     }
-    Leaf::At { from: from, to: to }
+    Some(Span { from: from, to: to })
 }
 
 // A field of this tag whose payload has this length.
-pub fn sized_at(s: &[u8], at: usize, end: usize, tag: u8, size: usize) -> Leaf
+pub fn sized_at(s: &[u8], at: usize, end: usize, tag: u8, size: usize) -> Option<Span>
     requires { (at ≤ end) × (end ≤ length s.now) }
     ensures { result ≡ leaf_at tag (of_size size) s.now at end }
 {
-    let Leaf::At { from, to } = leaf_at(s, at, end, tag) else {
-        return Leaf::Not;
+    let Some(Span { from, to }) = leaf_at(s, at, end, tag) else {
+        return None;
     };
     if to - from != size {
-        return Leaf::Not;
+        return None;
     }
-    Leaf::At { from: from, to: to }
+    Some(Span { from: from, to: to })
 }

@@ -2,7 +2,7 @@
 ghost use Rattle.std.specs.Prelude.{◌≡◌};
 ghost use Rattle.field.specs.Part.{PartOf, no_bytes, span_in};
 
-use crate::{Leaf, Span};
+use crate::Span;
 
 // No bytes, at the start of these.
 pub fn none_of(s: &[u8]) -> &[u8]
@@ -13,14 +13,14 @@ pub fn none_of(s: &[u8]) -> &[u8]
 }
 
 // The two places of a span, where it is one of the bytes.
-pub fn span_in(s: &[u8], p: Span) -> Leaf
+pub fn span_in(s: &[u8], p: Span) -> Option<Span>
     ensures { result ≡ span_in s.now p }
 {
     if (p.from <= p.to) & (p.to <= s.len()) {
-        return Leaf::At {
+        return Some(Span {
             from: p.from,
             to: p.to,
-        };
+        });
     }
-    Leaf::Not
+    None
 }

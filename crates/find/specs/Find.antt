@@ -14,11 +14,9 @@
 --                           sheet's start where they are not
 --
 -- Assumes nothing.
-use Rattle.std.specs.Prelude.{List, [], ◌∷◌, ℕ, ◌-◌}
+use Rattle.std.specs.Prelude.{List, [], ◌∷◌, ℕ, ◌-◌, Err, Ok, Result}
 use Rattle.octets.specs.Octets.{part}
-use Rattle.reply.specs.declared.Verdict.{Verdict}
-use Rattle.reply.specs.declared.Verdict.TheVariants.{Fine, Refused as Bad}
-use Rattle.reply.specs.Verdicts.{first_fault}
+use Rattle.reply.specs.Verdicts.{first_fault, Verdict}
 use Rattle.reply.specs.Outcome.{Outcome, refuse, give}
 use Rattle.field.specs.declared.Span.{Span}
 use Rattle.field.specs.Leaf.{on_leaf}
@@ -26,25 +24,24 @@ use Rattle.field.specs.Part.{no_bytes, span_in}
 use Rattle.sheetform.specs.Form.{judge_length, judge_sheet}
 use Rattle.requestform.specs.Form.{judge_scope, judge_path}
 use Rattle.search.specs.declared.extension.Found.{Found}
-use Rattle.search.specs.declared.extension.Resolved.{Resolved}
-use Rattle.search.specs.declared.extension.Resolved.TheVariants.{Field, Refused}
 use Rattle.search.specs.Lookup.{find_extension_by_path}
+use Rattle.reply.specs.declared.Refusal.{Refusal}
 
 -- 01, Replies: "Inputs in the order a call names them, the sheet first" [FAULT-1, FIND-1]
 unfoldable pub judge_all : (v : Verdict) (c p : List ℕ) → Verdict
 judge_all v c p = first_fault v (first_fault (judge_scope c) (judge_path p))
 
-abbrev pub unless : Verdict → Resolved → Resolved
-unless Fine r = r
-unless (Bad w) r = Refused w
+abbrev pub unless : Verdict → Result Found Refusal → Result Found Refusal
+unless (Ok _) r = r
+unless (Err w) r = Err w
 
-unfoldable pub finding_by : (v : Verdict) (s c p : List ℕ) → Resolved
+unfoldable pub finding_by : (v : Verdict) (s c p : List ℕ) → Result Found Refusal
 finding_by v s c p = unless (judge_all v c p) (find_extension_by_path s c p)
 
-abbrev pub finding : (s c p : List ℕ) → Resolved
+abbrev pub finding : (s c p : List ℕ) → Result Found Refusal
 finding s c p = finding_by (judge_sheet s) s c p
 
-abbrev pub finding_tested : (s c p : List ℕ) → Resolved
+abbrev pub finding_tested : (s c p : List ℕ) → Result Found Refusal
 finding_tested s c p = finding_by (judge_length s) s c p
 
 -- file index, place and length of the name, place and length of the extendee, number, type, label, place and length of the type path,
@@ -57,9 +54,9 @@ words_of f =
     ∷ f.declaration.shape.number ∷ f.declaration.shape.typ ∷ f.declaration.shape.label
     ∷ f.declaration.shape.path.from ∷ (f.declaration.shape.path.to - f.declaration.shape.path.from) ∷ []
 
-abbrev pub worded : Resolved → Outcome ℕ
-worded (Field f) = give (words_of f)
-worded (Refused w) = refuse w
+abbrev pub worded : Result Found Refusal → Outcome ℕ
+worded (Ok f) = give (words_of f)
+worded (Err w) = refuse w
 
 unfoldable pub find_words : (s c p : List ℕ) → Outcome ℕ
 find_words s c p = worded (finding s c p)
@@ -68,9 +65,9 @@ unfoldable pub find_tested : (s c p : List ℕ) → Outcome ℕ
 find_tested s c p = worded (finding_tested s c p)
 
 -- 01, The search: "Its name is handed back as the sheet's own bytes, never the request's" [SEARCH-9]
-abbrev pub name_span : Resolved → Span
-name_span (Field f) = f.declaration.name
-name_span (Refused w) = no_bytes
+abbrev pub name_span : Result Found Refusal → Span
+name_span (Ok f) = f.declaration.name
+name_span (Err w) = no_bytes
 
 unfoldable pub name_span_for : (s t : List ℕ) (c p : Span) → Span
 name_span_for s t c p = on_leaf no_bytes (span_in t c) λ a e. on_leaf no_bytes (span_in t p) λ n m. name_span (finding s (part t a e) (part t n m))

@@ -8,23 +8,23 @@ ghost use Rattle.find.specs.Find.{finding, finding_tested, words_of, find_words,
 ghost use Rattle.find.specs.inner.Small.{SmallSpan, Small};
 
 use field::part::{none_of, span_in};
-use field::{Leaf, Span};
-use reply::{Answer, Verdict};
-use search::extension::{Found, Resolved};
+use field::Span;
+use reply::Answer;
+use search::extension::Found;
 
 // The extension, or why there is none: that the sheet is too long, the first fault of the scope and the path, or that no scope declares it.
 // The form of the sheet was tested before.
-fn finding_tested(sheet: &[u8], scope: &[u8], path: &[u8]) -> Resolved
+fn finding_tested(sheet: &[u8], scope: &[u8], path: &[u8]) -> Result<Found, Refusal>
     ensures { result ≡ finding_tested sheet.now scope.now path.now }
 {
-    if let Verdict::Refused(why) = sheetform::check_length(sheet) {
-        return Resolved::Refused(why);
+    if let Err(why) = sheetform::check_length(sheet) {
+        return Err(why);
     }
-    if let Verdict::Refused(why) = requestform::check_scope(scope) {
-        return Resolved::Refused(why);
+    if let Err(why) = requestform::check_scope(scope) {
+        return Err(why);
     }
-    if let Verdict::Refused(why) = requestform::check_path(path) {
-        return Resolved::Refused(why);
+    if let Err(why) = requestform::check_path(path) {
+        return Err(why);
     }
     lookups::extension_named(sheet, scope, path)
 }
@@ -71,8 +71,8 @@ pub fn find_tested(sheet: &[u8], scope: &[u8], path: &[u8], out: &mut [u32]) -> 
         out.old out.new result }
 {
     match finding_tested(sheet, scope, path) {
-        Resolved::Refused(why) => reply::refused(why),
-        Resolved::Field(found) => put_found(found, out),
+        Err(why) => reply::refused(why),
+        Ok(found) => put_found(found, out),
     }
 }
 
@@ -81,7 +81,7 @@ pub fn find(sheet: &[u8], scope: &[u8], path: &[u8], out: &mut [u32]) -> Answer
     ensures { Answered (find_words sheet.now scope.now path.now)
         out.old out.new result }
 {
-    if let Verdict::Refused(why) = sheetform::check_sheet(sheet) {
+    if let Err(why) = sheetform::check_sheet(sheet) {
         return reply::refused(why);
     }
     find_tested(sheet, scope, path, out)
@@ -92,10 +92,10 @@ fn name_in<'s, 'r>(sheet: &'s [u8], scope: &'r [u8], path: &'r [u8]) -> &'s [u8]
     ensures { PartOf (name_span (finding sheet.now scope.now path.now))
         sheet.now sheet.entry.ref_ptr.0 sheet.entry.ref_ptr.1 result.now result.ref_ptr.0 result.ref_ptr.1 }
 {
-    if let Verdict::Refused(_) = sheetform::check_sheet(sheet) {
+    if let Err(_) = sheetform::check_sheet(sheet) {
         return none_of(sheet);
     }
-    let Resolved::Field(found) = finding_tested(sheet, scope, path) else {
+    let Ok(found) = finding_tested(sheet, scope, path) else {
         return none_of(sheet);
     };
     let from = found.declaration.name.from;
@@ -109,10 +109,10 @@ pub fn found_name<'s, 'r>(sheet: &'s [u8], request: &'r [u8], scope: Span, path:
     ensures { PartOf (name_span_for sheet.now request.now scope path)
         sheet.now sheet.entry.ref_ptr.0 sheet.entry.ref_ptr.1 result.now result.ref_ptr.0 result.ref_ptr.1 }
 {
-    let Leaf::At { from: a, to: e } = span_in(request, scope) else {
+    let Some(Span { from: a, to: e }) = span_in(request, scope) else {
         return none_of(sheet);
     };
-    let Leaf::At { from: n, to: m } = span_in(request, path) else {
+    let Some(Span { from: n, to: m }) = span_in(request, path) else {
         return none_of(sheet);
     };
     name_in(sheet, &request[a..e], &request[n..m])

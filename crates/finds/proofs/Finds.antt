@@ -1,7 +1,7 @@
 -- In a sheet that is fine, and in which no two share a full name, a full name is found exactly if it is declared, and then it is that
 -- declaration. The statements stand at the end.
 -- Assumes nothing.
-use Rattle.std.specs.Prelude.{◌≡◌, refl, true, List, [], ◌∷◌, ◌++◌, ℕ, Option, None, Some}
+use Rattle.std.specs.Prelude.{◌≡◌, refl, true, List, [], ◌∷◌, ◌++◌, ℕ, Option, None, Some, Ok}
 use Rattle.basis.specs.Kit.{sym, ap, ◌∙◌}
 use Rattle.basis.proofs.Never.{never}
 use Rattle.basis.specs.First.{first_some, collect}
@@ -11,7 +11,6 @@ use Rattle.basis.proofs.AmongFirsts.{given-some, firsts-none, firsts-some}
 use Rattle.field.specs.Leaf.{text}
 use Rattle.path.specs.Path.{Name, Path, components, spell, all_ident, parent, last}
 use Rattle.path.proofs.PathLaws.{spell-components, parent-snoc, last-append, parent-last}
-use Rattle.reply.specs.declared.Verdict.TheVariants.{Fine}
 use Rattle.sheet.specs.declared.declaration.Declaration.{Declaration}
 use Rattle.sheet.specs.Table.{extension_tag}
 use Rattle.sheet.specs.Tree.{tree_of}
@@ -152,7 +151,7 @@ module _ (s : List ℕ) where
       → Among d (every_extension (tree_of s))
   named-extension t d m = rw extensions-named (collected extension_borne m refl)
 
-  module _ (fine : judge_sheet s ≡ Fine) where
+  module _ (fine : judge_sheet s ≡ Ok tt) where
     -- Every full name of a fine sheet is a path of identifiers.
     pub names-path : (b : Named) → Among b (every_declared s) → all_ident (components b.name) ≡ true
     names-path b m = (located s fine b m).idents

@@ -4,7 +4,7 @@
 --   Located s b <-> b stands in a file; the package and the names that lead to it in the file are the components of its full name
 --
 -- Assumes nothing.
-use Rattle.std.specs.Prelude.{◌≡◌, refl, true, ◌&&◌, List, [], ◌∷◌, ◌++◌, ℕ, zero, suc, Some}
+use Rattle.std.specs.Prelude.{◌≡◌, refl, true, ◌&&◌, List, [], ◌∷◌, ◌++◌, ℕ, zero, suc, Some, Ok}
 use Rattle.basis.specs.Kit.{sym, ap, ◌∙◌}
 use Rattle.basis.proofs.Kit.{arith}
 use lib.ListN.{get_elem?}
@@ -15,7 +15,6 @@ use Rattle.basis.specs.Among.{Among}
 use Rattle.field.specs.Leaf.{text}
 use Rattle.path.specs.Path.{Name, Path, components, all_ident, is_rel_or_empty}
 use Rattle.path.proofs.PathLaws.{components-spell, idents-append, rel-idents}
-use Rattle.reply.specs.declared.Verdict.TheVariants.{Fine}
 use Rattle.sheet.specs.Tree.{File, tree_of}
 use Rattle.scope.specs.Scope.{Scope, file_scope}
 use Rattle.scopes.specs.Scopes.{scopes}
@@ -57,7 +56,7 @@ module _ (s : List ℕ) where
     pub idents : all_ident (components b.name) ≡ true
     pub before-idents : all_ident (components (text s file.package_name) ++ place.names) ≡ true
 
-  module _ (fine : judge_sheet s ≡ Fine) where
+  module _ (fine : judge_sheet s ≡ Ok tt) where
     filed-located : (b : Named) (at : ℕ) (f : File) → get_elem? (tree_of s) at ≡ Some f → Filed s at f b → Located b
     filed-located b at f e m =
         let g = good-file (tree_of s) at f (fine-good s fine) e in

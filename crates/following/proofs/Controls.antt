@@ -4,8 +4,6 @@
 use Rattle.std.specs.Prelude.{◌≡◌, refl, true, List, [], ◌∷◌, ℕ, Option, None, Some}
 use Rattle.field.specs.Leaf.{span}
 use Rattle.sheet.specs.declared.declaration.Declaration.{Declaration}
-use Rattle.sheet.specs.declared.declaration.Declared.{Declared}
-use Rattle.sheet.specs.declared.declaration.Declared.TheVariants.{Declares, NoDeclaration}
 use Rattle.entries.specs.declared.Entry.{Entry}
 use Rattle.entries.specs.declared.Row.{Row}
 use Rattle.entries.specs.Tree.{Tree, end, one, held}
@@ -19,14 +17,14 @@ at p = record {
   shape = record { number = 1; typ = 11; label = 1; path = span 0 0 };
 }
 
-abbrev by : Declared → (value : ℕ) → Entry
+abbrev by : Option Declaration → (value : ℕ) → Entry
 by y v = record { number = 1; typ = 11; wire = 2; place = 0; size = 0; value = v; by = y }
 
 abbrev of : (declaration value : ℕ) → Entry
-of p v = by (Declares (at p)) v
+of p v = by (Some (at p)) v
 
 abbrev unknown : Entry
-unknown = by NoDeclaration 9
+unknown = by None 9
 
 -- the declarations a, b and m
 abbrev a : ℕ

@@ -1,31 +1,27 @@
 -- One row, followed: the ways through `is_at` and `follow`.
 -- Assumes nothing.
-use Rattle.std.specs.Prelude.{◌≡◌, refl, Bool, true, false, List, ℕ, ◌+◌, ◌*◌, ◌≤◌, ◌<◌, eqb, ltb, get_or}
+use Rattle.std.specs.Prelude.{◌≡◌, refl, Bool, true, false, List, ℕ, ◌+◌, ◌*◌, ◌≤◌, ◌<◌, eqb, ltb, get_or, None, Option, Some}
 use Rattle.basis.specs.Kit.{sym, ap, ◌∙◌}
 use Rattle.basis.specs.First.{only_if}
 use Rattle.basis.proofs.Kit.{eq-eqb, ne_eqb, lt-ltb, le-ltb, not-true, not-false}
 use Rattle.sheet.specs.declared.declaration.Declaration.{Declaration}
-use Rattle.sheet.specs.declared.declaration.Declared.{Declared}
-use Rattle.sheet.specs.declared.declaration.Declared.TheVariants.{Declares, NoDeclaration}
 use Rattle.entries.specs.declared.Row.{Row}
-use Rattle.following.specs.declared.Best.{Best}
-use Rattle.following.specs.declared.Best.TheVariants.{NoneYet}
 use Rattle.following.specs.declared.Step.{Step}
 use Rattle.following.specs.inner.Keys.{key_at, key_words}
 use Rattle.following.specs.inner.Following.{is_at, step, after, by_key, at_level, step_of, follow}
 
 -- ---- is_at
-module _ (p : ℕ) (y : Declared) where
-  pub at_none : y ≡ NoDeclaration → false ≡ is_at p y
+module _ (p : ℕ) (y : Option Declaration) where
+  pub at_none : y ≡ None → false ≡ is_at p y
   unfolding is_at
   at_none g = ap (is_at p) (sym g)
 
-  pub at_some : (d : Declaration) → y ≡ Declares d → eqb d.name.from p ≡ is_at p y
+  pub at_some : (d : Declaration) → y ≡ Some d → eqb d.name.from p ≡ is_at p y
   unfolding is_at
   at_some d g = ap (is_at p) (sym g)
 
 -- ---- follow
-module _ (ks : List ℕ) (n k : ℕ) (c : Bool) (l : ℕ) (y : Declared) where
+module _ (ks : List ℕ) (n k : ℕ) (c : Bool) (l : ℕ) (y : Option Declaration) where
   pub step-deeper : k < l → step k c false ≡ step_of ks n k c l y
   unfolding step_of
   step-deeper h = sym (simp (step_of, lt-ltb k l h))
@@ -72,7 +68,7 @@ module _ (k l : ℕ) where
     ]
   ]
 
-  counted : (b : Best) (x : Row) (d i h z j c : Bool) → after (by d i h z j c) b x ≡ after (by d i h z j true) (only_if c b NoneYet) x
+  counted : (b : Option Row) (x : Row) (d i h z j c : Bool) → after (by d i h z j c) b x ≡ after (by d i h z j true) (only_if c b None) x
   counted b x true i h z j true = refl
   counted b x true i h z j false = refl
   counted b x false false h z j true = refl
@@ -84,9 +80,9 @@ module _ (k l : ℕ) where
   counted b x false true true false true false = refl
   counted b x false true true false false c = refl
 
-module _ (ks : List ℕ) (n k : ℕ) (c : Bool) (b : Best) (x : Row) where
+module _ (ks : List ℕ) (n k : ℕ) (c : Bool) (b : Option Row) (x : Row) where
   pub step_after : after (step_of ks n k c x.level x.entry.by) b x
-      ≡ follow ks n (record { matched = k; best = only_if c b NoneYet }) x
+      ≡ follow ks n (record { matched = k; best = only_if c b None }) x
   unfolding step_of follow
   step_after =
       counted k x.level b x (ltb k x.level) (ltb x.level n) (is_at (key_at ks x.level).place x.entry.by)

@@ -12,18 +12,14 @@ use Rattle.basis.specs.First.{only_if}
 use mathlib.Core.Path.{subst}
 use Rattle.basis.proofs.Kit.{arith, eq-eqb, ne_eqb, lt-ltb, le-ltb}
 use Rattle.sheet.specs.declared.declaration.Declaration.{Declaration}
-use Rattle.sheet.specs.declared.declaration.Declared.{Declared}
-use Rattle.sheet.specs.declared.declaration.Declared.TheVariants.{Declares, NoDeclaration}
 use Rattle.entries.specs.declared.Entry.{Entry}
 use Rattle.entries.specs.declared.Row.{Row}
 use Rattle.entries.specs.Tree.{Tree, end, one, held, append, row, rows}
-use Rattle.following.specs.declared.Best.{Best}
-use Rattle.following.specs.declared.Best.TheVariants.{Found, NoneYet}
 use Rattle.following.specs.Reached.{is_by, listed_by, inside_after, joined, last_after, inside, reached}
 use Rattle.following.specs.inner.Keys.{key_of, key_at, keys_from}
 use Rattle.following.specs.inner.Following.{best_of, Followed, nothing_yet, is_at, step, after, by_key, at_level, step_of, follow, followed}
 
-pub record Gone (level : ℕ) (b : Best) (f : Followed) : Type 0 where
+pub record Gone (level : ℕ) (b : Option Row) (f : Followed) : Type 0 where
   pub best : f.best ≡ b
   pub still : level ≤ f.matched
 
@@ -62,14 +58,14 @@ followed-none ks f [] = refl
 followed-none ks f (x ∷ xs) = followed-none ks (follow ks 0 f x) xs ∙ follow-none ks f x
 
 -- ---- a row at the level of the declaration d, whose key stands there
-by-at : (d : Declaration) (y : Declared) → is_at d.name.from y ≡ is_by d y
+by-at : (d : Declaration) (y : Option Declaration) → is_at d.name.from y ≡ is_by d y
 unfolding is_at
-by-at d NoDeclaration = refl
-by-at d (Declares e) = refl
+by-at d None = refl
+by-at d (Some e) = refl
 
 module _ (joins : Declaration → Bool) where
-  abbrev kept : Declaration → Best → Best
-  kept d b = only_if (joins d) b NoneYet
+  abbrev kept : Declaration → Option Row → Option Row
+  kept d b = only_if (joins d) b None
 
   module _ (ks : List ℕ) (n l : ℕ) (d : Declaration) (k : key_at ks l ≡ key_of joins d) (f : Followed) (o : l ≤ f.matched) (e : Entry) where
     by-key : l < n → follow ks n f (row l e) ≡ after (by_key ks n true l e.by) f.best (row l e)
@@ -79,36 +75,36 @@ module _ (joins : Declaration → Bool) where
     step_other : l < n → is_by d e.by ≡ false → follow ks n f (row l e) ≡ record { matched = l; best = f.best }
     step_other h z = by-key h ∙ simp (by_key, k, by-at d e.by, z)
 
-    step-last : l + 1 ≡ n → is_by d e.by ≡ true → follow ks n f (row l e) ≡ record { matched = l; best = Found (row l e) }
+    step-last : l + 1 ≡ n → is_by d e.by ≡ true → follow ks n f (row l e) ≡ record { matched = l; best = Some (row l e) }
     step-last h z = by-key (omega arith) ∙ simp (by_key, k, by-at d e.by, z, eq-eqb (l + 1) n h)
 
     step_in : l + 1 < n → is_by d e.by ≡ true → follow ks n f (row l e) ≡ record { matched = l + 1; best = kept d f.best }
     step_in h z = by-key (omega arith) ∙ simp (by_key, k, by-at d e.by, z, ne_eqb (l + 1) n (λ q. omega arith)) (joining (joins d))
       where
         joining : (j : Bool) → after (step (l + 1) (only_if j true false) false) f.best (row l e)
-            ≡ record { matched = l + 1; best = only_if j f.best NoneYet }
+            ≡ record { matched = l + 1; best = only_if j f.best None }
         joining true = refl
         joining false = refl
 
   -- ---- the best row after records
-  abbrev best_after : Best → (level : ℕ) → Declaration → List Declaration → Tree → Best
+  abbrev best_after : Option Row → (level : ℕ) → Declaration → List Declaration → Tree → Option Row
   best_after b l d ds end = b
-  best_after b l d [] (one e t) = best_after (only_if (is_by d e.by) (Found (row l e)) b) l d [] t
-  best_after b l d [] (held e i t) = best_after (only_if (is_by d e.by) (Found (row l e)) b) l d [] t
+  best_after b l d [] (one e t) = best_after (only_if (is_by d e.by) (Some (row l e)) b) l d [] t
+  best_after b l d [] (held e i t) = best_after (only_if (is_by d e.by) (Some (row l e)) b) l d [] t
   best_after b l d (o ∷ ds) (one e t) = best_after (only_if (is_by d e.by) (kept d b) b) l d (o ∷ ds) t
   best_after b l d (o ∷ ds) (held e i t) = best_after (only_if (is_by d e.by) (best_after (kept d b) (suc l) o ds i) b) l d (o ∷ ds) t
 
-  after-append : (b : Best) (l : ℕ) (d : Declaration) (ds : List Declaration) (t u : Tree)
+  after-append : (b : Option Row) (l : ℕ) (d : Declaration) (ds : List Declaration) (t u : Tree)
       → best_after b l d ds (append t u) ≡ best_after (best_after b l d ds t) l d ds u
   after-append b l d ds end u = refl
-  after-append b l d [] (one e t) u = after-append (only_if (is_by d e.by) (Found (row l e)) b) l d [] t u
-  after-append b l d [] (held e i t) u = after-append (only_if (is_by d e.by) (Found (row l e)) b) l d [] t u
+  after-append b l d [] (one e t) u = after-append (only_if (is_by d e.by) (Some (row l e)) b) l d [] t u
+  after-append b l d [] (held e i t) u = after-append (only_if (is_by d e.by) (Some (row l e)) b) l d [] t u
   after-append b l d (o ∷ ds) (one e t) u = after-append (only_if (is_by d e.by) (kept d b) b) l d (o ∷ ds) t u
   after-append b l d (o ∷ ds) (held e i t) u = after-append (only_if (is_by d e.by) (best_after (kept d b) (suc l) o ds i) b) l d (o ∷ ds) t u
 
   -- of the last declaration the last record
   module _ (l : ℕ) (d : Declaration) where
-    last-best : (b : Bool) (x : Row) (o : Option Row) → only_if b (Found x) (best_of o) ≡ best_of (only_if b (Some x) o)
+    last-best : (b : Bool) (x : Row) (o : Option Row) → only_if b (Some x) (best_of o) ≡ best_of (only_if b (Some x) o)
     last-best true x o = refl
     last-best false x o = refl
 
@@ -125,62 +121,62 @@ module _ (joins : Declaration → Bool) where
     after_last : (o : Option Row) (t : Tree) → best_after (best_of o) l d [] t ≡ best_of (last_after o l (listed_by d t))
     after_last o end = refl
     after_last o (one e t) =
-        ap (λ (b : Best). best_after b l d [] t) (last-best (is_by d e.by) (row l e) o)
+        ap (λ (b : Option Row). best_after b l d [] t) (last-best (is_by d e.by) (row l e) o)
         ∙ after_last (only_if (is_by d e.by) (Some (row l e)) o) t ∙ ap best_of (sym (last_one (is_by d e.by) e o (listed_by d t)))
     after_last o (held e i t) =
-        ap (λ (b : Best). best_after b l d [] t) (last-best (is_by d e.by) (row l e) o)
+        ap (λ (b : Option Row). best_after b l d [] t) (last-best (is_by d e.by) (row l e) o)
         ∙ after_last (only_if (is_by d e.by) (Some (row l e)) o) t ∙ ap best_of (sym (last-held (is_by d e.by) e i o (listed_by d t)))
 
   -- of one before it what the last record holds,
   module _ (l : ℕ) (d o : Declaration) (ds : List Declaration) where
-    abbrev further : Best → Tree → Best
+    abbrev further : Option Row → Tree → Option Row
     further b i = best_after b (suc l) o ds i
 
-    abbrev here : Best → Tree → Best
+    abbrev here : Option Row → Tree → Option Row
     here b t = best_after b l d (o ∷ ds) t
 
-    module _ (q : joins d ≡ false) (e : Entry) (i t u : Tree) (n : (i : Tree) → here (further NoneYet i) t ≡ further NoneYet (inside_after i u)) where
-      anew-one : (c : Bool) → here (only_if c (kept d (further NoneYet i)) (further NoneYet i)) t
-          ≡ further NoneYet (inside_after i (elim c [ true ↦ one e u | false ↦ u ]))
-      anew-one true = ap (λ (j : Bool). here (only_if j (further NoneYet i) NoneYet) t) q ∙ n end
+    module _ (q : joins d ≡ false) (e : Entry) (i t u : Tree) (n : (i : Tree) → here (further None i) t ≡ further None (inside_after i u)) where
+      anew-one : (c : Bool) → here (only_if c (kept d (further None i)) (further None i)) t
+          ≡ further None (inside_after i (elim c [ true ↦ one e u | false ↦ u ]))
+      anew-one true = ap (λ (j : Bool). here (only_if j (further None i) None) t) q ∙ n end
       anew-one false = n i
 
-      anew-held : (j : Tree) (c : Bool) → here (only_if c (further (kept d (further NoneYet i)) j) (further NoneYet i)) t
-          ≡ further NoneYet (inside_after i (elim c [ true ↦ held e j u | false ↦ u ]))
-      anew-held j true = ap (λ (k : Bool). here (further (only_if k (further NoneYet i) NoneYet) j) t) q ∙ n j
+      anew-held : (j : Tree) (c : Bool) → here (only_if c (further (kept d (further None i)) j) (further None i)) t
+          ≡ further None (inside_after i (elim c [ true ↦ held e j u | false ↦ u ]))
+      anew-held j true = ap (λ (k : Bool). here (further (only_if k (further None i) None) j) t) q ∙ n j
       anew-held j false = n i
 
-    anew : joins d ≡ false → (i t : Tree) → here (further NoneYet i) t ≡ further NoneYet (inside_after i (listed_by d t))
+    anew : joins d ≡ false → (i t : Tree) → here (further None i) t ≡ further None (inside_after i (listed_by d t))
     anew q i end = refl
     anew q i (one e t) = anew-one q e i t (listed_by d t) (λ k. anew q k t) (is_by d e.by)
     anew q i (held e j t) = anew-held q e i t (listed_by d t) (λ k. anew q k t) j (is_by d e.by)
 
     -- or what all of them hold
-    module _ (q : joins d ≡ true) (e : Entry) (b : Best) (t u : Tree) (n : (b : Best) → here b t ≡ further b (joined u)) where
+    module _ (q : joins d ≡ true) (e : Entry) (b : Option Row) (t u : Tree) (n : (b : Option Row) → here b t ≡ further b (joined u)) where
       joined-one : (c : Bool) → here (only_if c (kept d b) b) t ≡ further b (joined (elim c [ true ↦ one e u | false ↦ u ]))
-      joined-one true = ap (λ (j : Bool). here (only_if j b NoneYet) t) q ∙ n b
+      joined-one true = ap (λ (j : Bool). here (only_if j b None) t) q ∙ n b
       joined-one false = n b
 
       joined-held : (i : Tree) (c : Bool)
           → here (only_if c (further (kept d b) i) b) t ≡ further b (joined (elim c [ true ↦ held e i u | false ↦ u ]))
       joined-held i true =
-          ap (λ (j : Bool). here (further (only_if j b NoneYet) i) t) q ∙ n (further b i) ∙ sym (after-append b (suc l) o ds i (joined u))
+          ap (λ (j : Bool). here (further (only_if j b None) i) t) q ∙ n (further b i) ∙ sym (after-append b (suc l) o ds i (joined u))
       joined-held i false = n b
 
-    all-joined : joins d ≡ true → (b : Best) (t : Tree) → here b t ≡ further b (joined (listed_by d t))
+    all-joined : joins d ≡ true → (b : Option Row) (t : Tree) → here b t ≡ further b (joined (listed_by d t))
     all-joined q b end = refl
     all-joined q b (one e t) = joined-one q e b t (listed_by d t) (λ c. all-joined q c t) (is_by d e.by)
     all-joined q b (held e i t) = joined-held q e b t (listed_by d t) (λ c. all-joined q c t) i (is_by d e.by)
 
-    after-inside : (t : Tree) → here NoneYet t ≡ further NoneYet (inside joins d t)
+    after-inside : (t : Tree) → here None t ≡ further None (inside joins d t)
     after-inside t = go (joins d) refl
       where
-        go : (b : Bool) → joins d ≡ b → here NoneYet t ≡ further NoneYet (inside joins d t)
-        go true q = all-joined q NoneYet t ∙ simp (inside, q)
+        go : (b : Bool) → joins d ≡ b → here None t ≡ further None (inside joins d t)
+        go true q = all-joined q None t ∙ simp (inside, q)
         go false q = anew q end t ∙ simp (inside, q)
 
   after-reached : (l : ℕ) (d : Declaration) (ds : List Declaration) (t : Tree)
-      → best_after NoneYet l d ds t ≡ best_of (reached joins l (d ∷ ds) t)
+      → best_after None l d ds t ≡ best_of (reached joins l (d ∷ ds) t)
   after-reached l d [] t = after_last l d None t
   after-reached l d (o ∷ ds) t = after-inside l d o ds t ∙ after-reached (suc l) o ds (inside joins d t)
 
@@ -189,14 +185,14 @@ module _ (joins : Declaration → Bool) where
     abbrev Goes : (level : ℕ) → Declaration → List Declaration → Tree → Type 0
     Goes l d ds t = (f : Followed) → l ≤ f.matched → Gone l (best_after f.best l d ds t) (followed ks n f (rows l t))
 
-    goes_on : (l : ℕ) (d : Declaration) (ds : List Declaration) (b : Best) (f g : Followed) (t : Tree) → f ≡ g → l ≤ g.matched
+    goes_on : (l : ℕ) (d : Declaration) (ds : List Declaration) (b : Option Row) (f g : Followed) (t : Tree) → f ≡ g → l ≤ g.matched
         → g.best ≡ b
         → Goes l d ds t → Gone l (best_after b l d ds t) (followed ks n f (rows l t))
     goes_on l d ds b f g t e o q r =
         subst (λ (x : Followed). Gone l (best_after b l d ds t) (followed ks n x (rows l t))) (sym e)
-        (subst (λ (x : Best). Gone l (best_after x l d ds t) (followed ks n g (rows l t))) q (r g o))
+        (subst (λ (x : Option Row). Gone l (best_after x l d ds t) (followed ks n g (rows l t))) q (r g o))
 
-    goes_over : (l : ℕ) (d : Declaration) (ds : List Declaration) (b : Best) (f g : Followed) (i t : Tree)
+    goes_over : (l : ℕ) (d : Declaration) (ds : List Declaration) (b : Option Row) (f g : Followed) (i t : Tree)
         → followed ks n f (rows (suc l) i) ≡ g → l ≤ g.matched → g.best ≡ b → Goes l d ds t
         → Gone l (best_after b l d ds t) (followed ks n f (rows (suc l) i ++ rows l t))
     goes_over l d ds b f g i t e o q r =
@@ -213,7 +209,7 @@ module _ (joins : Declaration → Bool) where
     module _ (l : ℕ) (d : Declaration) (k : key_at ks l ≡ key_of joins d) (e : Entry) (t : Tree) where
       module _ (h : l + 1 ≡ n) (r : Goes l d [] t) where
         last-row : (f : Followed) → l ≤ f.matched → (c : Bool) → is_by d e.by ≡ c
-            → follow ks n f (row l e) ≡ record { matched = l; best = only_if c (Found (row l e)) f.best }
+            → follow ks n f (row l e) ≡ record { matched = l; best = only_if c (Some (row l e)) f.best }
         last-row f o true z = step-last ks n l d k f o e h z
         last-row f o false z = step_other ks n l d k f o e (omega arith) z
 

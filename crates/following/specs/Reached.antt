@@ -13,15 +13,13 @@
 -- Assumes nothing.
 use Rattle.std.specs.Prelude.{Bool, true, false, List, [], ◌∷◌, ℕ, suc, eqb, Option, None, Some}
 use Rattle.sheet.specs.declared.declaration.Declaration.{Declaration}
-use Rattle.sheet.specs.declared.declaration.Declared.{Declared}
-use Rattle.sheet.specs.declared.declaration.Declared.TheVariants.{Declares, NoDeclaration}
 use Rattle.entries.specs.declared.Row.{Row}
 use Rattle.entries.specs.Tree.{Tree, end, one, held, append, row}
 
 -- "A record listed by another declaration than the part's counts as none." [QUERY-5]
-abbrev pub is_by : Declaration → Declared → Bool
-is_by d NoDeclaration = false
-is_by d (Declares e) = eqb e.name.from d.name.from
+abbrev pub is_by : Declaration → Option Declaration → Bool
+is_by d None = false
+is_by d (Some e) = eqb e.name.from d.name.from
 
 abbrev pub listed_by : Declaration → Tree → Tree
 listed_by d end = end

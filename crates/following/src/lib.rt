@@ -6,14 +6,6 @@ ghost use Rattle.following.specs.inner.Keys.{key_words};
 ghost use Rattle.following.specs.inner.Following.{is_at, step_of};
 
 use entries::Row;
-use sheet::declaration::Declared;
-
-// The row that was found last, if any.
-#[derive(Clone, Copy)]
-pub enum Best {
-    Found(Row),
-    NoneYet,
-}
 
 // After a row: how far the open messages are the name's parts, whether the row that was taken last counts, and whether this one is taken.
 #[derive(Clone, Copy)]
@@ -24,12 +16,12 @@ pub struct Step {
 }
 
 // Whether a record is listed by the declaration at that place of the sheet.
-fn is_at(place: usize, by: Declared) -> bool
+fn is_at(place: usize, by: Option<Declaration>) -> bool
     ensures { result ≡ is_at place by }
 {
     match by {
-        Declared::NoDeclaration => false,
-        Declared::Declares(d) => d.name.from == place,
+        None => false,
+        Some(d) => d.name.from == place,
     }
 }
 
@@ -40,8 +32,8 @@ pub fn follow(
     matched: usize,
     counts: bool,
     level: usize,
-    by: Declared,
-) -> Step
+    by: Option<Declaration>,
+) -> Result<Declaration, Lack>
     requires { count * key_words ≤ length keys.now }
     ensures { result ≡ step_of keys.now count matched counts level by }
 {

@@ -1,13 +1,12 @@
 -- Closed cases of the definitions, which the checker computes: containers with one fault and with two, and a limit on their fields.
 -- Assumes nothing.
-use Rattle.std.specs.Prelude.{◌≡◌, refl, true, false, List, [], ◌∷◌, ℕ, eqb, ltb}
+use Rattle.std.specs.Prelude.{◌≡◌, refl, true, false, List, [], ◌∷◌, ℕ, eqb, ltb, Err, Ok}
 use Rattle.octets.specs.Octets.{big_at}
 use Rattle.reply.specs.declared.Refusal.TheVariants.{BadSheet, BeyondLimit}
-use Rattle.reply.specs.declared.Verdict.{Verdict}
-use Rattle.reply.specs.declared.Verdict.TheVariants.{Fine, Refused}
 use Rattle.field.specs.Field.{field_at}
 use Rattle.field.specs.Walk.{walk_by, walk}
 use Rattle.form.specs.Each.{each, each_from}
+use Rattle.reply.specs.Verdicts.{Verdict}
 
 -- two fields, 1 with no payload and 2 with one byte, and a third that is cut
 fields : List ℕ
@@ -15,20 +14,20 @@ fields = 1 ∷ 0 ∷ 0 ∷ 2 ∷ 0 ∷ 1 ∷ 7 ∷ 3 ∷ 0 ∷ []
 
 -- ---- the first fault is the answer: at the second field, at the cut behind it, and where both are
 second : ℕ → ℕ → ℕ → Verdict
-second t a e = elim (eqb t 2) [ true ↦ Refused BeyondLimit | false ↦ Fine ]
+second t a e = elim (eqb t 2) [ true ↦ Err BeyondLimit | false ↦ Ok tt ]
 
 fine : ℕ → ℕ → ℕ → Verdict
-fine t a e = Fine
+fine t a e = Ok tt
 
 first-fault : each BadSheet second (walk fields 0 7) ∷ each BadSheet fine (walk fields 0 9) ∷ each BadSheet second (walk fields 0 9) ∷ []
-    ≡ Refused BeyondLimit ∷ Refused BadSheet ∷ Refused BeyondLimit ∷ []
+    ≡ Err BeyondLimit ∷ Err BadSheet ∷ Err BeyondLimit ∷ []
 unfolding fields second fine walk_by field_at big_at
 first-fault = refl
 
 -- a limit of one field
 few : ℕ → ℕ → ℕ → ℕ → Verdict
-few n t a e = elim (ltb n 1) [ true ↦ Fine | false ↦ Refused BeyondLimit ]
+few n t a e = elim (ltb n 1) [ true ↦ Ok tt | false ↦ Err BeyondLimit ]
 
-counted : each_from BadSheet few 0 (walk fields 0 3) ∷ each_from BadSheet few 0 (walk fields 0 7) ∷ [] ≡ Fine ∷ Refused BeyondLimit ∷ []
+counted : each_from BadSheet few 0 (walk fields 0 3) ∷ each_from BadSheet few 0 (walk fields 0 7) ∷ [] ≡ Ok tt ∷ Err BeyondLimit ∷ []
 unfolding fields few walk_by field_at big_at
 counted = refl

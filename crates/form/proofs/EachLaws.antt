@@ -9,56 +9,55 @@
 -- `field_at` needs, but its start, which is `rest-start`.
 --
 -- Assumes nothing.
-use Rattle.std.specs.Prelude.{◌≡◌, List, ℕ, ◌+◌, ◌≤◌, ◌<◌}
+use Rattle.std.specs.Prelude.{◌≡◌, List, ℕ, ◌+◌, ◌≤◌, ◌<◌, Err, Ok, None, Option, Some}
 use Rattle.basis.specs.Kit.{sym, ◌∙◌}
 use Rattle.reply.specs.declared.Refusal.{Refusal}
-use Rattle.reply.specs.declared.Verdict.{Verdict}
-use Rattle.reply.specs.declared.Verdict.TheVariants.{Fine, Refused}
 use Rattle.reply.proofs.VerdictLaws.{first-refused, first_fine}
-use Rattle.field.specs.declared.Field.{Field}
-use Rattle.field.specs.declared.Field.TheVariants.{Whole, Cut}
 use Rattle.field.specs.Walk.{Reader, walk_by}
 use Rattle.form.specs.Each.{each, each_from}
 use Rattle.field.proofs.FieldLaws.{field-within, field-less}
 use Rattle.field.proofs.Rest.{RestBy, rest_end, rest-cut, rest-step, rest-next}
+use Rattle.field.specs.Field.{field}
+use Rattle.field.specs.declared.Field.{Field}
+use Rattle.reply.specs.Verdicts.{Verdict}
 
 module _ {next : Reader} (bad : Refusal) (f : ℕ → ℕ → ℕ → Verdict) (v : Verdict) (s : List ℕ) (to i : ℕ)
     (k : RestBy next v (each bad f) s to i) where
-  pub each-end : to ≤ i → Fine ≡ v
+  pub each-end : to ≤ i → Ok tt ≡ v
   each-end h = sym (rest_end v (each bad f) s to i k h)
 
-  module _ (h : i < to) (r : Field) (q : r ≡ next s i to) where
-    pub each-cut : r ≡ Cut → Refused bad ≡ v
+  module _ (h : i < to) (r : Option Field) (q : r ≡ next s i to) where
+    pub each-cut : r ≡ None → Err bad ≡ v
     each-cut g = sym (rest-cut v (each bad f) s to i k h r q g)
 
-    module _ (t a e : ℕ) (g : r ≡ Whole t a e) (u : Verdict) (p : u ≡ f t a e) where
-      pub each-refused : (w : Refusal) → u ≡ Refused w → Refused w ≡ v
+    module _ (here : Field) (g : r ≡ Some here) (u : Verdict) (p : u ≡ f here.tag here.from here.to) where
+      pub each-refused : (w : Refusal) → u ≡ Err w → Err w ≡ v
       each-refused w x =
-          first-refused (f t a e) (each bad f (walk_by next s e to)) w (sym p ∙ x) ∙ sym (rest-step v (each bad f) s to i k h r q t a e g)
+          first-refused (f here.tag here.from here.to) (each bad f (walk_by next s here.to to)) w (sym p ∙ x) ∙ sym (rest-step v (each bad f) s to i k h r q here g)
 
-      pub each_next : u ≡ Fine → RestBy next v (each bad f) s to e
-      each_next x = rest-next v (each bad f) s to i k h r q t a e g (each bad f)
-          (sym (first_fine (f t a e) (each bad f (walk_by next s e to)) (sym p ∙ x)))
+      pub each_next : u ≡ Ok tt → RestBy next v (each bad f) s to here.to
+      each_next x = rest-next v (each bad f) s to i k h r q here g (each bad f)
+          (sym (first_fine (f here.tag here.from here.to) (each bad f (walk_by next s here.to to)) (sym p ∙ x)))
 
 module _ {next : Reader} (bad : Refusal) (f : ℕ → ℕ → ℕ → ℕ → Verdict) (v : Verdict) (s : List ℕ) (to i n : ℕ)
     (k : RestBy next v (each_from bad f n) s to i) where
-  pub each-from-end : to ≤ i → Fine ≡ v
+  pub each-from-end : to ≤ i → Ok tt ≡ v
   each-from-end h = sym (rest_end v (each_from bad f n) s to i k h)
 
-  module _ (h : i < to) (r : Field) (q : r ≡ next s i to) where
-    pub each-from-cut : r ≡ Cut → Refused bad ≡ v
+  module _ (h : i < to) (r : Option Field) (q : r ≡ next s i to) where
+    pub each-from-cut : r ≡ None → Err bad ≡ v
     each-from-cut g = sym (rest-cut v (each_from bad f n) s to i k h r q g)
 
-    module _ (t a e : ℕ) (g : r ≡ Whole t a e) (u : Verdict) (p : u ≡ f n t a e) where
-      pub each-from-refused : (w : Refusal) → u ≡ Refused w → Refused w ≡ v
+    module _ (here : Field) (g : r ≡ Some here) (u : Verdict) (p : u ≡ f n here.tag here.from here.to) where
+      pub each-from-refused : (w : Refusal) → u ≡ Err w → Err w ≡ v
       each-from-refused w x =
-          first-refused (f n t a e) (each_from bad f (n + 1) (walk_by next s e to)) w (sym p ∙ x)
-          ∙ sym (rest-step v (each_from bad f n) s to i k h r q t a e g)
+          first-refused (f n here.tag here.from here.to) (each_from bad f (n + 1) (walk_by next s here.to to)) w (sym p ∙ x)
+          ∙ sym (rest-step v (each_from bad f n) s to i k h r q here g)
 
-      pub each-from-next : u ≡ Fine → RestBy next v (each_from bad f (n + 1)) s to e
+      pub each-from-next : u ≡ Ok tt → RestBy next v (each_from bad f (n + 1)) s to here.to
       each-from-next x =
-          rest-next v (each_from bad f n) s to i k h r q t a e g (each_from bad f (n + 1))
-          (sym (first_fine (f n t a e) (each_from bad f (n + 1) (walk_by next s e to)) (sym p ∙ x)))
+          rest-next v (each_from bad f n) s to i k h r q here g (each_from bad f (n + 1))
+          (sym (first_fine (f n here.tag here.from here.to) (each_from bad f (n + 1) (walk_by next s here.to to)) (sym p ∙ x)))
 
 pub ruleset each-loop = (each-end, each-cut, each-refused, each_next)
 

@@ -6,46 +6,46 @@ ghost use Rattle.field.specs.Leaf.{leaf_at};
 ghost use Rattle.ident.specs.Ident.{is_ident};
 ghost use Rattle.path.specs.Path.{is_rel_path, is_rel_or_empty};
 
-use field::{Leaf, leaf_at};
+use field::{leaf_at, Span};
 
 // A single identifier.
-pub fn ident_at(s: &[u8], at: usize, end: usize, tag: u8) -> Leaf
+pub fn ident_at(s: &[u8], at: usize, end: usize, tag: u8) -> Option<Span>
     requires { (at ≤ end) × (end ≤ length s.now) }
     ensures { result ≡ leaf_at tag is_ident s.now at end }
 {
-    let Leaf::At { from, to } = leaf_at(s, at, end, tag) else {
-        return Leaf::Not;
+    let Some(Span { from, to }) = leaf_at(s, at, end, tag) else {
+        return None;
     };
     if !ident::protobuf_ident::is_ident(&s[from..to]) {
-        return Leaf::Not;
+        return None;
     }
-    Leaf::At { from: from, to: to }
+    Some(Span { from: from, to: to })
 }
 
 // A path with no leading dot, and not empty.
-pub fn rel_path_at(s: &[u8], at: usize, end: usize, tag: u8) -> Leaf
+pub fn rel_path_at(s: &[u8], at: usize, end: usize, tag: u8) -> Option<Span>
     requires { (at ≤ end) × (end ≤ length s.now) }
     ensures { result ≡ leaf_at tag is_rel_path s.now at end }
 {
-    let Leaf::At { from, to } = leaf_at(s, at, end, tag) else {
-        return Leaf::Not;
+    let Some(Span { from, to }) = leaf_at(s, at, end, tag) else {
+        return None;
     };
     if !path::protobuf_rel_path::is_rel_path(&s[from..to]) {
-        return Leaf::Not;
+        return None;
     }
-    Leaf::At { from: from, to: to }
+    Some(Span { from: from, to: to })
 }
 
 // A path with no leading dot, or empty.
-pub fn rel_or_empty_at(s: &[u8], at: usize, end: usize, tag: u8) -> Leaf
+pub fn rel_or_empty_at(s: &[u8], at: usize, end: usize, tag: u8) -> Option<Span>
     requires { (at ≤ end) × (end ≤ length s.now) }
     ensures { result ≡ leaf_at tag is_rel_or_empty s.now at end }
 {
-    let Leaf::At { from, to } = leaf_at(s, at, end, tag) else {
-        return Leaf::Not;
+    let Some(Span { from, to }) = leaf_at(s, at, end, tag) else {
+        return None;
     };
     if !path::protobuf_rel_path::is_rel_or_empty(&s[from..to]) {
-        return Leaf::Not;
+        return None;
     }
-    Leaf::At { from: from, to: to }
+    Some(Span { from: from, to: to })
 }

@@ -1,7 +1,7 @@
 -- Closed cases of the look-ups by full name, which the checker computes: of each rule cases that hold, cases at its border, and cases that
 -- are refused.
 -- Assumes nothing.
-use Rattle.std.specs.Prelude.{◌≡◌, refl, List, [], ◌∷◌, ◌++◌, map, ℕ}
+use Rattle.std.specs.Prelude.{◌≡◌, refl, List, [], ◌∷◌, ◌++◌, map, ℕ, Err, Ok, Result}
 use Prim.Native.String.{String}
 use Rattle.octets.specs.Octets.{big_at, same_bytes}
 use Rattle.octets.specs.Ascii.{ascii}
@@ -16,13 +16,12 @@ use Rattle.sheet.specs.Declaration.{has_type_path, type_path_at, shape_at, exten
 use Rattle.sheet.specs.Tree.{value_in, values_in, item_in, items_in, file_in, tree_of}
 use Rattle.sheet.specs.Members.{fields_of}
 use Rattle.scope.specs.Scope.{holding}
-use Rattle.fullname.specs.declared.LookedUp.{LookedUp}
-use Rattle.fullname.specs.declared.LookedUp.TheVariants.{Message, NoMessage}
-use Rattle.fullname.specs.declared.LookedUpEnum.{LookedUpEnum}
-use Rattle.fullname.specs.declared.LookedUpEnum.TheVariants.{Values, NoEnum}
 use Rattle.scopes.specs.Scopes.{scopes}
 use Rattle.fullname.specs.FullName.{messages_at, enums_at, looked_up, looked_up_enum}
 use Rattle.sheet.proofs.Sheets.{file, message, extension, field, value, enum}
+use Rattle.field.specs.declared.Span.{Span}
+use Rattle.reply.specs.declared.Refusal.{Refusal}
+use Rattle.scope.specs.declared.lookup.LookupScope.{LookupScope}
 
 -- of a message that is found the index of its file and the number of its first field, of an enum the number of its first value; of one that
 -- is not found, the reply's number
@@ -46,9 +45,9 @@ abbrev marked : ℕ → List Declaration → Reply
 marked i [] = bare
 marked i (d ∷ ds) = in_file i d.shape.number
 
-abbrev message_reply : List ℕ → LookedUp → Reply
-message_reply s (Message p) = marked p.file (fields_of (holding s p).items)
-message_reply s (NoMessage w) = refused (number w)
+abbrev message_reply : List ℕ → Result LookupScope Refusal → Reply
+message_reply s (Ok p) = marked p.file (fields_of (holding s p).items)
+message_reply s (Err w) = refused (number w)
 
 a_message : Case → Reply
 unfolding messages_at scopes components split on_first spell same_bytes tree_of file_in items_in item_in value_in extension_at
@@ -127,9 +126,9 @@ abbrev first_value : List Value → Reply
 first_value [] = bare
 first_value (v ∷ vs) = values v.number
 
-abbrev enum_reply : List ℕ → LookedUpEnum → Reply
-enum_reply s (Values b) = first_value (values_in s (walk s b.from b.to))
-enum_reply s (NoEnum w) = refused (number w)
+abbrev enum_reply : List ℕ → Result Span Refusal → Reply
+enum_reply s (Ok b) = first_value (values_in s (walk s b.from b.to))
+enum_reply s (Err w) = refused (number w)
 
 an_enum : Case → Reply
 unfolding enums_at scopes components split on_first spell parent last same_bytes tree_of file_in items_in item_in value_in extension_at

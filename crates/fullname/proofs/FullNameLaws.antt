@@ -1,12 +1,10 @@
 -- The laws of the look-ups by full name: the ways through `next_message`, `next_enum`, `find_message_by_abs_name`, `enum_in`,
 -- `only_enum` and `find_enum_by_abs_name`.
 -- Assumes nothing.
-use Rattle.std.specs.Prelude.{◌≡◌, refl, Bool, true, false, List, [], ◌∷◌, ℕ, suc, ◌-◌, ◌<◌, eqb, length, take, Option, None, Some}
+use Rattle.std.specs.Prelude.{◌≡◌, refl, Bool, true, false, List, [], ◌∷◌, ℕ, suc, ◌-◌, ◌<◌, eqb, length, take, Option, None, Some, Err, Ok, Result}
 use Rattle.basis.specs.Kit.{sym, ap, ◌∙◌}
 use Rattle.basis.proofs.Kit.{arith}
 use Rattle.octets.specs.Octets.{part}
-use Rattle.field.specs.declared.Leaf.{Leaf}
-use Rattle.field.specs.declared.Leaf.TheVariants as leaf
 use Rattle.field.specs.Leaf.{span}
 use Rattle.reply.specs.declared.Refusal.TheVariants.{MessageNotFound, MessageFoundMoreThanOnce}
 use Rattle.path.specs.Path.{Name, Path, components, parent, last}
@@ -15,48 +13,46 @@ use Rattle.path.proofs.PathLaws.{components-nil}
 use Rattle.sheet.specs.Members.{Enumeration}
 use Rattle.scope.specs.declared.lookup.LookupScope.{LookupScope}
 use Rattle.cursor.specs.declared.Cursor.{Cursor}
-use Rattle.cursor.specs.declared.Next.{Next}
-use Rattle.cursor.specs.declared.Next.TheVariants.{At, NoMore}
-use Rattle.fullname.specs.declared.LookedUp.TheVariants.{Message, NoMessage}
-use Rattle.fullname.specs.declared.LookedUpEnum.{LookedUpEnum}
-use Rattle.fullname.specs.declared.LookedUpEnum.TheVariants.{Values, NoEnum}
 use Rattle.basis.specs.First.{only_if, told, onto, collect}
 use Rattle.scope.specs.Scope.{Scope, holding, enum_named}
 use Rattle.scope.specs.inner.Answers.{bodied}
 use Rattle.scopes.specs.Scopes.{scopes}
-use Rattle.cursor.specs.inner.Cursor.{ahead, start_of, Nexts}
+use Rattle.cursor.specs.inner.Cursor.{ahead, start_of, Nexts, next_of}
 use Rattle.fullname.specs.FullName.{messages_at, enums_at, looked_up, looked_up_enum}
 use Rattle.fullname.specs.inner.Ahead.{kept, passing, is_message, declares_enum}
 use Rattle.scope.proofs.Held.{enum_at, enum-not}
 use Rattle.cursor.proofs.CursorLaws.{nexts-no-more, nexts-at, nexts-stands, nexts-lies}
 use Rattle.cursor.proofs.Left.{Left, left_end, left-some, left-none, left-laws}
 use Rattle.cursor.proofs.StartLaws.{components-some, last-text, start-ahead, start-stands, start-before, start-before-stands}
+use Rattle.cursor.specs.declared.Next.{Next}
+use Rattle.field.specs.declared.Span.{Span}
+use Rattle.reply.specs.declared.Refusal.{Refusal}
 
 -- ---- next_message and next_enum: the next of the scopes to come that passes a test
 module _ (good : Scope → Bool) (s t : List ℕ) (c₀ c : Cursor) (k : Left (passing good s t c₀) (collect (kept good)) s t c)
-    (r : Next) (q : Nexts (ahead s t) s t c r) where
-  pub passing-end : r ≡ NoMore → Nexts (passing good s t) s t c₀ NoMore
+    (r : Option Next) (q : Nexts (ahead s t) s t c r) where
+  pub passing-end : r ≡ None → Nexts (passing good s t) s t c₀ None
   passing-end g = nexts-no-more (passing good s t) s t c₀ (left_end (passing good s t c₀) (collect (kept good)) s t c k r q g)
 
-  module _ (p : LookupScope) (c' : Cursor) (g : r ≡ At p c') where
-    pub passing-found : good (holding s p) ≡ true → Nexts (passing good s t) s t c₀ (At p c')
+  module _ (n : Next) (g : r ≡ Some n) where
+    pub passing-found : good (holding s n.scope) ≡ true → Nexts (passing good s t) s t c₀ (Some n)
     passing-found h =
-        nexts-at (passing good s t) s t c₀ p c'
+        nexts-at (passing good s t) s t c₀ n.scope n.rest
         (record {
-          lies = (q.some p c' g).lies;
-          stands = (q.some p c' g).stands;
-          is = left-some (kept good) (passing good s t c₀) s t c k r q p c' g (holding s p) (rw h);
+          lies = (q.some n g).lies;
+          stands = (q.some n g).stands;
+          is = left-some (kept good) (passing good s t c₀) s t c k r q n g (holding s n.scope) (rw h);
         })
 
-    pub passing-next : good (holding s p) ≡ false → Left (passing good s t c₀) (collect (kept good)) s t c'
-    passing-next h = left-none (kept good) (passing good s t c₀) s t c k r q p c' g (rw h)
+    pub passing-next : good (holding s n.scope) ≡ false → Left (passing good s t c₀) (collect (kept good)) s t n.rest
+    passing-next h = left-none (kept good) (passing good s t c₀) s t c k r q n g (rw h)
 
 -- a scope declares an enum of the name where `enum_named` gives one
-module _ (s : List ℕ) (n : Name) (p : LookupScope) (l : Leaf) (x : l ≡ bodied (enum_named s n (holding s p))) where
-  pub enum-declared : (a e : ℕ) → l ≡ leaf.At a e → declares_enum s n (holding s p) ≡ true
-  enum-declared a e h = rw (enum_at s n p l x a e h).is
+module _ (s : List ℕ) (n : Name) (p : LookupScope) (l : Option Span) (x : l ≡ bodied (enum_named s n (holding s p))) where
+  pub enum-declared : (q : Span) → l ≡ Some q → declares_enum s n (holding s p) ≡ true
+  enum-declared q h = rw (enum_at s n p l x q.from q.to h).is
 
-  pub enum-undeclared : l ≡ leaf.Not → declares_enum s n (holding s p) ≡ false
+  pub enum-undeclared : l ≡ None → declares_enum s n (holding s p) ≡ false
   enum-undeclared h = rw (enum-not s n p l x h)
 
 pub ruleset next-message-laws = (left-laws, passing-end, passing-found, passing-next)
@@ -64,31 +60,31 @@ pub ruleset next-message-laws = (left-laws, passing-end, passing-found, passing-
 pub ruleset next-enum-laws = (left-laws, passing-end, passing-found, passing-next, enum-declared, enum-undeclared)
 
 -- ---- find_message_by_abs_name
-module _ (s t : List ℕ) (c : Cursor) (e : c ≡ start_of (eqb (length t) 0)) (r : Next) (q : Nexts (passing is_message s t) s t c r) where
+module _ (s t : List ℕ) (c : Cursor) (e : c ≡ start_of (eqb (length t) 0)) (r : Option Next) (q : Nexts (passing is_message s t) s t c r) where
   messages-all : messages_at s (components t) ≡ passing is_message s t c
   unfolding messages_at
   messages-all = rw (start-ahead s t c e)
 
-  pub messages-none : r ≡ NoMore → NoMessage MessageNotFound ≡ looked_up (messages_at s (components t))
+  pub messages-none : r ≡ None → Err MessageNotFound ≡ looked_up (messages_at s (components t))
   messages-none g = rw (messages-all, q.none g)
 
-  module _ (p : LookupScope) (c' : Cursor) (g : r ≡ At p c') (r' : Next) (q' : Nexts (passing is_message s t) s t c' r') where
-    pub messages-one : r' ≡ NoMore → Message p ≡ looked_up (messages_at s (components t))
-    messages-one g' = rw (messages-all, (q.some p c' g).is, q'.none g')
+  module _ (n : Next) (g : r ≡ Some n) (r' : Option Next) (q' : Nexts (passing is_message s t) s t n.rest r') where
+    pub messages-one : r' ≡ None → Ok n.scope ≡ looked_up (messages_at s (components t))
+    messages-one g' = rw (messages-all, (q.some n g).is, q'.none g')
 
-    pub messages-more : (p' : LookupScope) (c'' : Cursor) → r' ≡ At p' c''
-        → NoMessage MessageFoundMoreThanOnce ≡ looked_up (messages_at s (components t))
-    messages-more p' c'' g' = rw (messages-all, (q.some p c' g).is, (q'.some p' c'' g').is)
+    pub messages-more : (m : Next) → r' ≡ Some m
+        → Err MessageFoundMoreThanOnce ≡ looked_up (messages_at s (components t))
+    messages-more m g' = rw (messages-all, (q.some n g).is, (q'.some m.scope m.rest g').is)
 
 pub ruleset message-by_name-laws = (start-stands, nexts-stands, messages-none, messages-one, messages-more)
 
 -- ---- enum_in
-module _ (s : List ℕ) (n : Name) (p : LookupScope) (l : Leaf) (x : l ≡ bodied (enum_named s n (holding s p))) where
-  pub enum-in-none : l ≡ leaf.Not → NoEnum MessageNotFound ≡ looked_up_enum (collect (enum_named s n) (holding s p ∷ []))
+module _ (s : List ℕ) (n : Name) (p : LookupScope) (l : Option Span) (x : l ≡ bodied (enum_named s n (holding s p))) where
+  pub enum-in-none : l ≡ None → Err MessageNotFound ≡ looked_up_enum (collect (enum_named s n) (holding s p ∷ []))
   enum-in-none h = rw (enum-not s n p l x h)
 
-  pub enum-in-some : (a e : ℕ) → l ≡ leaf.At a e → Values (span a e) ≡ looked_up_enum (collect (enum_named s n) (holding s p ∷ []))
-  enum-in-some a e h = let f = enum_at s n p l x a e h in ap Values f.body ∙ rw f.is
+  pub enum-in-some : (q : Span) → l ≡ Some q → Ok q ≡ looked_up_enum (collect (enum_named s n) (holding s p ∷ []))
+  enum-in-some q h = let f = enum_at s n p l x q.from q.to h in ap Ok f.body ∙ rw f.is
 
 pub ruleset enum-in-laws = (enum-in-none, enum-in-some)
 
@@ -116,28 +112,28 @@ module _ {B : Type 0} (f : Scope → Option B) where
       go None ih = ih
       go (Some b) ih = ap suc ih
 
-enums-more-than-one : (es : List Enumeration) → 1 < length es → NoEnum MessageFoundMoreThanOnce ≡ looked_up_enum es
+enums-more-than-one : (es : List Enumeration) → 1 < length es → Err MessageFoundMoreThanOnce ≡ looked_up_enum es
 enums-more-than-one [] h = absurd (omega arith)
 enums-more-than-one (e ∷ []) h = absurd (omega arith)
 enums-more-than-one (e ∷ f ∷ es) h = refl
 
-module _ (s t : List ℕ) (n : Name) (c : Cursor) (r : Next) (q : Nexts (passing (declares_enum s n) s t) s t c r) where
+module _ (s t : List ℕ) (n : Name) (c : Cursor) (r : Option Next) (q : Nexts (passing (declares_enum s n) s t) s t c r) where
   enums-kept : collect (enum_named s n) (ahead s t c) ≡ collect (enum_named s n) (passing (declares_enum s n) s t c)
   enums-kept = sym (collect-kept (enum_named s n) (ahead s t c))
 
-  pub enums-none : r ≡ NoMore → NoEnum MessageNotFound ≡ looked_up_enum (collect (enum_named s n) (ahead s t c))
+  pub enums-none : r ≡ None → Err MessageNotFound ≡ looked_up_enum (collect (enum_named s n) (ahead s t c))
   enums-none g = rw (enums-kept, q.none g)
 
-  module _ (p : LookupScope) (c' : Cursor) (g : r ≡ At p c') (r' : Next) (q' : Nexts (passing (declares_enum s n) s t) s t c' r') where
-    pub enums-one : r' ≡ NoMore → (v : LookedUpEnum) → v ≡ looked_up_enum (collect (enum_named s n) (holding s p ∷ []))
+  module _ (m : Next) (g : r ≡ Some m) (r' : Option Next) (q' : Nexts (passing (declares_enum s n) s t) s t m.rest r') where
+    pub enums-one : r' ≡ None → (v : Result Span Refusal) → v ≡ looked_up_enum (collect (enum_named s n) (holding s m.scope ∷ []))
         → v ≡ looked_up_enum (collect (enum_named s n) (ahead s t c))
-    enums-one g' v y = y ∙ rw (enums-kept, (q.some p c' g).is, q'.none g')
+    enums-one g' v y = y ∙ rw (enums-kept, (q.some m g).is, q'.none g')
 
-    pub enums-more : (p' : LookupScope) (c'' : Cursor) → r' ≡ At p' c''
-        → NoEnum MessageFoundMoreThanOnce ≡ looked_up_enum (collect (enum_named s n) (ahead s t c))
-    enums-more p' c'' g' =
+    pub enums-more : (next1 : Next) → r' ≡ Some next1
+        → Err MessageFoundMoreThanOnce ≡ looked_up_enum (collect (enum_named s n) (ahead s t c))
+    enums-more next1 g' =
         enums-more-than-one (collect (enum_named s n) (ahead s t c))
-        (rw (collect-length (enum_named s n) (ahead s t c), (q.some p c' g).is, (q'.some p' c'' g').is) (omega arith))
+        (rw (collect-length (enum_named s n) (ahead s t c), (q.some m g).is, (q'.some next1.scope next1.rest g').is) (omega arith))
 
 pub ruleset only-enum-laws = (nexts-stands, nexts-lies, enums-none, enums-one, enums-more)
 
@@ -148,13 +144,13 @@ enums-some s [] h = absurd (h refl)
 enums-some s (n ∷ p) h = refl
 
 module _ (s t : List ℕ) where
-  pub enums-empty : length t ≡ 0 → NoEnum MessageNotFound ≡ looked_up_enum (enums_at s (components t))
+  pub enums-empty : length t ≡ 0 → Err MessageNotFound ≡ looked_up_enum (enums_at s (components t))
   unfolding enums_at
   enums-empty h = rw (components-nil t h)
 
   pub enums-found : (length t ≡ 0 → ⊥) → (r : ℕ) → LastStarts t r → (b : List ℕ) → b ≡ take (r - 1) t
       → (c : Cursor) → c ≡ start_of (eqb r 0)
-      → (v : LookedUpEnum) → v ≡ looked_up_enum (collect (enum_named s (part t r (length t))) (ahead s b c))
+      → (v : Result Span Refusal) → v ≡ looked_up_enum (collect (enum_named s (part t r (length t))) (ahead s b c))
       → v ≡ looked_up_enum (enums_at s (components t))
   enums-found h r k b q c e v x =
       x ∙ rw (start-before s t r k b q c e, last-text t r k, enums-some s (components t) (components-some t h))

@@ -6,7 +6,7 @@
 --    OneEnum s es p <-> the only one of the enums es has its values at p, a place of s
 --
 -- Assumes nothing.
-use Rattle.std.specs.Prelude.{◌≡◌, refl, List, [], ◌∷◌, ℕ, ◌≤◌, length, Some}
+use Rattle.std.specs.Prelude.{◌≡◌, refl, List, [], ◌∷◌, ℕ, ◌≤◌, length, Some, Ok, Result}
 use Rattle.basis.specs.Kit.{sym, ap, ◌∙◌}
 use Rattle.basis.proofs.Never.{never}
 use Rattle.field.specs.declared.Span.{Span}
@@ -15,10 +15,6 @@ use Rattle.path.specs.Path.{Name, Path, parent, last}
 use Rattle.sheet.specs.Tree.{values_in}
 use Rattle.sheet.specs.Members.{Enumeration}
 use Rattle.scope.specs.declared.lookup.LookupScope.{LookupScope}
-use Rattle.fullname.specs.declared.LookedUp.{LookedUp}
-use Rattle.fullname.specs.declared.LookedUp.TheVariants.{Message}
-use Rattle.fullname.specs.declared.LookedUpEnum.{LookedUpEnum}
-use Rattle.fullname.specs.declared.LookedUpEnum.TheVariants.{Values}
 use Rattle.scope.specs.Scope.{Scope, holding, enum_named}
 use Rattle.scope.specs.inner.Answers.{InSheet}
 use Rattle.fullname.specs.FullName.{message_of, messages_at, enums_at, looked_up, looked_up_enum}
@@ -26,6 +22,7 @@ use Rattle.basis.proofs.FirstLaws.{Every, none_of, one_of, every-collect}
 use Rattle.scope.proofs.Held.{HeldEnum, enum-held, enum-lies-ordered, enum-lies-within}
 use Rattle.scopes.proofs.ScopeFiles.{only-some}
 use Rattle.scopes.proofs.Standing.{Standing, scopes-stand}
+use Rattle.reply.specs.declared.Refusal.{Refusal}
 
 -- ---- a message by full name
 pub record OneScope (s : List ℕ) (cs : List Scope) (p : LookupScope) : Type 0 where
@@ -33,7 +30,7 @@ pub record OneScope (s : List ℕ) (cs : List Scope) (p : LookupScope) : Type 0 
   pub lies : InSheet s p
   pub counted : p.file ≤ length s
 
-one-scope : (s : List ℕ) (cs : List Scope) → Every (Standing s) cs → (p : LookupScope) → Message p ≡ looked_up cs → OneScope s cs p
+one-scope : (s : List ℕ) (cs : List Scope) → Every (Standing s) cs → (p : LookupScope) → Ok p ≡ looked_up cs → OneScope s cs p
 one-scope s [] none_of p q = never cc
 one-scope s (c ∷ d ∷ cs) k p q = never cc
 one-scope s (c ∷ []) (one_of k t) p q =
@@ -48,7 +45,7 @@ module _ (s : List ℕ) (p : Path) where
       (λ c k x q. let u : Some c ≡ Some x = (only-some c.place.message (Some c) x q).1 in let v : x ≡ c = cc in rw v k)
       (scopes-stand s p)
 
-  module _ (r : LookedUp) (q : r ≡ looked_up (messages_at s p)) (x : LookupScope) (g : r ≡ Message x) where
+  module _ (r : Result LookupScope Refusal) (q : r ≡ looked_up (messages_at s p)) (x : LookupScope) (g : r ≡ Ok x) where
     pub looked-up : OneScope s (messages_at s p) x
     looked-up = one-scope s (messages_at s p) messages-stand x (sym g ∙ q)
 
@@ -72,7 +69,7 @@ pub record OneEnum (s : List ℕ) (es : List Enumeration) (p : Span) : Type 0 wh
   pub ordered : p.from ≤ p.to
   pub within : p.to ≤ length s
 
-one-enum : (s : List ℕ) (es : List Enumeration) → Every (HeldEnum s (length s)) es → (p : Span) → Values p ≡ looked_up_enum es
+one-enum : (s : List ℕ) (es : List Enumeration) → Every (HeldEnum s (length s)) es → (p : Span) → Ok p ≡ looked_up_enum es
     → OneEnum s es p
 one-enum s [] none_of p q = never cc
 one-enum s (x ∷ y ∷ es) k p q = never cc
@@ -97,7 +94,7 @@ module _ (s : List ℕ) where
       every-collect (Standing s) (enum_named s (last (n ∷ ns))) (HeldEnum s (length s)) (enum-named-held (last (n ∷ ns)))
       (scopes-stand s (parent (n ∷ ns)))
 
-module _ (s : List ℕ) (p : Path) (r : LookedUpEnum) (q : r ≡ looked_up_enum (enums_at s p)) (x : Span) (g : r ≡ Values x) where
+module _ (s : List ℕ) (p : Path) (r : Result Span Refusal) (q : r ≡ looked_up_enum (enums_at s p)) (x : Span) (g : r ≡ Ok x) where
   pub looked-up-enum : OneEnum s (enums_at s p) x
   looked-up-enum = one-enum s (enums_at s p) (enums-lie s p) x (sym g ∙ q)
 

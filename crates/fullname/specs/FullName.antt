@@ -6,17 +6,16 @@
 --   looked_up, looked_up_enum == the one that there is; of none MessageNotFound, of more than one MessageFoundMoreThanOnce
 --
 -- Assumes nothing.
-use Rattle.std.specs.Prelude.{List, [], ◌∷◌, ℕ, Option, None, Some}
+use Rattle.std.specs.Prelude.{List, [], ◌∷◌, ℕ, Option, None, Some, Err, Ok, Result}
 use Rattle.reply.specs.declared.Refusal.TheVariants.{MessageNotFound, MessageFoundMoreThanOnce}
 use Rattle.path.specs.Path.{Path, parent, last}
 use Rattle.sheet.specs.Members.{Enumeration}
 use Rattle.basis.specs.First.{only_if, collect}
 use Rattle.scope.specs.Scope.{Scope, enum_named}
 use Rattle.scopes.specs.Scopes.{scopes}
-use Rattle.fullname.specs.declared.LookedUp.{LookedUp}
-use Rattle.fullname.specs.declared.LookedUp.TheVariants.{Message, NoMessage}
-use Rattle.fullname.specs.declared.LookedUpEnum.{LookedUpEnum}
-use Rattle.fullname.specs.declared.LookedUpEnum.TheVariants.{Values, NoEnum}
+use Rattle.field.specs.declared.Span.{Span}
+use Rattle.reply.specs.declared.Refusal.{Refusal}
+use Rattle.scope.specs.declared.lookup.LookupScope.{LookupScope}
 
 -- "A message by full name: the scopes at that path that are messages" [LOOKUP-1, LOOKUP-2]
 abbrev pub message_of : Scope → Option Scope
@@ -31,12 +30,12 @@ enums_at s [] = []
 enums_at s (n ∷ ns) = collect (enum_named s (last (n ∷ ns))) (scopes s (parent (n ∷ ns)))
 
 -- "none is 7, more than one 8" [LOOKUP-1]
-abbrev pub looked_up : List Scope → LookedUp
-looked_up [] = NoMessage MessageNotFound
-looked_up (c ∷ []) = Message c.place
-looked_up (c ∷ d ∷ cs) = NoMessage MessageFoundMoreThanOnce
+abbrev pub looked_up : List Scope → Result LookupScope Refusal
+looked_up [] = Err MessageNotFound
+looked_up (c ∷ []) = Ok c.place
+looked_up (c ∷ d ∷ cs) = Err MessageFoundMoreThanOnce
 
-abbrev pub looked_up_enum : List Enumeration → LookedUpEnum
-looked_up_enum [] = NoEnum MessageNotFound
-looked_up_enum (e ∷ []) = Values e.body
-looked_up_enum (e ∷ f ∷ es) = NoEnum MessageFoundMoreThanOnce
+abbrev pub looked_up_enum : List Enumeration → Result Span Refusal
+looked_up_enum [] = Err MessageNotFound
+looked_up_enum (e ∷ []) = Ok e.body
+looked_up_enum (e ∷ f ∷ es) = Err MessageFoundMoreThanOnce

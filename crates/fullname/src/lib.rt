@@ -16,134 +16,119 @@ ghost use Rattle.fullname.specs.FullName.{messages_at, enums_at, looked_up, look
 ghost use Rattle.fullname.specs.inner.Ahead.{passing, is_message, declares_enum};
 
 use cursor::{Cursor, Next, next_scope, start};
-use field::{Field, Leaf, Span};
+use field::{Field, Span};
 use path::protobuf_rel_path::{before, last_at};
 use reply::Refusal;
 use scope::lookup::{LookupScope, enum_named, named_at};
-use sheet::declaration::Valued;
 use sheet::table;
 
-// What looking up a message comes to.
-#[derive(Clone, Copy)]
-pub enum LookedUp {
-    Message(LookupScope),
-    NoMessage(Refusal),
-}
-
-// What looking up an enum comes to: where its values stand.
-#[derive(Clone, Copy)]
-pub enum LookedUpEnum {
-    Values(Span),
-    NoEnum(Refusal),
-}
-
 // The next message among the scopes that are still to come.
-fn next_message(s: &[u8], names: &[u8], cursor: Cursor) -> Next
+fn next_message(s: &[u8], names: &[u8], cursor: Cursor) -> Option<Next>
     requires { Stands s.now names.now cursor }
     ensures { Nexts (passing is_message s.now names.now) s.now names.now cursor result }
 {
     let mut c = cursor;
     loop {
-        let Next::At { scope, rest } = next_scope(s, names, c) else {
-            return Next::NoMore;
+        let Some(Next { scope, rest }) = next_scope(s, names, c) else {
+            return None;
         };
         c = rest;
         if scope.message {
-            return Next::At {
+            return Some(Next {
                 scope: scope,
                 rest: rest,
-            };
+            });
         }
     }
 }
 
 // The message of a full name.
-pub fn find_message_by_abs_name(s: &[u8], path: &[u8]) -> LookedUp
+pub fn find_message_by_abs_name(s: &[u8], path: &[u8]) -> Result<LookupScope, Refusal>
     ensures { result ≡ looked_up (messages_at s.now (components path.now)) }
 {
-    let Next::At { scope, rest } = next_message(s, path, start(path.len() == 0)) else {
-        return LookedUp::NoMessage(Refusal::MessageNotFound);
+    let Some(Next { scope, rest }) = next_message(s, path, start(path.len() == 0)) else {
+        return Err(Refusal::MessageNotFound);
     };
-    if let Next::At { scope: _, rest: _ } = next_message(s, path, rest) {
-        return LookedUp::NoMessage(Refusal::MessageFoundMoreThanOnce);
+    if let Some(Next { scope: _, rest: _ }) = next_message(s, path, rest) {
+        return Err(Refusal::MessageFoundMoreThanOnce);
     }
-    LookedUp::Message(scope)
+    Ok(scope)
 }
 
 // The next of the scopes that are still to come that declares an enum of that name.
-fn next_enum(s: &[u8], names: &[u8], cursor: Cursor, name: &[u8]) -> Next
+fn next_enum(s: &[u8], names: &[u8], cursor: Cursor, name: &[u8]) -> Option<Next>
     requires { Stands s.now names.now cursor }
     ensures { Nexts (passing (declares_enum s.now name.now) s.now names.now)
         s.now names.now cursor result }
 {
     let mut c = cursor;
     loop {
-        let Next::At { scope, rest } = next_scope(s, names, c) else {
-            return Next::NoMore;
+        let Some(Next { scope, rest }) = next_scope(s, names, c) else {
+            return None;
         };
         c = rest;
-        if let Leaf::At { from: _, to: _ } = enum_named(s, scope, name) {
-            return Next::At {
+        if let Some(Span { from: _, to: _ }) = enum_named(s, scope, name) {
+            return Some(Next {
                 scope: scope,
                 rest: rest,
-            };
+            });
         }
     }
 }
 
 // The enum of that name in one scope.
-fn enum_in(s: &[u8], scope: LookupScope, name: &[u8]) -> LookedUpEnum
+fn enum_in(s: &[u8], scope: LookupScope, name: &[u8]) -> Result<Span, Refusal>
     requires { InSheet s.now scope }
     ensures { result ≡ looked_up_enum (collect (enum_named s.now name.now) (holding s.now scope ∷ [])) }
 {
-    let Leaf::At { from, to } = enum_named(s, scope, name) else {
-        return LookedUpEnum::NoEnum(Refusal::MessageNotFound);
+    let Some(Span { from, to }) = enum_named(s, scope, name) else {
+        return Err(Refusal::MessageNotFound);
     };
-    LookedUpEnum::Values(Span { from: from, to: to })
+    Ok(Span { from: from, to: to })
 }
 
 // The one enum of that name in the scopes that are still to come.
-fn only_enum(s: &[u8], names: &[u8], cursor: Cursor, name: &[u8]) -> LookedUpEnum
+fn only_enum(s: &[u8], names: &[u8], cursor: Cursor, name: &[u8]) -> Result<Span, Refusal>
     requires { Stands s.now names.now cursor }
     ensures { result ≡ looked_up_enum (collect (enum_named s.now name.now)
         (ahead s.now names.now cursor)) }
 {
-    let Next::At { scope, rest } = next_enum(s, names, cursor, name) else {
-        return LookedUpEnum::NoEnum(Refusal::MessageNotFound);
+    let Some(Next { scope, rest }) = next_enum(s, names, cursor, name) else {
+        return Err(Refusal::MessageNotFound);
     };
-    if let Next::At { scope: _, rest: _ } = next_enum(s, names, rest, name) {
-        return LookedUpEnum::NoEnum(Refusal::MessageFoundMoreThanOnce);
+    if let Some(Next { scope: _, rest: _ }) = next_enum(s, names, rest, name) {
+        return Err(Refusal::MessageFoundMoreThanOnce);
     }
     enum_in(s, scope, name)
 }
 
 // The enum of a full name.
-pub fn find_enum_by_abs_name(s: &[u8], path: &[u8]) -> LookedUpEnum
+pub fn find_enum_by_abs_name(s: &[u8], path: &[u8]) -> Result<Span, Refusal>
     ensures { result ≡ looked_up_enum (enums_at s.now (components path.now)) }
 {
     if path.len() == 0 {
-        return LookedUpEnum::NoEnum(Refusal::MessageNotFound);
+        return Err(Refusal::MessageNotFound);
     }
     let last = last_at(path);
     only_enum(s, before(path, last), start(last == 0), &path[last..])
 }
 
 // The value that a field of an enum is, where it is of this name.
-fn value_named_at(s: &[u8], tag: u8, from: usize, to: usize, name: &[u8]) -> Valued
+fn value_named_at(s: &[u8], tag: u8, from: usize, to: usize, name: &[u8]) -> Option<Value>
     requires { (from ≤ to) × (to ≤ length s.now) }
     ensures { result ≡ value_named_at name.now s.now tag from to }
 {
     if tag != table::VALUE {
-        return Valued::NoValue;
+        return None;
     }
-    let Leaf::At { from: _, to: _ } = named_at(s, from, to, name) else {
-        return Valued::NoValue;
+    let Some(Span { from: _, to: _ }) = named_at(s, from, to, name) else {
+        return None;
     };
     sheet::declaration::value_at(s, from, to)
 }
 
 // The first value of that name among those of an enum.
-pub fn value_named(s: &[u8], values: Span, name: &[u8]) -> Valued
+pub fn value_named(s: &[u8], values: Span, name: &[u8]) -> Option<Value>
     requires { Lies values s.now }
     ensures { result ≡ valued (value_named s.now name.now
         (values_in s.now (walk s.now values.from values.to))) }
@@ -151,13 +136,13 @@ pub fn value_named(s: &[u8], values: Span, name: &[u8]) -> Valued
     let end = values.to;
     let mut at = values.from;
     while at < end {
-        let Field::Whole { tag, from, to } = field::field_at(s, at, end) else {
-            return Valued::NoValue;
+        let Some(Field { tag, from, to }) = field::field_at(s, at, end) else {
+            return None;
         };
-        if let Valued::Values(v) = value_named_at(s, tag, from, to, name) {
-            return Valued::Values(v);
+        if let Some(v) = value_named_at(s, tag, from, to, name) {
+            return Some(v);
         }
         at = to;
     }
-    Valued::NoValue
+    None
 }

@@ -2,7 +2,7 @@
 ghost use Rattle.std.specs.Prelude.{◌≡◌, ◌≤◌, length};
 ghost use Rattle.inputs.specs.inner.Due.{due_at, due_leaf};
 
-use field::{Field, Leaf};
+use field::{Field, Span};
 
 // What stands where a field of one tag is due.
 #[derive(Clone, Copy)]
@@ -24,11 +24,11 @@ pub fn due_at(s: &[u8], at: usize, tag: u8) -> Due
     if at == s.len() {
         return Due::Ended;
     }
-    let Field::Whole {
+    let Some(Field {
         tag: found,
         from,
         to,
-    } = field::field_at(s, at, s.len())
+    }) = field::field_at(s, at, s.len())
     else {
         return Due::CutShort;
     };
@@ -39,13 +39,13 @@ pub fn due_at(s: &[u8], at: usize, tag: u8) -> Due
 }
 
 // The field that was due, where it is there.
-pub fn due_leaf(due: Due) -> Leaf
+pub fn due_leaf(due: Due) -> Option<Span>
     ensures { result ≡ due_leaf due }
 {
     match due {
-        Due::Here { from, to } => Leaf::At { from: from, to: to },
-        Due::Other(_) => Leaf::Not,
-        Due::CutShort => Leaf::Not,
-        Due::Ended => Leaf::Not,
+        Due::Here { from, to } => Some(Span { from: from, to: to }),
+        Due::Other(_) => None,
+        Due::CutShort => None,
+        Due::Ended => None,
     }
 }

@@ -1,7 +1,7 @@
 -- What is answered of a verdict in a room is what a public call's contract asks: the ways through `answer_in`, and the answers of whoever
 -- writes only where there is room.
 -- Assumes nothing.
-use Rattle.std.specs.Prelude.{◌≡◌, refl, Bool, true, false, List, ◌++◌, ℕ, ◌≤◌, ◌<◌, ltb, length, take, drop}
+use Rattle.std.specs.Prelude.{◌≡◌, refl, Bool, true, false, List, ◌++◌, ℕ, ◌≤◌, ◌<◌, ltb, length, take, drop, Err, None, Some, Ok, Option, Result}
 use Rattle.basis.specs.Kit.{sym, ap, ◌∙◌, sets}
 use Rattle.basis.proofs.Kit.{arith, lt-ltb, le-ltb}
 use mathlib.Core.List.{append-nil}
@@ -16,21 +16,19 @@ use Rattle.reply.specs.Outcome.{Outcome, refuse, give, within, answer_of, left_o
 use Rattle.reply.proofs.Outcomes.{answered-no-room, answered-done}
 use Rattle.octets.proofs.Overlay.{sets-out}
 use Rattle.emit.proofs.WriteLaws.{sets-front}
-use Rattle.judged.specs.declared.Judged.{Judged}
-use Rattle.judged.specs.declared.Judged.TheVariants.{Fine, Absent, Refused}
 use Rattle.judged.specs.inner.Answering.{Judges, fine, absent, refuses, answer_in}
 
 -- ---- answer_in
-module _ (room : ℕ) (v : Judged) (a : Answer) where
-  pub answer-absent : v ≡ Absent → a ≡ absent_answer → a ≡ answer_in room v
+module _ (room : ℕ) (v : Result (Option ℕ) Cause) (a : Answer) where
+  pub answer-absent : v ≡ Ok None → a ≡ absent_answer → a ≡ answer_in room v
   unfolding answer_in
   answer-absent g e = rw g e
 
-  pub answer-refused : (w : Cause) → v ≡ Refused w → a ≡ refused_for w → a ≡ answer_in room v
+  pub answer-refused : (w : Cause) → v ≡ Err w → a ≡ refused_for w → a ≡ answer_in room v
   unfolding answer_in
   answer-refused w g e = rw g e
 
-  module _ (n : ℕ) (g : v ≡ Fine n) where
+  module _ (n : ℕ) (g : v ≡ Ok (Some n)) where
     pub answer-no-room : room < n → a ≡ refused_by NoRoom → a ≡ answer_in room v
     unfolding answer_in
     answer-no-room h e = rw g (simp (answer_in, lt-ltb _ _ h) e)
@@ -42,7 +40,7 @@ module _ (room : ℕ) (v : Judged) (a : Answer) where
 pub ruleset answer_laws = (answer-absent, answer-refused, answer-no-room, answer-done)
 
 -- ---- whatever the outcome is on which this is the verdict, the answer is its own
-pub answer-in : {o : Outcome ℕ} {v : Judged} → Judges o v → (room : ℕ) → answer_in room v ≡ answer_of (within room o)
+pub answer-in : {o : Outcome ℕ} {v : Result (Option ℕ) Cause} → Judges o v → (room : ℕ) → answer_in room v ≡ answer_of (within room o)
 unfolding answer_in
 answer-in (fine bytes) room = go (ltb room (length bytes))
   where
@@ -55,28 +53,28 @@ answer-in (refuses e) room = refl
 
 -- ---- the contract of a public call: what is not given has nothing written, and of the bytes there is as much room as the answer says
 module _ {o : Outcome ℕ} {before : List ℕ} (a : Answer) where
-  pub judged-absent : Judges o Absent → a ≡ answer_in (length before) Absent → Answered o before before a
+  pub judged-absent : Judges o (Ok None) → a ≡ answer_in (length before) (Ok None) → Answered o before before a
   judged-absent k e = record { answer = e ∙ answer-in k (length before); left = go k refl }
     where
-      go : {p : Outcome ℕ} {v : Judged} → Judges p v → v ≡ Absent → before ≡ left_of (within (length before) p) before
+      go : {p : Outcome ℕ} {v : Result (Option ℕ) Cause} → Judges p v → v ≡ Ok None → before ≡ left_of (within (length before) p) before
       go absent g = refl
       go (fine bytes) g = never cc
       go (refuses w) g = never cc
 
-  pub judged-refused : (w : Cause) → Judges o (Refused w) → a ≡ answer_in (length before) (Refused w) → Answered o before before a
+  pub judged-refused : (w : Cause) → Judges o (Err w) → a ≡ answer_in (length before) (Err w) → Answered o before before a
   judged-refused w k e = record { answer = e ∙ answer-in k (length before); left = go k refl }
     where
-      go : {p : Outcome ℕ} {v : Judged} → Judges p v → v ≡ Refused w → before ≡ left_of (within (length before) p) before
+      go : {p : Outcome ℕ} {v : Result (Option ℕ) Cause} → Judges p v → v ≡ Err w → before ≡ left_of (within (length before) p) before
       go absent g = never cc
       go (fine bytes) g = never cc
       go (refuses w) g = refl
 
-module _ (a : Answer) (room n : ℕ) (e : a ≡ answer_in room (Fine n)) where
+module _ (a : Answer) (room n : ℕ) (e : a ≡ answer_in room (Ok (Some n))) where
   no-room-is : room < n → a ≡ refused_by NoRoom
-  no-room-is h = e ∙ sym (answer-no-room room (Fine n) (refused_by NoRoom) n refl h refl)
+  no-room-is h = e ∙ sym (answer-no-room room (Ok (Some n)) (refused_by NoRoom) n refl h refl)
 
   done-is : n ≤ room → a ≡ done_with n
-  done-is h = e ∙ sym (answer-done room (Fine n) (done_with n) n refl h refl)
+  done-is h = e ∙ sym (answer-done room (Ok (Some n)) (done_with n) n refl h refl)
 
   no-room-length : room < n → a.length ≡ 0
   no-room-length h = ap (λ (y : Answer). y.length) (no-room-is h)
@@ -92,7 +90,7 @@ module _ (a : Answer) (room n : ℕ) (e : a ≡ answer_in room (Fine n)) where
 
 module _
     (o : Outcome ℕ) (before bytes : List ℕ) (g : o ≡ give bytes) (n : ℕ) (k : n ≡ length bytes)
-    (a : Answer) (e : a ≡ answer_in (length before) (Fine n)) (z : List ℕ) where
+    (a : Answer) (e : a ≡ answer_in (length before) (Ok (Some n))) (z : List ℕ) where
   pub judged-written : z ≡ sets (take a.length before) 0 bytes → Answered o before (z ++ drop a.length before) a
   judged-written w = elim (dec_lt (length before) n) [
     | yes h ↦

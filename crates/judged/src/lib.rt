@@ -7,23 +7,15 @@ ghost use Rattle.judged.specs.inner.Answering.{answer_in};
 
 use reply::{Answer, Cause, Refusal};
 
-// The verdict: so many bytes, Absent, or why the request is refused, and where.
-#[derive(Clone, Copy)]
-pub enum Judged {
-    Fine(u32),
-    Absent,
-    Refused(Cause),
-}
-
 // What is answered of a verdict where there is room for so many bytes.
 #[tactic(auto, using(crate::proofs::JudgedLaws::answer_laws), unfolding(crate::specs::inner::Answering::answer_in))]
-pub fn answer_in(room: usize, judged: Judged) -> Answer
+pub fn answer_in(room: usize, judged: Result<Option<u32>, Cause>) -> Answer
     ensures { result ≡ answer_in room judged }
 {
     match judged {
-        Judged::Absent => reply::absent(),
-        Judged::Refused(cause) => reply::refused_for(cause),
-        Judged::Fine(length) => {
+        Ok(None) => reply::absent(),
+        Err(cause) => reply::refused_for(cause),
+        Ok(Some(length)) => {
             if room < length as usize {
                 return reply::refused(Refusal::NoRoom);
             }

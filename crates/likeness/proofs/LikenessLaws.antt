@@ -1,13 +1,11 @@
 -- The ways through the functions that tell whether a declaration is like another one.
 -- Assumes nothing.
-use Rattle.std.specs.Prelude.{◌≡◌, refl, Bool, true, false, ◌&&◌, List, ℕ, eqb}
+use Rattle.std.specs.Prelude.{◌≡◌, refl, Bool, true, false, ◌&&◌, List, ℕ, eqb, Some, None, Option}
 use Rattle.basis.specs.First.{only_if}
 use Rattle.basis.proofs.Kit.{eq-eqb, ne_eqb, not-true, not-false}
 use Rattle.octets.specs.Octets.{same_bytes}
 use Rattle.field.specs.Leaf.{text}
 use Rattle.sheet.specs.declared.declaration.Declaration.{Declaration}
-use Rattle.sheet.specs.declared.declaration.Declared.{Declared}
-use Rattle.sheet.specs.declared.declaration.Declared.TheVariants.{Declares, NoDeclaration}
 use Rattle.sheet.proofs.PlaceLaws.{extension-places-laws, field-places-laws}
 use Rattle.scope.specs.Scope.{extends}
 use Rattle.likeness.specs.declared.Like.{Like}
@@ -54,31 +52,31 @@ module _ (l : Like) (o s : List ℕ) (d : Declaration) where
 pub ruleset is-like-laws = (like-number-other, like-number, like-whole, not-true, not-false)
 
 -- ---- in_field
-module _ (l : Like) (o s : List ℕ) (w : Way) (u : Declared) where
+module _ (l : Like) (o s : List ℕ) (w : Way) (u : Option Declaration) where
   pub field-within : (at : ℕ) → w ≡ Within at → 0 ≡ declared_likes (field_likes l o s w) u
   unfolding field_likes
   field-within at h = rw h (go u)
     where
-      go : (u : Declared) → 0 ≡ declared_likes (field_likes l o s (Within at)) u
-      go NoDeclaration = refl
-      go (Declares d) = refl
+      go : (u : Option Declaration) → 0 ≡ declared_likes (field_likes l o s (Within at)) u
+      go None = refl
+      go (Some d) = refl
 
   pub field_off : w ≡ Off → 0 ≡ declared_likes (field_likes l o s w) u
   unfolding field_likes
   field_off h = rw h (go u)
     where
-      go : (u : Declared) → 0 ≡ declared_likes (field_likes l o s Off) u
-      go NoDeclaration = refl
-      go (Declares d) = refl
+      go : (u : Option Declaration) → 0 ≡ declared_likes (field_likes l o s Off) u
+      go None = refl
+      go (Some d) = refl
 
-module _ (f : Declaration → ℕ) (u r : Declared) (q : r ≡ u) where
-  pub likes-none : r ≡ NoDeclaration → 0 ≡ declared_likes f u
+module _ (f : Declaration → ℕ) (u r : Option Declaration) (q : r ≡ u) where
+  pub likes-none : r ≡ None → 0 ≡ declared_likes f u
   likes-none g = rw (← q, g)
 
-  likes-some : (d : Declaration) → r ≡ Declares d → (n : ℕ) → n ≡ f d → n ≡ declared_likes f u
+  likes-some : (d : Declaration) → r ≡ Some d → (n : ℕ) → n ≡ f d → n ≡ declared_likes f u
   likes-some d g n p = rw (← q, g) p
 
-module _ (l : Like) (o s : List ℕ) (w : Way) (h : w ≡ Own) (u r : Declared) (q : r ≡ u) (d : Declaration) (g : r ≡ Declares d)
+module _ (l : Like) (o s : List ℕ) (w : Way) (h : w ≡ Own) (u r : Option Declaration) (q : r ≡ u) (d : Declaration) (g : r ≡ Some d)
     (b : Bool) (p : b ≡ is_like l o s d) where
   pub field-like : b ≡ true → 1 ≡ declared_likes (field_likes l o s w) u
   unfolding field_likes
@@ -91,7 +89,7 @@ module _ (l : Like) (o s : List ℕ) (w : Way) (h : w ≡ Own) (u r : Declared) 
 pub ruleset in-field-laws = (field-within, field_off, likes-none, field-like, field-unlike, field-places-laws)
 
 -- ---- in_extension
-module _ (m : List ℕ) (l : Like) (o s : List ℕ) (u r : Declared) (q : r ≡ u) (d : Declaration) (g : r ≡ Declares d) (c : Bool)
+module _ (m : List ℕ) (l : Like) (o s : List ℕ) (u r : Option Declaration) (q : r ≡ u) (d : Declaration) (g : r ≡ Some d) (c : Bool)
     (k : c ≡ extends s m d) where
   pub extension-other : c ≡ false → 0 ≡ declared_likes (extension_likes m l o s) u
   unfolding extension_likes

@@ -10,7 +10,7 @@ ghost use Rattle.likeness.specs.inner.Likes.{Placed, is_like, extension_likes, f
 use field::Span;
 use named::extends;
 use octets::same;
-use sheet::declaration::{Declaration, Declared, extension_at, message_field_at};
+use sheet::declaration::{Declaration, extension_at, message_field_at};
 
 // A declaration of another sheet, or of the same, and whether one that is like it has to have its type, name and type path besides its
 // number.
@@ -88,7 +88,7 @@ pub fn in_field(s: &[u8], item: Span, way: Way, o: &[u8], like: Like) -> usize
         Way::Within(_) => return 0,
         Way::Off => return 0,
     }
-    let Declared::Declares(d) = message_field_at(s, item.from, item.to) else {
+    let Some(d) = message_field_at(s, item.from, item.to) else {
         return 0;
     };
     if is_like(s, d, o, like) { 1 } else { 0 }
@@ -101,7 +101,7 @@ pub fn in_extension(s: &[u8], item: Span, message: &[u8], o: &[u8], like: Like) 
     ensures { (result ≡ declared_likes (extension_likes message.now like o.now s.now)
         (extension_at s.now item.from item.to)) × (result ≤ 1) }
 {
-    let Declared::Declares(d) = extension_at(s, item.from, item.to) else {
+    let Some(d) = extension_at(s, item.from, item.to) else {
         return 0;
     };
     if extends(s, message, d) {

@@ -1,14 +1,12 @@
 -- The laws of `options_message`, `list_tested` and `list`: the first fault of the inputs, the message that the options type is, and that
 -- the words of its rows are the listing; and that of a sheet of the right form the whole test says no more than its length's.
 -- Assumes nothing.
-use Rattle.std.specs.Prelude.{◌≡◌, refl, List, ℕ, ◌≤◌, length}
+use Rattle.std.specs.Prelude.{◌≡◌, refl, List, ℕ, ◌≤◌, length, Err, Ok, Result}
 use Rattle.basis.specs.Kit.{sym, ap, ◌∙◌}
 use borrow.Author.Tests.{leb-true}
 use Rattle.limits.specs.Figures.{most_option_bytes, most_levels}
 use Rattle.reply.specs.declared.Refusal.{Refusal}
 use Rattle.reply.specs.declared.Refusal.TheVariants.{BeyondLimit}
-use Rattle.reply.specs.declared.Verdict.{Verdict}
-use Rattle.reply.specs.declared.Verdict.TheVariants.{Fine, Refused}
 use Rattle.reply.specs.declared.Answer.{Answer}
 use Rattle.reply.specs.Reply.{bare, refused_by as refused_answer}
 use Rattle.reply.specs.Outcome.{refuse, unless, Answered}
@@ -19,8 +17,6 @@ use Rattle.sheetform.proofs.SheetLaws.{sheet-length}
 use Rattle.requestform.specs.Form.{judge_options_type}
 use Rattle.scope.specs.declared.lookup.LookupScope.{LookupScope}
 use Rattle.scope.specs.inner.Answers.{InSheet}
-use Rattle.fullname.specs.declared.LookedUp.{LookedUp}
-use Rattle.fullname.specs.declared.LookedUp.TheVariants.{Message as Found, NoMessage}
 use Rattle.lookups.specs.Lookups.{Message, walking}
 use Rattle.lookups.proofs.LookupLaws.{message-lies}
 use Rattle.lookups.proofs.AdmitLaws.{Admits, admits, admits-none}
@@ -31,24 +27,25 @@ use Rattle.levels.specs.inner.Left.{flat}
 use Rattle.listing.specs.Listing.{judge_inputs, listed, listing_by, listing, listing_tested}
 use Rattle.listing.specs.inner.Worded.{worded}
 use Rattle.listing.specs.inner.Admitted.{admitted}
+use Rattle.reply.specs.Verdicts.{Verdict}
 
 -- ---- options_message
 module _ (s type bs : List ℕ) (u : Verdict) (x : u ≡ judge_length s) where
-  pub message-long : (w : Refusal) → u ≡ Refused w → NoMessage w ≡ admitted (judge_length s) s type bs
+  pub message-long : (w : Refusal) → u ≡ Err w → Err w ≡ admitted (judge_length s) s type bs
   unfolding admitted judge_inputs
   message-long w h = rw (← x, h)
 
-  module _ (h : u ≡ Fine) (v : Verdict) (q : v ≡ judge_options_type type) where
-    pub message-bad-type : (w : Refusal) → v ≡ Refused w → NoMessage w ≡ admitted (judge_length s) s type bs
+  module _ (h : u ≡ Ok tt) (v : Verdict) (q : v ≡ judge_options_type type) where
+    pub message-bad-type : (w : Refusal) → v ≡ Err w → Err w ≡ admitted (judge_length s) s type bs
     unfolding admitted judge_inputs
     message-bad-type w g = rw (← x, h, ← q, g)
 
-    module _ (g : v ≡ Fine) (v' : Verdict) (q' : v' ≡ judge_bytes bs) where
-      pub message-long-bytes : (w : Refusal) → v' ≡ Refused w → NoMessage w ≡ admitted (judge_length s) s type bs
+    module _ (g : v ≡ Ok tt) (v' : Verdict) (q' : v' ≡ judge_bytes bs) where
+      pub message-long-bytes : (w : Refusal) → v' ≡ Err w → Err w ≡ admitted (judge_length s) s type bs
       unfolding admitted judge_inputs
       message-long-bytes w g' = rw (← x, h, ← q, g, ← q', g')
 
-      pub message-is : v' ≡ Fine → (r : LookedUp) → r ≡ (walking s).message type → r ≡ admitted (judge_length s) s type bs
+      pub message-is : v' ≡ Ok tt → (r : Result LookupScope Refusal) → r ≡ (walking s).message type → r ≡ admitted (judge_length s) s type bs
       unfolding admitted judge_inputs
       message-is g' r y = rw (← x, h, ← q, g, ← q', g') y
 
@@ -60,7 +57,7 @@ within-worded m (read t) = refl
 within-worded m (unread w) = refl
 
 module _ (v : Verdict) (s type bs : List ℕ) where
-  listing-rows : (p : LookupScope) → admitted v s type bs ≡ Found p
+  listing-rows : (p : LookupScope) → admitted v s type bs ≡ Ok p
       → listing_by v s type bs ≡ worded (flat 0 (reading (walking s) s most_levels (message type p) 0 bs))
   unfolding listing_by records_of admitted
   listing-rows p h =
@@ -69,17 +66,17 @@ module _ (v : Verdict) (s type bs : List ℕ) where
       ∙ ap (λ u. listed (on_type (walking s) s type bs u)) k.is
       ∙ within-worded (message type p) (reading (walking s) s most_levels (message type p) 0 bs)
 
-  listing_none : (w : Refusal) → admitted v s type bs ≡ NoMessage w → listing_by v s type bs ≡ refuse w
+  listing_none : (w : Refusal) → admitted v s type bs ≡ Err w → listing_by v s type bs ≡ refuse w
   unfolding listing_by records_of admitted
   listing_none w h = admits-none s type (judge_inputs v type bs) w h (λ u. listed (on_type (walking s) s type bs u)) (λ x. refl)
 
 -- ---- list_tested
-module _ (s type bs : List ℕ) (r : LookedUp) (q : r ≡ admitted (judge_length s) s type bs) where
-  pub tested-refused : (w : Refusal) → r ≡ NoMessage w → (l : List ℕ) (a : Answer) → a ≡ refused_answer w
+module _ (s type bs : List ℕ) (r : Result LookupScope Refusal) (q : r ≡ admitted (judge_length s) s type bs) where
+  pub tested-refused : (w : Refusal) → r ≡ Err w → (l : List ℕ) (a : Answer) → a ≡ refused_answer w
       → Answered (listing_tested s type bs) l l a
   tested-refused w g l a e = rw e (answered-refused _ l (bare w) (listing_none (judge_length s) s type bs w (sym q ∙ g)))
 
-  module _ (p : LookupScope) (g : r ≡ Found p) where
+  module _ (p : LookupScope) (g : r ≡ Ok p) where
     admitting : Admits (judge_inputs (judge_length s) type bs) s type p
     unfolding admitted
     admitting = admits s type (judge_inputs (judge_length s) type bs) p (sym q ∙ g)
@@ -101,15 +98,15 @@ module _ (s type bs : List ℕ) (r : LookedUp) (q : r ≡ admitted (judge_length
 pub ruleset list-tested-laws = (tested-refused, tested-inside, tested-short, tested-listed)
 
 -- ---- `list` answers as `list_tested` does, of every sheet whose form is fine
-pub list-tested : (s type bs : List ℕ) → judge_sheet s ≡ Fine → listing s type bs ≡ listing_tested s type bs
+pub list-tested : (s type bs : List ℕ) → judge_sheet s ≡ Ok tt → listing s type bs ≡ listing_tested s type bs
 list-tested s type bs h = ap (λ v. listing_by v s type bs) (h ∙ sym (sheet-length s h))
 
 module _ (s type bs : List ℕ) (v : Verdict) (q : v ≡ judge_sheet s) (l : List ℕ) (a : Answer) where
-  pub list-refused : (w : Refusal) → v ≡ Refused w → a ≡ refused_answer w → Answered (listing s type bs) l l a
+  pub list-refused : (w : Refusal) → v ≡ Err w → a ≡ refused_answer w → Answered (listing s type bs) l l a
   unfolding listing_by judge_inputs
   list-refused w g e = rw e (answered-refused _ l (bare w) (rw (← q, g)))
 
-  pub list-listed : v ≡ Fine → (l' : List ℕ) → Answered (listing_tested s type bs) l l' a → Answered (listing s type bs) l l' a
+  pub list-listed : v ≡ Ok tt → (l' : List ℕ) → Answered (listing_tested s type bs) l l' a → Answered (listing s type bs) l l' a
   list-listed g l' h = rw (list-tested s type bs (sym q ∙ g)) h
 
 pub ruleset list-laws = (list-refused, list-listed)

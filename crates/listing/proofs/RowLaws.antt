@@ -1,14 +1,12 @@
 -- Rows as words: the loop of `put_rows`.
 -- Assumes nothing.
-use Rattle.std.specs.Prelude.{◌≡◌, refl, List, [], ◌∷◌, ℕ, ◌+◌, ◌*◌, ◌^◌, ◌≤◌, ◌<◌, length}
+use Rattle.std.specs.Prelude.{◌≡◌, refl, List, [], ◌∷◌, ℕ, ◌+◌, ◌*◌, ◌^◌, ◌≤◌, ◌<◌, length, Err, Ok, Result}
 use Rattle.basis.specs.Kit.{sym, ap, ◌∙◌, sets}
 use Rattle.basis.proofs.Kit.{arith}
 use Rattle.reply.specs.declared.Refusal.{Refusal}
 use Rattle.reply.specs.declared.Cause.{Cause}
 use Rattle.reply.specs.Reply.{bare}
 use Rattle.reply.specs.Outcome.{Outcome, refused, nothing, give, push}
-use Rattle.emit.specs.declared.Put.{Put}
-use Rattle.emit.specs.declared.Put.TheVariants.{Wrote, Refused}
 use Rattle.emit.specs.inner.Puts.{Puts}
 use Rattle.emit.proofs.WriteLaws.{Front, front-start, front-put, front_length, front-refused, front-done}
 use Rattle.limits.specs.Figures.{most_option_bytes, most_levels}
@@ -43,7 +41,7 @@ module _ (p : LookupScope) (bs st : List ℕ) (c : Cursor) (k : Starts p bs st c
       → Rowing s type bs (left (walking s) s type bs st c.depth c.at) st c l l 0
   rowing_start y h = record { opens = start-open p bs st c k s y h; few = omega arith; laid = front-start _ 0 l }
 
-  pub rowing-all : (l' : List ℕ) (r : Put) → Puts (worded (left (walking s) s type bs st c.depth c.at)) 0 l l' r
+  pub rowing-all : (l' : List ℕ) (r : Result ℕ Cause) → Puts (worded (left (walking s) s type bs st c.depth c.at)) 0 l l' r
       → Puts (worded (flat 0 (reading (walking s) s most_levels (message type p) 0 bs))) 0 l l' r
   rowing-all l' r h = rw (← (start_left p bs st c k (walking s) s type)) h
 
@@ -55,7 +53,7 @@ module _ (s type bs : List ℕ) (whole : Outcome Row) (st : List ℕ) (c : Curso
   pub rowing-fits : n < 2 ^ 63
   rowing-fits = omega (arith, u.few, u.opens.inside, u.opens.short)
 
-  pub rowing-few : WroteAtMost (8 * length bs) (Wrote n)
+  pub rowing-few : WroteAtMost (8 * length bs) (Ok n)
   unfolding WroteAtMost
   rowing-few = omega (arith, u.few, u.opens.inside)
 
@@ -64,10 +62,10 @@ module _ (s type bs : List ℕ) (whole : Outcome Row) (st : List ℕ) (c : Curso
 
   module _ (st' : List ℕ) (r : Event)
       (k : Moves s type bs (left (walking s) s type bs st c.depth c.at) c.at st' r) where
-    pub rowing-end : r ≡ End → Puts (worded whole) 0 l m (Wrote n)
+    pub rowing-end : r ≡ End → Puts (worded whole) 0 l m (Ok n)
     rowing-end g = front-done _ _ 0 l m n u.laid (ap worded (moved-end s type bs _ c.at st' r k g))
 
-    pub rowing-wrong : (w : Refusal) → r ≡ Wrong w → (x : Cause) → x ≡ bare w → Puts (worded whole) 0 l m (Refused x)
+    pub rowing-wrong : (w : Refusal) → r ≡ Wrong w → (x : Cause) → x ≡ bare w → Puts (worded whole) 0 l m (Err x)
     rowing-wrong w g x e =
         front-refused _ _ 0 l m n u.laid x (ap worded (moved-wrong s type bs _ c.at st' r k w g) ∙ ap refused (sym e))
 
@@ -83,7 +81,7 @@ module _ (s type bs : List ℕ) (whole : Outcome Row) (st : List ℕ) (c : Curso
             laid = rw i (front-put _ _ 0 l m n u.laid (words x) (worded after) l' row e);
           }
 
-pub refused-few : (most : ℕ) (c : Cause) → WroteAtMost most (Refused c)
+pub refused-few : (most : ℕ) (c : Cause) → WroteAtMost most (Err c)
 unfolding WroteAtMost
 refused-few most c = tt
 

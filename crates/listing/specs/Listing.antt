@@ -9,8 +9,7 @@
 --
 -- Assumes nothing.
 use Rattle.std.specs.Prelude.{List, ℕ}
-use Rattle.reply.specs.declared.Verdict.{Verdict}
-use Rattle.reply.specs.Verdicts.{first_fault}
+use Rattle.reply.specs.Verdicts.{first_fault, Verdict}
 use Rattle.reply.specs.Outcome.{Outcome, refuse, unless, give}
 use Rattle.sheetform.specs.Form.{judge_length, judge_sheet}
 use Rattle.requestform.specs.Form.{judge_options_type}

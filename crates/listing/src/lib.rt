@@ -17,11 +17,9 @@ ghost use Rattle.listing.specs.Listing.{listing_tested, listing};
 ghost use Rattle.listing.specs.inner.Worded.{worded, WroteAtMost};
 ghost use Rattle.listing.specs.inner.Admitted.{counted, admitted};
 
-use emit::Put;
-use fullname::LookedUp;
 use levels::{Event, STACK_WORDS, next, start};
 use payload::check_bytes;
-use reply::{Answer, Refusal, Verdict};
+use reply::{Answer, Refusal};
 use requestform::check_options_type;
 use rows::put_row;
 use scope::lookup::LookupScope;
@@ -34,7 +32,7 @@ fn put_rows(
     bytes: &[u8],
     stack: &mut [usize],
     out: &mut [u32],
-) -> Put
+) -> Result<usize, Cause>
     requires in_sheet { InSheet sheet.now place }
     requires bytes_len_bound { length bytes.now ≤ most_option_bytes }
     requires stack_len { length stack.old ≡ stack_words }
@@ -46,8 +44,8 @@ fn put_rows(
     let mut n = 0;
     loop {
         match next(sheet, options_type, bytes, stack, cursor) {
-            Event::End => return Put::Wrote(n),
-            Event::Wrong(why) => return Put::Refused(reply::bare(why)),
+            Event::End => return Ok(n),
+            Event::Wrong(why) => return Err(reply::bare(why)),
             Event::Record { row, rest } => {
                 n = put_row(out, n, row);
                 cursor = rest;
@@ -63,7 +61,7 @@ fn count_words(
     place: LookupScope,
     bytes: &[u8],
     stack: &mut [usize],
-) -> Put
+) -> Result<usize, Cause>
     requires in_sheet { InSheet sheet.now place }
     requires bytes_len_bound { length bytes.now ≤ most_option_bytes }
     requires stack_len { length stack.old ≡ stack_words }
@@ -91,8 +89,8 @@ fn list_over(
         (message_of options_type.now place) 0 bytes.now))) out.old out.new result }
 {
     match count_words(sheet, options_type, place, bytes, stack) {
-        Put::Refused(cause) => reply::refused_for(cause),
-        Put::Wrote(n) => {
+        Err(cause) => reply::refused_for(cause),
+        Ok(n) => {
             if out.len() < n {
                 return reply::refused(Refusal::NoRoom);
             }
@@ -121,17 +119,17 @@ fn list_in(
 
 // The message that the options type is, or why there is none: that the sheet is too long, the first fault of the options type and the
 // length of the option bytes, or its look-up. The form of the sheet was tested before.
-fn options_message(sheet: &[u8], options_type: &[u8], bytes: &[u8]) -> LookedUp
+fn options_message(sheet: &[u8], options_type: &[u8], bytes: &[u8]) -> Result<LookupScope, Refusal>
     ensures { result ≡ admitted (judge_length sheet.now) sheet.now options_type.now bytes.now }
 {
-    if let Verdict::Refused(why) = sheetform::check_length(sheet) {
-        return LookedUp::NoMessage(why);
+    if let Err(why) = sheetform::check_length(sheet) {
+        return Err(why);
     }
-    if let Verdict::Refused(why) = check_options_type(options_type) {
-        return LookedUp::NoMessage(why);
+    if let Err(why) = check_options_type(options_type) {
+        return Err(why);
     }
-    if let Verdict::Refused(why) = check_bytes(bytes) {
-        return LookedUp::NoMessage(why);
+    if let Err(why) = check_bytes(bytes) {
+        return Err(why);
     }
     lookups::message(sheet, options_type)
 }
@@ -142,8 +140,8 @@ pub fn list_tested(sheet: &[u8], options_type: &[u8], bytes: &[u8], out: &mut [u
         out.old out.new result }
 {
     match options_message(sheet, options_type, bytes) {
-        LookedUp::NoMessage(why) => reply::refused(why),
-        LookedUp::Message(place) => list_in(sheet, options_type, place, bytes, out),
+        Err(why) => reply::refused(why),
+        Ok(place) => list_in(sheet, options_type, place, bytes, out),
     }
 }
 
@@ -153,7 +151,7 @@ pub fn list(sheet: &[u8], options_type: &[u8], bytes: &[u8], out: &mut [u32]) ->
     ensures { Answered (listing sheet.now options_type.now bytes.now)
         out.old out.new result }
 {
-    if let Verdict::Refused(why) = sheetform::check_sheet(sheet) {
+    if let Err(why) = sheetform::check_sheet(sheet) {
         return reply::refused(why);
     }
     list_tested(sheet, options_type, bytes, out)

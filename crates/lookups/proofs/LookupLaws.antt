@@ -1,21 +1,15 @@
 -- Where that lies which a look-up of the option steps finds: a message, the type path of a field or of an extension, the values of an enum
 -- are places of the sheet. They are for whoever reads the sheet at what was found.
 -- Assumes nothing.
-use Rattle.std.specs.Prelude.{◌≡◌, List, ℕ, ◌≤◌, length, Some}
+use Rattle.std.specs.Prelude.{◌≡◌, List, ℕ, ◌≤◌, length, Some, Ok, Option, Result}
 use Rattle.field.specs.declared.Span.{Span}
 use Rattle.field.specs.Leaf.{Lies}
 use Rattle.path.specs.Path.{components}
 use Rattle.sheet.specs.declared.declaration.Declaration.{Declaration}
-use Rattle.sheet.specs.declared.declaration.Declared.{Declared}
-use Rattle.sheet.specs.declared.declaration.Declared.TheVariants.{Declares}
 use Rattle.sheet.specs.Table.{field_tag}
 use Rattle.sheet.proofs.PlaceLaws.{Places}
 use Rattle.scope.specs.declared.lookup.LookupScope.{LookupScope}
 use Rattle.scope.specs.inner.Answers.{InSheet, declared}
-use Rattle.fullname.specs.declared.LookedUp.{LookedUp}
-use Rattle.fullname.specs.declared.LookedUp.TheVariants.{Message}
-use Rattle.fullname.specs.declared.LookedUpEnum.{LookedUpEnum}
-use Rattle.fullname.specs.declared.LookedUpEnum.TheVariants.{Values}
 use Rattle.fullname.proofs.LiesLaws.{looked-up-lies, looked-up-enum-ordered, looked-up-enum-within}
 use Rattle.search.specs.declared.extension.Candidate.{Candidate}
 use Rattle.search.specs.declared.extension.Compared.{Compared}
@@ -23,9 +17,10 @@ use Rattle.search.specs.declared.extension.Compared.TheVariants.{Extends}
 use Rattle.search.proofs.LiesLaws.{extends-lies}
 use Rattle.named.proofs.DeclaredPlaces.{named-places, declaration-lies}
 use Rattle.lookups.specs.Lookups.{walking, field_named}
+use Rattle.reply.specs.declared.Refusal.{Refusal}
 
 -- ---- a message
-module _ (s p : List ℕ) (r : LookedUp) (q : r ≡ (walking s).message p) (c : LookupScope) (g : r ≡ Message c) where
+module _ (s p : List ℕ) (r : Result LookupScope Refusal) (q : r ≡ (walking s).message p) (c : LookupScope) (g : r ≡ Ok c) where
   pub message-lies : InSheet s c
   message-lies = looked-up-lies s (components p) r q c g
 
@@ -34,7 +29,7 @@ module _ (s : List ℕ) (c : LookupScope) (l : InSheet s c) (n : List ℕ) where
   pub field-named-lies : (d : Declaration) → field_named s n c ≡ Some d → Lies d.shape.path s
   field-named-lies d q = let k = declaration-lies s c l field_tag _ d q in (k.path.ordered, k.path.inside)
 
-  module _ (r : Declared) (q : r ≡ declared (field_named s n c)) (d : Declaration) (g : r ≡ Declares d) where
+  module _ (r : Option Declaration) (q : r ≡ declared (field_named s n c)) (d : Declaration) (g : r ≡ Some d) where
     field-places : Places (length s) d
     field-places = named-places s c l field_tag n r q d g
 
@@ -56,7 +51,7 @@ module _ (s scope m n : List ℕ) (r : Compared) (q : r ≡ (walking s).extensio
   extension-path-within = extension-places.path.inside
 
 -- ---- an enum
-module _ (s p : List ℕ) (r : LookedUpEnum) (q : r ≡ (walking s).enumeration p) (x : Span) (g : r ≡ Values x) where
+module _ (s p : List ℕ) (r : Result Span Refusal) (q : r ≡ (walking s).enumeration p) (x : Span) (g : r ≡ Ok x) where
   pub enum-ordered : x.from ≤ x.to
   enum-ordered = looked-up-enum-ordered s (components p) r q x g
 

@@ -8,7 +8,7 @@
 --       value_in s n vs == the first value of the name n among those that stand at the place vs
 --
 -- Assumes nothing.
-use Rattle.std.specs.Prelude.{List, ℕ, Option}
+use Rattle.std.specs.Prelude.{List, ℕ, Option, Result}
 use Rattle.field.specs.declared.Span.{Span}
 use Rattle.field.specs.Walk.{walk}
 use Rattle.path.specs.Path.{components}
@@ -18,15 +18,14 @@ use Rattle.sheet.specs.Table.{field_tag}
 use Rattle.sheet.specs.Tree.{values_in}
 use Rattle.scope.specs.declared.lookup.LookupScope.{LookupScope}
 use Rattle.scope.specs.Scope.{holding, declaration_named, value_named}
-use Rattle.fullname.specs.declared.LookedUp.{LookedUp}
-use Rattle.fullname.specs.declared.LookedUpEnum.{LookedUpEnum}
 use Rattle.fullname.specs.FullName.{messages_at, enums_at, looked_up, looked_up_enum}
 use Rattle.search.specs.declared.extension.Compared.{Compared}
 use Rattle.search.specs.Lookup.{ext_resolve_field}
+use Rattle.reply.specs.declared.Refusal.{Refusal}
 
 pub record Lookups : Type 0 where
-  pub message : (path : List ℕ) → LookedUp
-  pub enumeration : (path : List ℕ) → LookedUpEnum
+  pub message : (path : List ℕ) → Result LookupScope Refusal
+  pub enumeration : (path : List ℕ) → Result Span Refusal
   pub extension : (scope message name : List ℕ) → Compared
 
 abbrev pub walking : (sheet : List ℕ) → Lookups

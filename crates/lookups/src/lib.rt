@@ -9,22 +9,21 @@ ghost use Rattle.search.specs.Lookup.{find_extension_by_path};
 ghost use Rattle.lookups.specs.Lookups.{walking, field_named, value_in};
 
 use field::Span;
-use fullname::{LookedUp, LookedUpEnum};
 use limits::MOST_CANDIDATE;
 use scope::lookup::LookupScope;
-use search::extension::{Compared, Resolved};
-use sheet::declaration::{Declared, Valued};
+use search::extension::{Compared, Found};
+use sheet::declaration::{Declaration, Value};
 use sheet::table;
 
 // The message of a full name.
-pub fn message(sheet: &[u8], path: &[u8]) -> LookedUp
+pub fn message(sheet: &[u8], path: &[u8]) -> Result<LookupScope, Refusal>
     ensures { result ≡ (walking sheet.now).message path.now }
 {
     fullname::find_message_by_abs_name(sheet, path)
 }
 
 // The message that a type path of the sheet names.
-pub fn message_at(sheet: &[u8], path: Span) -> LookedUp
+pub fn message_at(sheet: &[u8], path: Span) -> Result<LookupScope, Refusal>
     requires { Lies path sheet.now }
     ensures { result ≡ (walking sheet.now).message (text sheet.now path) }
 {
@@ -34,7 +33,7 @@ pub fn message_at(sheet: &[u8], path: Span) -> LookedUp
 }
 
 // The enum that a type path of the sheet names.
-pub fn enum_at(sheet: &[u8], path: Span) -> LookedUpEnum
+pub fn enum_at(sheet: &[u8], path: Span) -> Result<Span, Refusal>
     requires { Lies path sheet.now }
     ensures { result ≡ (walking sheet.now).enumeration (text sheet.now path) }
 {
@@ -53,7 +52,7 @@ pub fn extension(sheet: &[u8], scope: &[u8], message: &[u8], name: &[u8]) -> Com
 }
 
 // The extension that a name finds in a scope, whatever it extends.
-pub fn extension_named(sheet: &[u8], scope: &[u8], name: &[u8]) -> Resolved
+pub fn extension_named(sheet: &[u8], scope: &[u8], name: &[u8]) -> Result<Found, Refusal>
     requires { (is_rel_or_empty scope.now ≡ true) × (is_path name.now ≡ true) }
     ensures { result ≡ find_extension_by_path sheet.now scope.now name.now }
 {
@@ -62,7 +61,7 @@ pub fn extension_named(sheet: &[u8], scope: &[u8], name: &[u8]) -> Resolved
 }
 
 // The field of that name in a message.
-pub fn field_named(sheet: &[u8], message: LookupScope, name: &[u8]) -> Declared
+pub fn field_named(sheet: &[u8], message: LookupScope, name: &[u8]) -> Option<Declaration>
     requires { InSheet sheet.now message }
     ensures { result ≡ declared (field_named sheet.now name.now message) }
 {
@@ -70,7 +69,7 @@ pub fn field_named(sheet: &[u8], message: LookupScope, name: &[u8]) -> Declared
 }
 
 // The value of that name in an enum.
-pub fn value_named(sheet: &[u8], values: Span, name: &[u8]) -> Valued
+pub fn value_named(sheet: &[u8], values: Span, name: &[u8]) -> Option<Value>
     requires { Lies values sheet.now }
     ensures { result ≡ valued (value_in sheet.now name.now values) }
 {

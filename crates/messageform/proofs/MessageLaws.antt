@@ -1,16 +1,13 @@
 -- The laws of enums and messages: the ways through `check_value`, `check_enum`, `check_item`, `check_message` and `check_items`.
 -- Assumes nothing.
-use Rattle.std.specs.Prelude.{◌≡◌, refl, Bool, true, false, List, ℕ, zero, suc, ◌-◌, ◌≤◌, length}
+use Rattle.std.specs.Prelude.{◌≡◌, refl, Bool, true, false, List, ℕ, zero, suc, ◌-◌, ◌≤◌, length, None, Option, Some}
 use Rattle.basis.specs.Kit.{sym, ◌∙◌}
 use Rattle.basis.proofs.Kit.{arith, eq-eqb, ne_eqb, not-true, not-false}
 use Rattle.ident.specs.Ident.{is_ident}
 use Rattle.reply.specs.declared.Refusal.TheVariants.{BadSheet}
-use Rattle.reply.specs.declared.Verdict.{Verdict}
-use Rattle.reply.specs.Verdicts.{judged}
-use Rattle.field.specs.declared.Leaf.{Leaf}
-use Rattle.field.specs.declared.Leaf.TheVariants.{At, Not}
+use Rattle.reply.specs.Verdicts.{judged, Verdict}
 use Rattle.field.specs.Walk.{Walk}
-use Rattle.field.specs.Leaf.{leaf_at}
+use Rattle.field.specs.Leaf.{leaf_at, span}
 use Rattle.form.specs.Each.{each}
 use Rattle.field.proofs.FieldLaws.{field-ordered}
 use Rattle.field.proofs.LeafLaws.{leaf-inside}
@@ -20,6 +17,7 @@ use Rattle.sheet.specs.Table.{message_tag, extension_tag, enum_tag, field_tag, v
 use Rattle.declform.specs.Declarations.{is_extension, is_field, is_value}
 use Rattle.reply.specs.Verdicts.{beyond}
 use Rattle.messageform.specs.Form.{bad_sheet, judge_value, judge_enum, judge_item, judge_message, judge_items}
+use Rattle.field.specs.declared.Span.{Span}
 
 -- ---- check_value
 module _ (s : List ℕ) (t a e : ℕ) where
@@ -37,14 +35,14 @@ pub ruleset value-laws = (value-other, value-judged)
 abbrev pub values : List ℕ → Walk → Verdict
 values s = each BadSheet (judge_value s)
 
-module _ (s : List ℕ) (a e : ℕ) (r : Leaf) (q : r ≡ leaf_at name_tag is_ident s a e) where
-  pub enum-unnamed : r ≡ Not → bad_sheet ≡ judge_enum s a e
+module _ (s : List ℕ) (a e : ℕ) (r : Option Span) (q : r ≡ leaf_at name_tag is_ident s a e) where
+  pub enum-unnamed : r ≡ None → bad_sheet ≡ judge_enum s a e
   unfolding judge_enum
   enum-unnamed g = rw (← q, g)
 
-  pub enum-start : (n body : ℕ) → r ≡ At n body → e ≤ length s → Rest (judge_enum s a e) (values s) s e body
+  pub enum-start : (p : Span) → r ≡ Some p → e ≤ length s → Rest (judge_enum s a e) (values s) s e p.to
   unfolding judge_enum
-  enum-start n body g h = rw (← q, g) (rest-start (values s) s body e (leaf-inside name_tag is_ident s a e r q n body g) h)
+  enum-start p g h = rw (← q, g) (rest-start (values s) s p.to e (leaf-inside name_tag is_ident s a e r q p.from p.to g) h)
 
 pub ruleset enum_laws = (enum-unnamed, enum-start, field-ordered, each-laws)
 
@@ -99,25 +97,25 @@ pub ruleset items-laws = (items-start, field-ordered, each-laws)
 
 -- ---- check_message
 module _ (s : List ℕ) (a e : ℕ) where
-  none_named : (d : ℕ) → (d ≡ 0 → ⊥) → leaf_at name_tag is_ident s a e ≡ Not → bad_sheet ≡ judge_message d s a e
+  none_named : (d : ℕ) → (d ≡ 0 → ⊥) → leaf_at name_tag is_ident s a e ≡ None → bad_sheet ≡ judge_message d s a e
   none_named zero z q = absurd (z refl)
   none_named (suc d) z q = simp (judge_message, q)
 
-  named : (d : ℕ) → (d ≡ 0 → ⊥) → (n body : ℕ) → leaf_at name_tag is_ident s a e ≡ At n body
-      → judge_items (d - 1) true s body e ≡ judge_message d s a e
+  named : (d : ℕ) → (d ≡ 0 → ⊥) → (u : Span) → leaf_at name_tag is_ident s a e ≡ Some u
+      → judge_items (d - 1) true s u.to e ≡ judge_message d s a e
   unfolding judge_items
-  named zero z n body q = absurd (z refl)
-  named (suc d) z n body q = let p : suc d - 1 ≡ d = omega arith in simp (judge_message, p, q)
+  named zero z u q = absurd (z refl)
+  named (suc d) z u.from u.to q = let p : suc d - 1 ≡ d = omega arith in simp (judge_message, p, q)
 
 module _ (d : ℕ) (s : List ℕ) (a e : ℕ) where
   pub message-beyond : d ≡ 0 → beyond ≡ judge_message d s a e
   message-beyond z = rw z
 
-  module _ (z : d ≡ 0 → ⊥) (r : Leaf) (q : r ≡ leaf_at name_tag is_ident s a e) where
-    pub message-unnamed : r ≡ Not → bad_sheet ≡ judge_message d s a e
+  module _ (z : d ≡ 0 → ⊥) (r : Option Span) (q : r ≡ leaf_at name_tag is_ident s a e) where
+    pub message-unnamed : r ≡ None → bad_sheet ≡ judge_message d s a e
     message-unnamed g = none_named s a e d z (sym q ∙ g)
 
-    pub message-named : (n body : ℕ) → r ≡ At n body → (v : Verdict) → v ≡ judge_items (d - 1) true s body e → v ≡ judge_message d s a e
-    message-named n body g v p = p ∙ named s a e d z n body (sym q ∙ g)
+    pub message-named : (u : Span) → r ≡ Some u → (v : Verdict) → v ≡ judge_items (d - 1) true s u.to e → v ≡ judge_message d s a e
+    message-named u g v p = p ∙ named s a e d z u.from u.to (sym q ∙ g)
 
 pub ruleset message-laws = (message-beyond, message-unnamed, message-named, leaf-inside)

@@ -9,12 +9,10 @@
 --        judge_items d fields s a e == what a file holds after its package, or a message after its name, with d levels left
 --
 -- Assumes nothing.
-use Rattle.std.specs.Prelude.{Bool, true, false, List, ℕ, zero, suc, eqb}
+use Rattle.std.specs.Prelude.{Bool, true, false, List, ℕ, zero, suc, eqb, Err}
 use Rattle.ident.specs.Ident.{is_ident}
 use Rattle.reply.specs.declared.Refusal.TheVariants.{BadSheet}
-use Rattle.reply.specs.declared.Verdict.{Verdict}
-use Rattle.reply.specs.declared.Verdict.TheVariants.{Refused}
-use Rattle.reply.specs.Verdicts.{judged, beyond}
+use Rattle.reply.specs.Verdicts.{judged, beyond, Verdict}
 use Rattle.field.specs.Walk.{walk}
 use Rattle.field.specs.Leaf.{on_leaf, leaf_at}
 use Rattle.form.specs.Each.{each}
@@ -22,7 +20,7 @@ use Rattle.sheet.specs.Table.{message_tag, extension_tag, enum_tag, field_tag, v
 use Rattle.declform.specs.Declarations.{is_extension, is_field, is_value}
 
 abbrev pub bad_sheet : Verdict
-bad_sheet = Refused BadSheet
+bad_sheet = Err BadSheet
 
 -- tag 04: "11, then 06 values" [FORM-2, FAULT-5]
 unfoldable pub judge_value : (s : List ℕ) (tag from to : ℕ) → Verdict

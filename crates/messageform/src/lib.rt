@@ -5,50 +5,50 @@ ghost use Rattle.std.specs.Prelude.{◌≡◌, ◌≤◌, length};
 ghost use Rattle.messageform.specs.Form.{judge_value, judge_enum, judge_item, judge_message, judge_items};
 
 use declform::{is_extension, is_field, is_value};
-use field::{Field, Leaf};
-use reply::{Refusal, Verdict};
+use field::{Field, Span};
+use reply::Refusal;
 use sheet::table;
 
 // One field of an enum, after its name.
-fn check_value(s: &[u8], tag: u8, from: usize, to: usize) -> Verdict
+fn check_value(s: &[u8], tag: u8, from: usize, to: usize) -> Result<(), Refusal>
     requires { (from ≤ to) × (to ≤ length s.now) }
     ensures { result ≡ judge_value s.now tag from to }
 {
     if tag != table::VALUE {
-        return Verdict::Refused(Refusal::BadSheet);
+        return Err(Refusal::BadSheet);
     }
     reply::judge(is_value(s, from, to), Refusal::BadSheet)
 }
 
 // An enum.
-fn check_enum(s: &[u8], from: usize, to: usize) -> Verdict
+fn check_enum(s: &[u8], from: usize, to: usize) -> Result<(), Refusal>
     requires { (from ≤ to) × (to ≤ length s.now) }
     ensures { result ≡ judge_enum s.now from to }
 {
-    let Leaf::At { from: _, to: body } = form::ident_at(s, from, to, table::NAME) else {
-        return Verdict::Refused(Refusal::BadSheet);
+    let Some(Span { from: _, to: body }) = form::ident_at(s, from, to, table::NAME) else {
+        return Err(Refusal::BadSheet);
     };
     let mut at = body;
     while at < to {
-        let Field::Whole {
+        let Some(Field {
             tag,
             from: a,
             to: e,
-        } = field::field_at(s, at, to)
+        }) = field::field_at(s, at, to)
         else {
-            return Verdict::Refused(Refusal::BadSheet);
+            return Err(Refusal::BadSheet);
         };
-        if let Verdict::Refused(why) = check_value(s, tag, a, e) {
-            return Verdict::Refused(why);
+        if let Err(why) = check_value(s, tag, a, e) {
+            return Err(why);
         }
         at = e;
     }
-    Verdict::Fine
+    Ok(())
 }
 
 // One field of a file or, where fields may stand too, of a message, with `left` levels of messages left.
 #[cycle(check_item_check_items_check_message)]
-fn check_item(s: &[u8], tag: u8, from: usize, to: usize, left: usize, fields: bool) -> Verdict
+fn check_item(s: &[u8], tag: u8, from: usize, to: usize, left: usize, fields: bool) -> Result<(), Refusal>
     requires { (from ≤ to) × (to ≤ length s.now) }
     ensures { result ≡ judge_item (judge_message left s.now) fields s.now tag from to }
 {
@@ -62,25 +62,25 @@ fn check_item(s: &[u8], tag: u8, from: usize, to: usize, left: usize, fields: bo
         return check_enum(s, from, to);
     }
     if tag != table::FIELD {
-        return Verdict::Refused(Refusal::BadSheet);
+        return Err(Refusal::BadSheet);
     }
     if !fields {
-        return Verdict::Refused(Refusal::BadSheet);
+        return Err(Refusal::BadSheet);
     }
     reply::judge(is_field(s, from, to), Refusal::BadSheet)
 }
 
 // A message, with `left` levels of messages left.
 #[cycle(check_item_check_items_check_message)]
-fn check_message(s: &[u8], from: usize, to: usize, left: usize) -> Verdict
+fn check_message(s: &[u8], from: usize, to: usize, left: usize) -> Result<(), Refusal>
     requires { (from ≤ to) × (to ≤ length s.now) }
     ensures { result ≡ judge_message left s.now from to }
 {
     if left == 0 {
-        return Verdict::Refused(Refusal::BeyondLimit);
+        return Err(Refusal::BeyondLimit);
     }
-    let Leaf::At { from: _, to: body } = form::ident_at(s, from, to, table::NAME) else {
-        return Verdict::Refused(Refusal::BadSheet);
+    let Some(Span { from: _, to: body }) = form::ident_at(s, from, to, table::NAME) else {
+        return Err(Refusal::BadSheet);
     };
     check_items(s, body, to, left - 1, true)
 }
@@ -88,24 +88,24 @@ fn check_message(s: &[u8], from: usize, to: usize, left: usize) -> Verdict
 // What a file holds after its package, or a message after its name, with `left` levels of messages left; `fields`: whether fields may
 // stand there.
 #[cycle(check_item_check_items_check_message)]
-pub fn check_items(s: &[u8], from: usize, to: usize, left: usize, fields: bool) -> Verdict
+pub fn check_items(s: &[u8], from: usize, to: usize, left: usize, fields: bool) -> Result<(), Refusal>
     requires { (from ≤ to) × (to ≤ length s.now) }
     ensures { result ≡ judge_items left fields s.now from to }
 {
     let mut at = from;
     while at < to {
-        let Field::Whole {
+        let Some(Field {
             tag,
             from: a,
             to: e,
-        } = field::field_at(s, at, to)
+        }) = field::field_at(s, at, to)
         else {
-            return Verdict::Refused(Refusal::BadSheet);
+            return Err(Refusal::BadSheet);
         };
-        if let Verdict::Refused(why) = check_item(s, tag, a, e, left, fields) {
-            return Verdict::Refused(why);
+        if let Err(why) = check_item(s, tag, a, e, left, fields) {
+            return Err(why);
         }
         at = e;
     }
-    Verdict::Fine
+    Ok(())
 }

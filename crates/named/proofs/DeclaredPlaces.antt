@@ -5,11 +5,9 @@
 --   Ordered d <-> name, extendee and type path of the declaration end no earlier than they start
 --
 -- Assumes nothing.
-use Rattle.std.specs.Prelude.{◌≡◌, Bool, true, false, List, [], ℕ, ◌≤◌, eqb, length, Some}
+use Rattle.std.specs.Prelude.{◌≡◌, Bool, true, false, List, [], ℕ, ◌≤◌, eqb, length, Some, Option}
 use Rattle.basis.specs.Kit.{sym, ◌∙◌}
 use Rattle.sheet.specs.declared.declaration.Declaration.{Declaration}
-use Rattle.sheet.specs.declared.declaration.Declared.{Declared}
-use Rattle.sheet.specs.declared.declaration.Declared.TheVariants.{Declares}
 use Rattle.sheet.specs.Table.{extension_tag, field_tag}
 use Rattle.sheet.specs.Tree.{Items, File, tree_of}
 use Rattle.sheet.specs.Members.{extensions_of, fields_of, declarations_of, every_extension_of, every_extension}
@@ -57,7 +55,7 @@ module _ (end : ℕ) (d : Declaration) (k : Places end d) where
 pub ruleset places-laws = (name-ordered, name-within, extendee-ordered, extendee-within, path-ordered, path-within)
 
 -- ---- the declaration that one field is
-module _ (k : ℕ) (s : List ℕ) (t a e : ℕ) (r : Declared) (q : r ≡ declaration_at k s t a e) (d : Declaration) (g : r ≡ Declares d) where
+module _ (k : ℕ) (s : List ℕ) (t a e : ℕ) (r : Option Declaration) (q : r ≡ declaration_at k s t a e) (d : Declaration) (g : r ≡ Some d) where
   declaration-at-lies : Places e d
   declaration-at-lies = declaration-cases s a e d (Places e d) k t (extension-places s a e d) (field-places s a e d) (sym g ∙ q)
 
@@ -119,7 +117,7 @@ module _ (s : List ℕ) (p : LookupScope) (l : InSheet s p) where
 
 -- what `declaration_named` answers
 module _ (s : List ℕ) (p : LookupScope) (l : InSheet s p) (k : ℕ) (n : List ℕ)
-    (r : Declared) (q : r ≡ declared (declaration_named k s n (holding s p))) (d : Declaration) (g : r ≡ Declares d) where
+    (r : Option Declaration) (q : r ≡ declared (declaration_named k s n (holding s p))) (d : Declaration) (g : r ≡ Some d) where
   pub named-places : Places (length s) d
   named-places = declaration-lies s p l k _ d (declared-some r (declaration_named k s n (holding s p)) q d g)
 

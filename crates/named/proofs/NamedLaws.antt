@@ -12,18 +12,12 @@ use Rattle.basis.proofs.Kit.{eq-eqb, ne_eqb}
 use borrow.Author.Tests.{eqb-true, eqb-false}
 use Rattle.basis.proofs.Never.{never}
 use Rattle.octets.specs.Octets.{same_bytes}
-use Rattle.field.specs.declared.Leaf.{Leaf}
-use Rattle.field.specs.declared.Leaf.TheVariants.{At, Not}
 use Rattle.field.specs.declared.Span.{Span}
 use Rattle.field.specs.Leaf.{span, text, is_text, any_bytes, leaf_at}
 use Rattle.field.specs.Walk.{Walk, walk}
 use Rattle.field.proofs.LeafLaws.{leaf-good, leaf-tested, leaf-untested, on-leaf-some}
 use Rattle.field.proofs.Seek.{seek, seek_is, seek-laws}
 use Rattle.sheet.specs.declared.declaration.Declaration.{Declaration}
-use Rattle.sheet.specs.declared.declaration.Declared.{Declared}
-use Rattle.sheet.specs.declared.declaration.Declared.TheVariants.{Declares, NoDeclaration}
-use Rattle.sheet.specs.declared.declaration.Shaped.{Shaped}
-use Rattle.sheet.specs.declared.declaration.Shaped.TheVariants.{Shapes, NoShape}
 use Rattle.sheet.specs.Table.{name_tag, extendee_tag, extension_tag, field_tag}
 use Rattle.sheet.specs.Declaration.{shape_at, declared_with, extension_at, message_field_at}
 use Rattle.sheet.specs.Tree.{Items, item_in, message_in, items_in}
@@ -36,23 +30,24 @@ use Rattle.scope.specs.Scope.{holding, declaration_named}
 use Rattle.scope.specs.inner.Answers.{declared}
 use Rattle.scope.specs.inner.Steps.{tells_declared, first_of, whose, declaration_at}
 use Rattle.scope.proofs.Answers.{declared-append, declared-listed}
+use Rattle.sheet.specs.declared.declaration.Shape.{Shape}
 
 -- ---- declaration_at
 module _ (k : ℕ) (s : List ℕ) (t a e : ℕ) where
-  pub declaration-other : (t ≡ k → ⊥) → NoDeclaration ≡ declaration_at k s t a e
+  pub declaration-other : (t ≡ k → ⊥) → None ≡ declaration_at k s t a e
   unfolding declaration_at
   declaration-other o = simp (declaration_at, ne_eqb t k o)
 
   module _ (h : t ≡ k) where
-    pub declaration-extension : k ≡ extension_tag → (r : Declared) → r ≡ extension_at s a e → r ≡ declaration_at k s t a e
+    pub declaration-extension : k ≡ extension_tag → (r : Option Declaration) → r ≡ extension_at s a e → r ≡ declaration_at k s t a e
     unfolding declaration_at
     declaration-extension g r q = rw (h, g) q
 
-    pub declaration-field : k ≡ field_tag → (r : Declared) → r ≡ message_field_at s a e → r ≡ declaration_at k s t a e
+    pub declaration-field : k ≡ field_tag → (r : Option Declaration) → r ≡ message_field_at s a e → r ≡ declaration_at k s t a e
     unfolding declaration_at
     declaration-field g r q = rw (h, g) q
 
-    pub declaration-neither : (k ≡ extension_tag → ⊥) → (k ≡ field_tag → ⊥) → NoDeclaration ≡ declaration_at k s t a e
+    pub declaration-neither : (k ≡ extension_tag → ⊥) → (k ≡ field_tag → ⊥) → None ≡ declaration_at k s t a e
     unfolding declaration_at
     declaration-neither x y = simp (declaration_at, eq-eqb t k h, ne_eqb k extension_tag x, ne_eqb k field_tag y)
 
@@ -60,40 +55,40 @@ pub ruleset declaration-at-laws = (declaration-other, declaration-extension, dec
 
 -- ---- the name of a declaration and of a value is the leaf that its payload starts with
 abbrev pub Named : List ℕ → ℕ → ℕ → Span → Type 0
-Named s a e p = leaf_at name_tag any_bytes s a e ≡ At p.from p.to
+Named s a e p = leaf_at name_tag any_bytes s a e ≡ Some (span p.from p.to)
 
 module _ (s : List ℕ) (a e : ℕ) (d : Declaration) where
-  declared-name : (n m : ℕ) (x : Span) → leaf_at name_tag any_bytes s a e ≡ At n m → (h : Shaped) → Declares d ≡ declared_with (span n m) x h
+  declared-name : (q : Span) (x : Span) → leaf_at name_tag any_bytes s a e ≡ Some q → (h : Option Shape) → Some d ≡ declared_with q x h
       → Named s a e d.name
-  declared-name n m x y NoShape p = never cc
-  declared-name n m x y (Shapes h) p = let u : d ≡ record { name = span n m; extendee = x; shape = h } = cc in rw u y
+  declared-name q x y None p = never cc
+  declared-name q.from q.to x y (Some h) p = let u : d ≡ record { name = q; extendee = x; shape = h } = cc in rw u y
 
-  none-declared : Declares d ≡ NoDeclaration → ⊥
+  none-declared : Some d ≡ None → ⊥
   none-declared p = never cc
 
-  extension-name : Declares d ≡ extension_at s a e → Named s a e d.name
+  extension-name : Some d ≡ extension_at s a e → Named s a e d.name
   unfolding extension_at
   extension-name =
-      on-leaf-some NoDeclaration (Declares d) (leaf_at name_tag any_bytes s a e) _ (Named s a e d.name) none-declared λ n extendees y.
-      on-leaf-some NoDeclaration (Declares d) (leaf_at extendee_tag any_bytes s extendees e) _ (Named s a e d.name) none-declared
+      on-leaf-some None (Some d) (leaf_at name_tag any_bytes s a e) _ (Named s a e d.name) none-declared λ n extendees y.
+      on-leaf-some None (Some d) (leaf_at extendee_tag any_bytes s extendees e) _ (Named s a e d.name) none-declared
       λ x shapes _. declared-name n extendees (span x shapes) y (shape_at s shapes e)
 
-  field-name : Declares d ≡ message_field_at s a e → Named s a e d.name
+  field-name : Some d ≡ message_field_at s a e → Named s a e d.name
   unfolding message_field_at
   field-name =
-      on-leaf-some NoDeclaration (Declares d) (leaf_at name_tag any_bytes s a e) _ (Named s a e d.name) none-declared λ n shapes y.
+      on-leaf-some None (Some d) (leaf_at name_tag any_bytes s a e) _ (Named s a e d.name) none-declared λ n shapes y.
       declared-name n shapes (span 0 0) y (shape_at s shapes e)
 
   -- whatever its tag, it is an extension or a field
-  pub declaration-cases : (P : Type 0) (k t : ℕ) → (Declares d ≡ extension_at s a e → P) → (Declares d ≡ message_field_at s a e → P)
-      → Declares d ≡ declaration_at k s t a e → P
+  pub declaration-cases : (P : Type 0) (k t : ℕ) → (Some d ≡ extension_at s a e → P) → (Some d ≡ message_field_at s a e → P)
+      → Some d ≡ declaration_at k s t a e → P
   unfolding declaration_at
   declaration-cases P k t extension field = go (eqb t k) (eqb k extension_tag) (eqb k field_tag)
     where
       go : (b b' b'' : Bool)
-          → Declares d ≡ elim b [
-            | true ↦ only_if b' (extension_at s a e) (only_if b'' (message_field_at s a e) NoDeclaration)
-            | false ↦ NoDeclaration
+          → Some d ≡ elim b [
+            | true ↦ only_if b' (extension_at s a e) (only_if b'' (message_field_at s a e) None)
+            | false ↦ None
           ]
           → P
       go true true b'' p = extension p
@@ -101,34 +96,33 @@ module _ (s : List ℕ) (a e : ℕ) (d : Declaration) where
       go true false false p = absurd (none-declared p)
       go false b' b'' p = absurd (none-declared p)
 
-  declaration-name : (k t : ℕ) → Declares d ≡ declaration_at k s t a e → Named s a e d.name
+  declaration-name : (k t : ℕ) → Some d ≡ declaration_at k s t a e → Named s a e d.name
   declaration-name k t = declaration-cases (Named s a e d.name) k t extension-name field-name
 
 -- so the leaf whose payload passes a test tells whether the name does
-module _ (s : List ℕ) (a e : ℕ) (p : Span) (g : Named s a e p) (test : List ℕ → Bool) (l : Leaf) (q : l ≡ leaf_at name_tag test s a e) where
-  name-no : l ≡ Not → test (text s p) ≡ false
+module _ (s : List ℕ) (a e : ℕ) (p : Span) (g : Named s a e p) (test : List ℕ → Bool) (l : Option Span) (q : l ≡ leaf_at name_tag test s a e) where
+  name-no : l ≡ None → test (text s p) ≡ false
   name-no w = go (test (text s p)) refl
     where
       go : (b : Bool) → test (text s p) ≡ b → test (text s p) ≡ false
       go false z = z
       go true z =
-          let y = leaf-good name_tag test s a e (At p.from p.to) (sym g) p.from p.to refl true (sym z) refl in
+          let y = leaf-good name_tag test s a e (Some (span p.from p.to)) (sym g) p refl true (sym z) refl in
           never cc
 
-  name-yes : (x y : ℕ) → l ≡ At x y → test (text s p) ≡ true
-  name-yes x y w =
-      let f : leaf_at name_tag test s a e ≡ At x y = sym q ∙ w in
-      let h : leaf_at name_tag any_bytes s a e ≡ At x y = leaf-untested name_tag test s a e x y f in
-      let u : p.from ≡ x = cc in
-      let v : p.to ≡ y = cc in
-      rw (u, v) (leaf-tested name_tag test s a e x y f)
+  name-yes : (it : Span) → l ≡ Some it → test (text s p) ≡ true
+  name-yes it w =
+      let f : leaf_at name_tag test s a e ≡ Some it = sym q ∙ w in
+      let h : leaf_at name_tag any_bytes s a e ≡ Some it = leaf-untested name_tag test s a e it.from it.to f in
+      let u : p ≡ span it.from it.to = cc in
+      rw u (leaf-tested name_tag test s a e it.from it.to f)
 
 -- ---- an answer that tells of something which its payload names, whatever that is
 module _ {A R : Type 0} (nothing : R) (tells : R → Option A) (name : A → Span) (s n : List ℕ) (a e : ℕ) (x : R)
     (starts : (v : A) → tells x ≡ Some v → Named s a e (name v))
     (good : A → Bool) (same : (v : A) → good v ≡ is_text s n (name v))
-    (l : Leaf) (q : l ≡ leaf_at name_tag (same_bytes n) s a e) where
-  pub other_name : l ≡ Not → nothing ≡ whose nothing tells good x
+    (l : Option Span) (q : l ≡ leaf_at name_tag (same_bytes n) s a e) where
+  pub other_name : l ≡ None → nothing ≡ whose nothing tells good x
   unfolding whose
   other_name w = go (tells x) refl
     where
@@ -136,39 +130,39 @@ module _ {A R : Type 0} (nothing : R) (tells : R → Option A) (name : A → Spa
       go None p = refl
       go (Some v) p = rw (same v, name-no s a e (name v) (starts v p) (same_bytes n) l q w)
 
-  pub same_name : (y z : ℕ) → l ≡ At y z → (tells x ≡ None → x ≡ nothing) → x ≡ whose nothing tells good x
+  pub same_name : (u : Span) → l ≡ Some u → (tells x ≡ None → x ≡ nothing) → x ≡ whose nothing tells good x
   unfolding whose
-  same_name y z w bare = go (tells x) refl
+  same_name u w bare = go (tells x) refl
     where
       go : (o : Option A) → tells x ≡ o → x ≡ told nothing (λ v. only_if (good v) x nothing) o
       go None p = bare p
-      go (Some v) p = rw (same v, name-yes s a e (name v) (starts v p) (same_bytes n) l q y z w)
+      go (Some v) p = rw (same v, name-yes s a e (name v) (starts v p) (same_bytes n) l q u.from u.to w)
 
-declares-some : (r : Declared) (d : Declaration) → tells_declared r ≡ Some d → Declares d ≡ r
-declares-some NoDeclaration d p = never cc
-declares-some (Declares x) d p = let u : x ≡ d = cc in rw u
+declares-some : (r : Option Declaration) (d : Declaration) → tells_declared r ≡ Some d → Some d ≡ r
+declares-some None d p = never cc
+declares-some (Some x) d p = let u : x ≡ d = cc in rw u
 
-declares-none : (r : Declared) → tells_declared r ≡ None → r ≡ NoDeclaration
-declares-none NoDeclaration p = refl
-declares-none (Declares d) p = never cc
+declares-none : (r : Option Declaration) → tells_declared r ≡ None → r ≡ None
+declares-none None p = refl
+declares-none (Some d) p = never cc
 
 -- ---- declaration_named_at
-abbrev pub declaration_where : (good : Declaration → Bool) (want : ℕ) (s : List ℕ) (tag from to : ℕ) → Declared
-declaration_where good k s t a e = whose NoDeclaration tells_declared good (declaration_at k s t a e)
+abbrev pub declaration_where : (good : Declaration → Bool) (want : ℕ) (s : List ℕ) (tag from to : ℕ) → Option Declaration
+declaration_where good k s t a e = whose None tells_declared good (declaration_at k s t a e)
 
-module _ (good : Declaration → Bool) (k : ℕ) (s n : List ℕ) (t a e : ℕ) (l : Leaf) (q : l ≡ leaf_at name_tag (same_bytes n) s a e) where
+module _ (good : Declaration → Bool) (k : ℕ) (s n : List ℕ) (t a e : ℕ) (l : Option Span) (q : l ≡ leaf_at name_tag (same_bytes n) s a e) where
   starts : (d : Declaration) → tells_declared (declaration_at k s t a e) ≡ Some d → Named s a e d.name
   starts d p = declaration-name s a e d k t (declares-some (declaration_at k s t a e) d p)
 
-  pub declaration-other-name : l ≡ Not → ((d : Declaration) → good d ≡ is_text s n d.name)
-      → NoDeclaration ≡ declaration_where good k s t a e
+  pub declaration-other-name : l ≡ None → ((d : Declaration) → good d ≡ is_text s n d.name)
+      → None ≡ declaration_where good k s t a e
   declaration-other-name w same =
-      other_name NoDeclaration tells_declared (λ d. d.name) s n a e (declaration_at k s t a e) starts good same l q w
+      other_name None tells_declared (λ d. d.name) s n a e (declaration_at k s t a e) starts good same l q w
 
-  pub declaration-same-name : (y z : ℕ) → l ≡ At y z → ((d : Declaration) → good d ≡ is_text s n d.name)
-      → (r : Declared) → r ≡ declaration_at k s t a e → r ≡ declaration_where good k s t a e
-  declaration-same-name y z w same r p =
-      p ∙ same_name NoDeclaration tells_declared (λ d. d.name) s n a e (declaration_at k s t a e) starts good same l q y z w
+  pub declaration-same-name : (u : Span) → l ≡ Some u → ((d : Declaration) → good d ≡ is_text s n d.name)
+      → (r : Option Declaration) → r ≡ declaration_at k s t a e → r ≡ declaration_where good k s t a e
+  declaration-same-name u w same r p =
+      p ∙ same_name None tells_declared (λ d. d.name) s n a e (declaration_at k s t a e) starts good same l q u.from u.to w
       (declares-none (declaration_at k s t a e))
 
 pub ruleset declaration-named-at-laws = (declaration-other-name, declaration-same-name, declaration-at-laws)
@@ -187,7 +181,7 @@ declarations-item : (k d : ℕ) (s : List ℕ) (t a e : ℕ) (rest : Items)
 unfolding declaration_at
 declarations-item k d s t a e rest = go (eqb k extension_tag) refl (eqb k field_tag) refl
   where
-    neither : (k ≡ extension_tag → ⊥) → (k ≡ field_tag → ⊥) → (b : Bool) → eqb t k ≡ b → NoDeclaration ≡ declaration_at k s t a e
+    neither : (k ≡ extension_tag → ⊥) → (k ≡ field_tag → ⊥) → (b : Bool) → eqb t k ≡ b → None ≡ declaration_at k s t a e
     neither x y true p = declaration-neither k s t a e (eqb-true t k p) x y
     neither x y false p = declaration-other k s t a e (eqb-false t k p)
 
@@ -198,16 +192,16 @@ declarations-item k d s t a e rest = go (eqb k extension_tag) refl (eqb k field_
     go false p false p' = rw (p, p', ← neither (eqb-false k extension_tag p) (eqb-false k field_tag p') (eqb t k) refl)
 
 pub declarations-seek : (good : Declaration → Bool) (k d : ℕ) (s : List ℕ) (w : Walk)
-    → declared (first good (declarations_of k (items_in d s w))) ≡ seek NoDeclaration (first_of tells_declared) (declaration_where good k s) w
+    → declared (first good (declarations_of k (items_in d s w))) ≡ seek None (first_of tells_declared) (declaration_where good k s) w
 unfolding items_in
 declarations-seek good k d s =
-    seek_is NoDeclaration (first_of tells_declared) (declaration_where good k s)
+    seek_is None (first_of tells_declared) (declaration_where good k s)
     (λ w. declared (first good (declarations_of k (items_in d s w)))) (rw (declarations-none k)) (rw (declarations-none k))
     λ t a e w. rw (declarations-item k d s t a e (items_in d s w), declared-append, declared-listed)
 
 -- ---- declaration_named
-pub declaration-named-is : (k : ℕ) (s n : List ℕ) (p : LookupScope) (r : Declared)
-    → r ≡ seek NoDeclaration (first_of tells_declared) (declaration_where (λ d. is_text s n d.name) k s)
+pub declaration-named-is : (k : ℕ) (s n : List ℕ) (p : LookupScope) (r : Option Declaration)
+    → r ≡ seek None (first_of tells_declared) (declaration_where (λ d. is_text s n d.name) k s)
     (walk s p.body.from p.body.to)
     → r ≡ declared (declaration_named k s n (holding s p))
 declaration-named-is k s n p r q =

@@ -1,25 +1,24 @@
 // The first declaration of a name in a scope, and whose extension it is. Names are compared before the rest is read.
 #![tactic(auto)]
 
-ghost use Rattle.std.specs.Prelude.{◌≡◌, ◌≤◌, length};
+ghost use Rattle.std.specs.Prelude.{◌≡◌, ◌≤◌, length, None};
 ghost use Rattle.field.specs.Leaf.{is_text, Lies};
-ghost use Rattle.sheet.specs.declared.declaration.Declared.TheVariants.{NoDeclaration};
 ghost use Rattle.scope.specs.Scope.{holding, declaration_named, extends as extends_of};
 ghost use Rattle.scope.specs.inner.Answers.{InSheet, declared};
 ghost use Rattle.scope.specs.inner.Steps.{declaration_at, tells_declared, whose};
 
-use field::{Field, Leaf};
+use field::{Field, Span};
 use scope::lookup::{LookupScope, named_at};
-use sheet::declaration::{Declaration, Declared};
+use sheet::declaration::Declaration;
 use sheet::table;
 
 // The declaration that a field of a scope is, where its tag is `want`: an extension or a field. No other tag has any.
-pub fn declaration_at(s: &[u8], tag: u8, from: usize, to: usize, want: u8) -> Declared
+pub fn declaration_at(s: &[u8], tag: u8, from: usize, to: usize, want: u8) -> Option<Declaration>
     requires { (from ≤ to) × (to ≤ length s.now) }
     ensures { result ≡ declaration_at want s.now tag from to }
 {
     if tag != want {
-        return Declared::NoDeclaration;
+        return None;
     }
     if want == table::EXTENSION {
         return sheet::declaration::extension_at(s, from, to);
@@ -27,7 +26,7 @@ pub fn declaration_at(s: &[u8], tag: u8, from: usize, to: usize, want: u8) -> De
     if want == table::FIELD {
         return sheet::declaration::message_field_at(s, from, to);
     }
-    Declared::NoDeclaration
+    None
 }
 
 // The same, where it is of this name. The readers are called from here, and not through `declaration_at`: so they are compiled in line in
@@ -39,16 +38,16 @@ fn declaration_named_at(
     to: usize,
     want: u8,
     name: &[u8],
-) -> Declared
+) -> Option<Declaration>
     requires { (from ≤ to) × (to ≤ length s.now) }
-    ensures { result ≡ whose NoDeclaration tells_declared (λ d. is_text s.now name.now d.name)
+    ensures { result ≡ whose None tells_declared (λ d. is_text s.now name.now d.name)
         (declaration_at want s.now tag from to) }
 {
-    let Leaf::At { from: _, to: _ } = named_at(s, from, to, name) else {
-        return Declared::NoDeclaration;
+    let Some(Span { from: _, to: _ }) = named_at(s, from, to, name) else {
+        return None;
     };
     if tag != want {
-        return Declared::NoDeclaration;
+        return None;
     }
     if want == table::EXTENSION {
         return sheet::declaration::extension_at(s, from, to);
@@ -56,26 +55,26 @@ fn declaration_named_at(
     if want == table::FIELD {
         return sheet::declaration::message_field_at(s, from, to);
     }
-    Declared::NoDeclaration
+    None
 }
 
 // The first extension of that name that the scope declares, or the first field: the first declaration of the tag `want`.
-pub fn declaration_named(s: &[u8], scope: LookupScope, want: u8, name: &[u8]) -> Declared
+pub fn declaration_named(s: &[u8], scope: LookupScope, want: u8, name: &[u8]) -> Option<Declaration>
     requires { InSheet s.now scope }
     ensures { result ≡ declared (declaration_named want s.now name.now (holding s.now scope)) }
 {
     let end = scope.body.to;
     let mut at = scope.body.from;
     while at < end {
-        let Field::Whole { tag, from, to } = field::field_at(s, at, end) else {
-            return Declared::NoDeclaration;
+        let Some(Field { tag, from, to }) = field::field_at(s, at, end) else {
+            return None;
         };
-        if let Declared::Declares(d) = declaration_named_at(s, tag, from, to, want, name) {
-            return Declared::Declares(d);
+        if let Some(d) = declaration_named_at(s, tag, from, to, want, name) {
+            return Some(d);
         }
         at = to;
     }
-    Declared::NoDeclaration
+    None
 }
 
 // Whether an extension is of the message of this full name. Its extendee is compared as it is written.

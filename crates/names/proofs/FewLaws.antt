@@ -1,11 +1,10 @@
 -- A sheet declares fewer messages, enums and extensions than it has bytes.
 -- Assumes nothing.
-use Rattle.std.specs.Prelude.{◌≡◌, refl, List, ◌∷◌, ◌++◌, ℕ, zero, suc, ◌+◌, ◌-◌, ◌≤◌, ◌<◌, length}
+use Rattle.std.specs.Prelude.{◌≡◌, refl, List, ◌∷◌, ◌++◌, ℕ, zero, suc, ◌+◌, ◌-◌, ◌≤◌, ◌<◌, length, Some}
 use Rattle.basis.specs.Kit.{sym}
 use Rattle.basis.proofs.Kit.{arith}
 use lib.ListN.{length-append}
 use Rattle.limits.specs.Figures.{most_messages}
-use Rattle.field.specs.declared.Leaf.TheVariants.{At}
 use Rattle.field.specs.Leaf.{span, any_bytes, text}
 use Rattle.field.specs.Walk.{walk}
 use Rattle.field.proofs.LeafLaws.{leaf-bounds}
@@ -29,7 +28,7 @@ module _ (d : ℕ) (s f : List ℕ) (c : Scope) (at end t a e : ℕ) (rest : Ite
   item-few inner =
       item-cases (λ g. length (declared_in s f c (g rest)) ≤ end - at) s a e (omega arith) d t
       (λ _ h n m p.
-      let l = leaf-bounds name_tag any_bytes s a e (At n m) (sym p) n m refl in
+      let l = leaf-bounds name_tag any_bytes s a e (Some (span n m)) (sym p) n m refl in
       let i = l.inside in
       let j : at < m = omega (arith, l.starts, l.ordered) in
       let g = f ++ text s (span n m) in
@@ -62,7 +61,7 @@ files-few s at end =
     let y = b.ordered in
     let z = b.inside in
     file-cases (λ f. length (declared_by s k (f (files_in s w))) ≤ end - at) s t a e (omega (arith, h k)) λ n m p.
-    let l = leaf-bounds package_tag any_bytes s a e (At n m) (sym p) n m refl in
+    let l = leaf-bounds package_tag any_bytes s a e (Some (span n m)) (sym p) n m refl in
     let i = l.inside in
     let j : at ≤ m = omega (arith, l.starts, l.ordered) in
     let f = file_with (span n m) (span m e) (items_in most_messages s (walk s m e)) in

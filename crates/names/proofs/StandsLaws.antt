@@ -3,13 +3,12 @@
 --   Stands s w <-> it is so of w
 --
 -- Assumes nothing.
-use Rattle.std.specs.Prelude.{◌≡◌, refl, List, ℕ, zero, suc, ◌+◌, ◌-◌, ◌≤◌, length}
+use Rattle.std.specs.Prelude.{◌≡◌, refl, List, ℕ, zero, suc, ◌+◌, ◌-◌, ◌≤◌, length, Some}
 use Rattle.basis.specs.Kit.{sym}
 use mathlib.Core.Path.{subst}
 use Rattle.basis.proofs.Kit.{arith}
 use Rattle.basis.proofs.FirstLaws.{Every, none_of, one_of, every_append}
 use Rattle.limits.specs.Figures.{most_messages}
-use Rattle.field.specs.declared.Leaf.TheVariants.{At}
 use Rattle.field.specs.Leaf.{span, any_bytes, leaf_at, text, Lies}
 use Rattle.field.specs.Walk.{walk}
 use Rattle.field.proofs.LeafLaws.{leaf-inside}
@@ -21,6 +20,7 @@ use Rattle.sheet.proofs.MemberLaws.{item-cases}
 use Rattle.sheet.proofs.LyingLaws.{places-within, Filed, filed-none, filed-one, tree-lies}
 use Rattle.scope.specs.Scope.{Scope, file_scope}
 use Rattle.names.specs.Names.{What, message, enumeration, extension, Named, file_front, declared_in, declared_by, every_declared}
+use Rattle.field.specs.declared.Span.{Span}
 
 abbrev pub Stands : (s : List ℕ) → What → Type 0
 Stands s (message c) =
@@ -33,8 +33,8 @@ All s bs = Every (λ b. Stands s b.what) bs
 
 module _ (d : ℕ) (s f : List ℕ) (c : Scope) (same : c.place.left ≡ d) (t a e : ℕ) (rest : Items) (h : e ≤ length s)
     (k : All s (declared_in s f c rest)) where
-  body-lies : (n m : ℕ) → leaf_at name_tag any_bytes s a e ≡ At n m → Lies (span m e) s
-  body-lies n m p = (leaf-inside name_tag any_bytes s a e (At n m) (sym p) n m refl, h)
+  body-lies : (q : Span) → leaf_at name_tag any_bytes s a e ≡ Some q → Lies (span q.to e) s
+  body-lies q p = (leaf-inside name_tag any_bytes s a e (Some q) (sym p) q refl, h)
 
   item-stands : ((d ≡ 0 → ⊥) → (f : List ℕ) (c : Scope) → c.place.left ≡ d - 1 → (at : ℕ)
       → All s (declared_in s f c (items_in (d - 1) s (walk s at e))))

@@ -4,7 +4,7 @@
 --   EnteredOn s h at p x <-> the inside that was reached from a field of the shape h, whose part ends at a place
 --
 -- Assumes nothing.
-use Rattle.std.specs.Prelude.{◌≡◌, refl, Bool, true, false, List, [], ◌∷◌, map, ℕ, suc, ◌+◌, ◌-◌, ◌*◌, ◌≤◌, ◌<◌, eqb, length}
+use Rattle.std.specs.Prelude.{◌≡◌, refl, Bool, true, false, List, [], ◌∷◌, map, ℕ, suc, ◌+◌, ◌-◌, ◌*◌, ◌≤◌, ◌<◌, eqb, length, Err, None, Some, Ok, Option, Result}
 use Rattle.basis.specs.Kit.{sym, ap, ◌∙◌}
 use Rattle.basis.specs.Kit.{sets}
 use Rattle.basis.specs.First.{only_if}
@@ -24,19 +24,13 @@ use Rattle.sheet.specs.declared.declaration.Declaration.{Declaration}
 use Rattle.sheet.specs.declared.declaration.Shape.{Shape}
 use Rattle.scope.specs.declared.lookup.LookupScope.{LookupScope}
 use Rattle.scope.specs.inner.Answers.{InSheet}
-use Rattle.fullname.specs.declared.LookedUp.{LookedUp}
-use Rattle.fullname.specs.declared.LookedUp.TheVariants.{Message as Is, NoMessage}
 use Rattle.request.specs.declared.name.Part.{Part}
-use Rattle.request.specs.declared.name.Parted.{Parted}
-use Rattle.request.specs.declared.name.Parted.TheVariants.{Is as IsPart, NoPart}
 use Rattle.request.specs.Name.{part_at, parts_in}
 use Rattle.request.proofs.PartLaws.{parts-nil, parts-cons, part-inside, part-further}
 use Rattle.optionform.proofs.PartsLaws.{fine-part-laws, fine-part-next}
 use Rattle.lookups.specs.Lookups.{Lookups, Message, walking}
 use Rattle.lookups.proofs.LookupLaws.{message-lies}
 use Rattle.steps.specs.declared.Lack.{Lack}
-use Rattle.steps.specs.declared.Step.{Step}
-use Rattle.steps.specs.declared.Step.TheVariants.{Found, NotFound}
 use Rattle.steps.specs.declared.Reach.{Reach}
 use Rattle.steps.specs.declared.Reach.TheVariants.{Constant, Inside, Nothing, Fails}
 use Rattle.steps.specs.Steps.{why_of, step_of}
@@ -66,10 +60,10 @@ module _ (L : Lookups) (s : List ℕ) (h : Shape) (at : ℕ) where
   unfolding left_on
   left-no-constant {C} h' x e = go (eqb h.typ TYPE_MESSAGE) (eqb h.typ TYPE_GROUP) (L.message (text s h.path)) e
     where
-      go : (b c : Bool) (u : LookedUp)
+      go : (b c : Bool) (u : Result LookupScope Refusal)
           → elim b [ true ↦ entered h at u | false ↦ elim c [ true ↦ Nothing | false ↦ Fails ExtensionIsNotMessage ] ] ≡ Constant h' x → C
-      go true c (NoMessage w) e = nothing_left cc
-      go true c (Is p) e = nothing_left cc
+      go true c (Err w) e = nothing_left cc
+      go true c (Ok p) e = nothing_left cc
       go false true u e = nothing_left cc
       go false false u e = nothing_left cc
 
@@ -79,13 +73,13 @@ unfolding left_on
 entered_on s h at h' p x e =
     go (eqb h.typ TYPE_MESSAGE) (eqb h.typ TYPE_GROUP) ((walking s).message (text s h.path)) refl e
   where
-    go : (b c : Bool) (u : LookedUp) → u ≡ (walking s).message (text s h.path)
+    go : (b c : Bool) (u : Result LookupScope Refusal) → u ≡ (walking s).message (text s h.path)
         → elim b [ true ↦ entered h at u | false ↦ elim c [ true ↦ Nothing | false ↦ Fails ExtensionIsNotMessage ] ] ≡ Inside h' p x
         → EnteredOn s h at h' p x
-    go true c (NoMessage w) q e = nothing_left cc
-    go true c (Is y) q e =
-        let i : Is y ≡ Is p = cc in
-        record { shape = cc; from = cc; place = message-lies s (text s h.path) (Is y) q p i }
+    go true c (Err w) q e = nothing_left cc
+    go true c (Ok y) q e =
+        let i : Ok y ≡ Ok p = cc in
+        record { shape = cc; from = cc; place = message-lies s (text s h.path) (Ok y) q p i }
     go false true u q e = nothing_left cc
     go false false u q e = nothing_left cc
 
@@ -94,21 +88,21 @@ module _ (L : Lookups) (s q : List ℕ) (i : ℕ) (d : Declaration) (at : ℕ) (
   unfolding left_on
   left-reach = go (eqb d.shape.typ TYPE_MESSAGE) (eqb d.shape.typ TYPE_GROUP) (L.message (text s d.shape.path))
     where
-      go : (b c : Bool) (u : LookedUp)
+      go : (b c : Bool) (u : Result LookupScope Refusal)
           → elim b [
             | true ↦ on_message i (text s d.shape.path) u f
             | false ↦ elim c [ true ↦ group | false ↦ refused_at i ExtensionIsNotMessage ]
           ]
           ≡ of_reach s i (elim b [ true ↦ entered d.shape at u | false ↦ elim c [ true ↦ Nothing | false ↦ Fails ExtensionIsNotMessage ] ]) f
-      go true c (NoMessage w) = refl
-      go true c (Is p) = refl
+      go true c (Err w) = refl
+      go true c (Ok p) = refl
       go false true u = refl
       go false false u = refl
 
   also-left : also d (left L s q i d f) ≡ left L s q i d (λ m. also d (f m))
   also-left = go (eqb d.shape.typ TYPE_MESSAGE) (eqb d.shape.typ TYPE_GROUP) (L.message (text s d.shape.path))
     where
-      go : (b c : Bool) (u : LookedUp)
+      go : (b c : Bool) (u : Result LookupScope Refusal)
           → also d (elim b [
             | true ↦ on_message i (text s d.shape.path) u f
             | false ↦ elim c [ true ↦ group | false ↦ refused_at i ExtensionIsNotMessage ]
@@ -117,8 +111,8 @@ module _ (L : Lookups) (s q : List ℕ) (i : ℕ) (d : Declaration) (at : ℕ) (
             | true ↦ on_message i (text s d.shape.path) u (λ m. also d (f m))
             | false ↦ elim c [ true ↦ group | false ↦ refused_at i ExtensionIsNotMessage ]
           ]
-      go true c (NoMessage w) = refl
-      go true c (Is p) = refl
+      go true c (Err w) = refl
+      go true c (Ok p) = refl
       go false true u = refl
       go false false u = refl
 
@@ -128,9 +122,9 @@ module _ (L : Lookups) (s q : List ℕ) (d : Declaration) (at end : ℕ) (v : Re
   unfolding behind
   none_left h x g = go (part_at q at end) refl (sym e ∙ g)
     where
-      go : (r : Parted) → r ≡ part_at q at end → followed L s d.shape at r ≡ Constant h x → parts_in (walk q at end) ≡ []
-      go NoPart y z = parts-nil q at end NoPart y refl
-      go (IsPart p) y z = left-no-constant L s d.shape at h x z
+      go : (r : Option Part) → r ≡ part_at q at end → followed L s d.shape at r ≡ Constant h x → parts_in (walk q at end) ≡ []
+      go None y z = parts-nil q at end None y refl
+      go (Some p) y z = left-no-constant L s d.shape at h x z
 
   -- else what is left leads where the steps lead
   module _ (n : (h : Shape) (x : ℕ) → v ≡ Constant h x → ⊥) where
@@ -138,23 +132,23 @@ module _ (L : Lookups) (s q : List ℕ) (d : Declaration) (at end : ℕ) (v : Re
     unfolding behind
     leads-on = go (part_at q at end) e
       where
-        go : (r : Parted) → v ≡ followed L s d.shape at r → v ≡ left_on L s d.shape at
-        go NoPart z = absurd (n d.shape at z)
-        go (IsPart p) z = z
+        go : (r : Option Part) → v ≡ followed L s d.shape at r → v ≡ left_on L s d.shape at
+        go None z = absurd (n d.shape at z)
+        go (Some p) z = z
 
     behind-reach : (i : ℕ) → behind_part L s q i d (parts_in (walk q at end))
         ≡ of_reach s i v (λ m. declarations L s q (i + 1) m (parts_in (walk q at end)))
     unfolding behind
     behind-reach i = go (part_at q at end) refl e
       where
-        go : (r : Parted) → r ≡ part_at q at end → v ≡ followed L s d.shape at r
+        go : (r : Option Part) → r ≡ part_at q at end → v ≡ followed L s d.shape at r
             → behind_part L s q i d (parts_in (walk q at end))
             ≡ of_reach s i v (λ m. declarations L s q (i + 1) m (parts_in (walk q at end)))
-        go NoPart y z = absurd (n d.shape at z)
-        go (IsPart o) y z =
+        go None y z = absurd (n d.shape at z)
+        go (Some o) y z =
             let ps = parts_in (walk q o.name.to end) in
             subst (λ (xs : List Part). behind_part L s q i d xs ≡ of_reach s i v (λ m. declarations L s q (i + 1) m xs))
-            (sym (parts-cons q at end (IsPart o) y o refl))
+            (sym (parts-cons q at end (Some o) y o refl))
             (left-reach L s q i d at (λ m. declarations L s q (i + 1) m (o ∷ ps))
             ∙ ap (λ (u : Reach). of_reach s i u (λ m. declarations L s q (i + 1) m (o ∷ ps))) (sym z))
 
@@ -179,23 +173,23 @@ module _ (L : Lookups) (s q : List ℕ) where
       → Onward d f ds
   left-onward i d f ds = go (eqb d.shape.typ TYPE_MESSAGE) (eqb d.shape.typ TYPE_GROUP) (L.message (text s d.shape.path))
     where
-      go : (b c : Bool) (u : LookedUp)
+      go : (b c : Bool) (u : Result LookupScope Refusal)
           → elim b [
             | true ↦ on_message i (text s d.shape.path) u (λ n. also d (f n))
             | false ↦ elim c [ true ↦ group | false ↦ refused_at i ExtensionIsNotMessage ]
           ]
           ≡ names ds → Onward d f ds
-      go true c (NoMessage w) e = nothing_left cc
-      go true c (Is p) e = record { message = message (text s d.shape.path) p; is = e }
+      go true c (Err w) e = nothing_left cc
+      go true c (Ok p) e = record { message = message (text s d.shape.path) p; is = e }
       go false true u e = nothing_left cc
       go false false u e = nothing_left cc
 
   -- whichever places the parts behind have
   more-length : (i k : ℕ) (ds : List Declaration) (ps : List Part)
-      → ((j : ℕ) (n : Message) (es : List Declaration) → declarations L s q j n ps ≡ names es → length es ≡ length ps) → (v : Step)
+      → ((j : ℕ) (n : Message) (es : List Declaration) → declarations L s q j n ps ≡ names es → length es ≡ length ps) → (v : Result Declaration Lack)
       → on_step i v (λ d. left L s q i d (λ n. also d (declarations L s q k n ps))) ≡ names ds → length ds ≡ suc (length ps)
-  more-length i k ds ps more (NotFound l) e = nothing_left cc
-  more-length i k ds ps more (Found d) e =
+  more-length i k ds ps more (Err l) e = nothing_left cc
+  more-length i k ds ps more (Ok d) e =
       let x = left-onward i d (λ n. declarations L s q k n ps) ds e in
       let y = also-behind d (declarations L s q k x.message ps) ds x.is in
       rw y.one (ap suc (more k x.message y.rest y.is))
@@ -205,9 +199,9 @@ module _ (L : Lookups) (s q : List ℕ) where
   declarations-length [] i m ds e = let z : ds ≡ [] = cc in rw z
   declarations-length (p ∷ []) i m ds e = go (step_of L s q [] m p) e
     where
-      go : (v : Step) → on_step i v (λ d. names (d ∷ [])) ≡ names ds → length ds ≡ 1
-      go (NotFound l) e = nothing_left cc
-      go (Found d) e = let z : ds ≡ d ∷ [] = cc in rw z
+      go : (v : Result Declaration Lack) → on_step i v (λ d. names (d ∷ [])) ≡ names ds → length ds ≡ 1
+      go (Err l) e = nothing_left cc
+      go (Ok d) e = let z : ds ≡ d ∷ [] = cc in rw z
   declarations-length (p ∷ o ∷ ps) i m ds e = more-length i _ ds (o ∷ ps) (declarations-length (o ∷ ps)) (step_of L s q [] m p) e
 
 -- ---- the keys of declarations, one in front of others
@@ -242,7 +236,7 @@ module _ (q scope : List ℕ) (at k : ℕ) (ws : List ℕ) (o : Namable q scope 
   unfolding is_rel_or_empty components all_ident
   namable-scope = rw o.empty refl
 
-  pub namable-next : (r : Parted) → r ≡ part_at q at (length q) → (p : Part) → r ≡ IsPart p → Namable q scope p.name.to (k + 1) ws
+  pub namable-next : (r : Option Part) → r ≡ part_at q at (length q) → (p : Part) → r ≡ Some p → Namable q scope p.name.to (k + 1) ws
   namable-next r y p g = record {
     within = part-inside q at (length q) r y p g;
     parts = fine-part-next _ q at (length q) o.parts r y p g;
@@ -259,27 +253,27 @@ module _ (q scope : List ℕ) (at k : ℕ) (ws : List ℕ) (o : Namable q scope 
   index-fits = record { fits = omega (arith, o.room, o.few) }
 
 -- ---- declare
-module _ (q : List ℕ) (at : ℕ) (r : Parted) (y : r ≡ part_at q at (length q)) where
-  pub declared-none : (joins : Declaration → Bool) (L : Lookups) (s : List ℕ) (m : Message) (k : ℕ) (ws : List ℕ) → r ≡ NoPart
+module _ (q : List ℕ) (at : ℕ) (r : Option Part) (y : r ≡ part_at q at (length q)) where
+  pub declared-none : (joins : Declaration → Bool) (L : Lookups) (s : List ℕ) (m : Message) (k : ℕ) (ws : List ℕ) → r ≡ None
       → Declares joins (declarations L s q k m (parts_in (walk q at (length q)))) k ws ws (Parts k)
   declared-none joins L s m k ws g =
       subst (λ (xs : List Part). Declares joins (declarations L s q k m xs) k ws ws (Parts k)) (sym (parts-nil q at (length q) r y g))
       (declares {ds = []} (sym (add-zero k)) refl refl)
 
-  module _ (p : Part) (g : r ≡ IsPart p) (joins : Declaration → Bool) (L : Lookups) (s scope : List ℕ) (c : scope ≡ []) (m : Message) (v : Step)
+  module _ (p : Part) (g : r ≡ Some p) (joins : Declaration → Bool) (L : Lookups) (s scope : List ℕ) (c : scope ≡ []) (m : Message) (v : Result Declaration Lack)
       (z : v ≡ step_of L s q scope m p) where
     step-empty : step_of L s q [] m p ≡ v
     step-empty = ap (λ (x : List ℕ). step_of L s q x m p) (sym c) ∙ sym z
 
     with-step : (k : ℕ) (ps : List Part) → declarations L s q k m (p ∷ ps) ≡ step_part L s q k v ps
-    with-step k [] = ap (λ (x : Step). on_step k x (λ d. names (d ∷ []))) step-empty
+    with-step k [] = ap (λ (x : Result Declaration Lack). on_step k x (λ d. names (d ∷ []))) step-empty
     with-step k (o ∷ ps) =
-        ap (λ (x : Step). on_step k x (λ d. left L s q k d (λ n. also d (declarations L s q (k + 1) n (o ∷ ps))))) step-empty ∙ go v
+        ap (λ (x : Result Declaration Lack). on_step k x (λ d. left L s q k d (λ n. also d (declarations L s q (k + 1) n (o ∷ ps))))) step-empty ∙ go v
       where
-        go : (v : Step) → on_step k v (λ d. left L s q k d (λ n. also d (declarations L s q (k + 1) n (o ∷ ps))))
+        go : (v : Result Declaration Lack) → on_step k v (λ d. left L s q k d (λ n. also d (declarations L s q (k + 1) n (o ∷ ps))))
             ≡ step_part L s q k v (o ∷ ps)
-        go (NotFound l) = refl
-        go (Found d) = sym (also-left L s q k d 0 (λ n. declarations L s q (k + 1) n (o ∷ ps)))
+        go (Err l) = refl
+        go (Ok d) = sym (also-left L s q k d 0 (λ n. declarations L s q (k + 1) n (o ∷ ps)))
 
     pub declared-step : (k : ℕ) (ws ws' : List ℕ) (u : Naming)
         → Declares joins (step_part L s q k v (parts_in (walk q p.name.to (length q)))) k ws ws' u
@@ -288,16 +282,16 @@ module _ (q : List ℕ) (at : ℕ) (r : Parted) (y : r ≡ part_at q at (length 
         subst (λ (n : Named). Declares joins n k ws ws' u)
         (sym (ap (declarations L s q k m) (parts-cons q at (length q) r y p g) ∙ with-step k (parts_in (walk q p.name.to (length q))))) j
 
-  pub declare-falls : (p : Part) → r ≡ IsPart p → (n : ℕ) → 3 * (length q - at) ≡ n → 3 * (length q - p.name.to) + 2 < n
+  pub declare-falls : (p : Part) → r ≡ Some p → (n : ℕ) → 3 * (length q - at) ≡ n → 3 * (length q - p.name.to) + 2 < n
   declare-falls p g n e = omega (arith, part-inside q at (length q) r y p g, part-further q at (length q) r y p g)
 
 -- ---- declare_step
-module _ (joins : Declaration → Bool) (L : Lookups) (s q : List ℕ) (k : ℕ) (ws ws' : List ℕ) (ps : List Part) (v : Step) where
-  pub step-refused : (l : Lack) → v ≡ NotFound l → (w : Refusal) → w ≡ why_of l
+module _ (joins : Declaration → Bool) (L : Lookups) (s q : List ℕ) (k : ℕ) (ws ws' : List ℕ) (ps : List Part) (v : Result Declaration Lack) where
+  pub step-refused : (l : Lack) → v ≡ Err l → (w : Refusal) → w ≡ why_of l
       → Declares joins (step_part L s q k v ps) k ws ws' (Refused (of_part k w))
   step-refused l n w e = rw (n, e) refuses
 
-  pub step-noted : (d : Declaration) → v ≡ Found d → ws' ≡ sets ws (k * key_words) (d.name.from ∷ only_if (joins d) 1 0 ∷ [])
+  pub step-noted : (d : Declaration) → v ≡ Ok d → ws' ≡ sets ws (k * key_words) (d.name.from ∷ only_if (joins d) 1 0 ∷ [])
       → (scope : List ℕ) (at : ℕ) → Namable q scope at (k + 1) ws → (us : List ℕ) (u : Naming)
       → Declares joins (behind_part L s q k d ps) (k + 1) ws' us u → Declares joins (step_part L s q k v ps) k ws us u
   step-noted d n w scope at o us u j = rw n (declares-more joins d k ws ws' w (noted-room q scope at k ws o) j refl refl)

@@ -10,7 +10,7 @@
 --   declarations L s q i m ps == those of the parts ps of the name q, the i-th first, from the message m on
 --
 -- Assumes nothing.
-use Rattle.std.specs.Prelude.{true, false, List, [], ◌∷◌, ℕ, ◌+◌, eqb}
+use Rattle.std.specs.Prelude.{true, false, List, [], ◌∷◌, ℕ, ◌+◌, eqb, Err, Ok, Result}
 use Rattle.reply.specs.declared.Refusal.{Refusal}
 use Rattle.reply.specs.declared.Refusal.TheVariants.{ExtensionIsNotMessage}
 use Rattle.reply.specs.declared.Where.TheVariants.{Part as AtPart}
@@ -18,13 +18,11 @@ use Rattle.reply.specs.declared.Cause.{Cause}
 use Rattle.field.specs.Leaf.{text}
 use Rattle.types.specs.Types.{TYPE_GROUP, TYPE_MESSAGE}
 use Rattle.sheet.specs.declared.declaration.Declaration.{Declaration}
-use Rattle.fullname.specs.declared.LookedUp.{LookedUp}
-use Rattle.fullname.specs.declared.LookedUp.TheVariants.{Message as Is, NoMessage}
 use Rattle.request.specs.declared.name.Part.{Part}
 use Rattle.lookups.specs.Lookups.{Lookups, Message}
-use Rattle.steps.specs.declared.Step.{Step}
-use Rattle.steps.specs.declared.Step.TheVariants.{Found, NotFound}
 use Rattle.steps.specs.Steps.{why_of, step_of}
+use Rattle.scope.specs.declared.lookup.LookupScope.{LookupScope}
+use Rattle.steps.specs.declared.Lack.{Lack}
 
 pub data Named : Type 0 where
   names : List Declaration → Named
@@ -40,13 +38,13 @@ also d (names ds) = names (d ∷ ds)
 also d group = group
 also d (refused_at i w) = refused_at i w
 
-abbrev pub on_step : (part : ℕ) → Step → (Declaration → Named) → Named
-on_step i (NotFound l) f = refused_at i (why_of l)
-on_step i (Found d) f = f d
+abbrev pub on_step : (part : ℕ) → Result Declaration Lack → (Declaration → Named) → Named
+on_step i (Err l) f = refused_at i (why_of l)
+on_step i (Ok d) f = f d
 
-abbrev pub on_message : (part : ℕ) (name : List ℕ) → LookedUp → (Message → Named) → Named
-on_message i name (NoMessage w) f = refused_at i w
-on_message i name (Is p) f = f (record { name = name; place = p })
+abbrev pub on_message : (part : ℕ) (name : List ℕ) → Result LookupScope Refusal → (Message → Named) → Named
+on_message i name (Err w) f = refused_at i w
+on_message i name (Ok p) f = f (record { name = name; place = p })
 
 module _ (L : Lookups) (s q : List ℕ) where
   -- "Parts left on a message go inside it; on a group .. the rest is unread ..; on any other type 6" [STEP-7, STEP-8, STEP-9]

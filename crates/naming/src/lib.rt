@@ -16,10 +16,10 @@ ghost use Rattle.following.specs.inner.Keys.{key_words};
 ghost use Rattle.naming.specs.inner.Naming.{Declares, Namable, behind_part, step_part};
 
 use reply::{Cause, Where};
-use request::name::{Parted, part_at};
+use request::name::{part_at, Part};
 use scope::lookup::LookupScope;
 use sheet::declaration::Declaration;
-use steps::{Reach, Step, behind, step_of, why_of};
+use steps::{Reach, behind, step_of, why_of, Lack};
 
 // What a name comes to: so many parts, whose keys were noted; that parts are left on a group; or why not, and at which part.
 #[derive(Clone, Copy)]
@@ -87,7 +87,7 @@ fn declare_step(
     sheet: &[u8],
     name: &[u8],
     scope: &[u8],
-    step: Step,
+    step: Result<Declaration, Lack>,
     from: usize,
     index: u32,
     keys: &mut [usize],
@@ -98,11 +98,11 @@ fn declare_step(
         (parts_in (walk name.now from (length name.now)))) index keys.old keys.new result }
 {
     match step {
-        Step::NotFound(lack) => Naming::Refused(Cause {
+        Err(lack) => Naming::Refused(Cause {
             why: why_of(lack),
             place: Where::Part(index),
         }),
-        Step::Found(d) => {
+        Ok(d) => {
             note_key(keys, index as usize, d);
             declare_behind(sheet, name, scope, d, from, index, keys)
         }
@@ -127,7 +127,7 @@ pub fn declare(
         (message_of message.now place) (parts_in (walk name.now from (length name.now)))) index
         keys.old keys.new result }
 {
-    let Parted::Is(part) = part_at(name, from, name.len()) else {
+    let Some(part) = part_at(name, from, name.len()) else {
         return Naming::Parts(index as usize);
     };
     let step = step_of(sheet, name, scope, message, place, part);

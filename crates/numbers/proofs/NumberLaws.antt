@@ -4,25 +4,19 @@
 --     file_where good s t a e == the first one in a field of a sheet
 --
 -- Assumes nothing.
-use Rattle.std.specs.Prelude.{◌≡◌, refl, Bool, true, false, List, [], ℕ, ◌-◌, ◌<◌, eqb, length}
+use Rattle.std.specs.Prelude.{◌≡◌, refl, Bool, true, false, List, [], ℕ, ◌-◌, ◌<◌, eqb, length, None, Some, Option}
 use Rattle.basis.specs.Kit.{sym, ◌∙◌}
 use Rattle.basis.proofs.Kit.{arith, eq-eqb, ne_eqb, not-true, not-false}
 use mathlib.Core.List.{append-nil}
 use borrow.Author.Tests.{eqb-false}
 use Rattle.basis.proofs.Never.{never}
 use Rattle.limits.specs.Figures.{most_messages}
-use Rattle.field.specs.declared.Leaf.{Leaf}
-use Rattle.field.specs.declared.Leaf.TheVariants.{At, Not}
-use Rattle.field.specs.Leaf.{is_text, any_bytes, leaf_at}
-use Rattle.field.specs.declared.Field.{Field}
-use Rattle.field.specs.declared.Field.TheVariants.{Whole}
-use Rattle.field.specs.Field.{field_at}
+use Rattle.field.specs.Leaf.{is_text, any_bytes, leaf_at, span}
+use Rattle.field.specs.Field.{field_at, field}
 use Rattle.field.specs.Walk.{Walk, walk}
 use Rattle.field.proofs.LeafLaws.{leaf-inside}
 use Rattle.field.proofs.Seek.{seek, seek_is, Seeking, seek-start, seek-next, seek-laws}
 use Rattle.sheet.specs.declared.declaration.Declaration.{Declaration}
-use Rattle.sheet.specs.declared.declaration.Declared.{Declared}
-use Rattle.sheet.specs.declared.declaration.Declared.TheVariants.{Declares, NoDeclaration}
 use Rattle.sheet.specs.Table.{file_tag, message_tag, extension_tag, field_tag, package_tag, name_tag}
 use Rattle.sheet.specs.Tree.{none, message_in, items_in, files_in}
 use Rattle.sheet.specs.Members.{every_extension_of, every_extension}
@@ -40,6 +34,8 @@ use Rattle.named.proofs.DeclaredPlaces.{declaration-at-ordered, declaration-at-p
 use Rattle.named.proofs.NamedLaws.{declaration_where, declarations-seek}
 use Rattle.numbers.specs.inner.Says.{extension_says, may_hold}
 use Rattle.numbers.proofs.SaysLaws.{field-tag-other, field-says-other, extension-tag-other, extension-says-other}
+use Rattle.field.specs.declared.Field.{Field}
+use Rattle.field.specs.declared.Span.{Span}
 
 -- ---- field_numbered_at
 pub ruleset field-numbered-at-laws = (whose-laws, eq-eqb, ne_eqb, field-tag-other, field-says-other, not-true, not-false)
@@ -79,8 +75,8 @@ module _ (k : ℕ) (s : List ℕ) (t a e : ℕ) where
 pub ruleset may-hold-laws = (may-extension, may-other)
 
 -- ---- field_numbered
-pub field-numbered-is : (k : ℕ) (s : List ℕ) (p : LookupScope) (r : Declared)
-    → r ≡ seek NoDeclaration (first_of tells_declared) (declaration_where (has_number k) field_tag s) (walk s p.body.from p.body.to)
+pub field-numbered-is : (k : ℕ) (s : List ℕ) (p : LookupScope) (r : Option Declaration)
+    → r ≡ seek None (first_of tells_declared) (declaration_where (has_number k) field_tag s) (walk s p.body.from p.body.to)
     → r ≡ declared (field_numbered k (holding s p))
 field-numbered-is k s p r q = q ∙ sym (declarations-seek (has_number k) field_tag p.left s (walk s p.body.from p.body.to))
 
@@ -88,35 +84,35 @@ pub ruleset field-numbered-laws = (field-numbered-is, seek-laws)
 
 -- ---- extension_in_item and extension_in_items
 module _ (good : Declaration → Bool) (d : ℕ) (s : List ℕ) (t a e : ℕ) where
-  pub in-item-other : (t ≡ message_tag → ⊥) → (r : Declared) → r ≡ declaration_where good extension_tag s t a e
+  pub in-item-other : (t ≡ message_tag → ⊥) → (r : Option Declaration) → r ≡ declaration_where good extension_tag s t a e
       → r ≡ declared (first good (every_extension_of (item_at d s t a e)))
   unfolding declaration_at
   in-item-other h r q = rw (every-extension-flat d s t a e none h, append-nil, declared-listed) q
 
   module _ (h : t ≡ message_tag) where
-    pub in-item-beyond : d ≡ 0 → NoDeclaration ≡ declared (first good (every_extension_of (item_at d s t a e)))
+    pub in-item-beyond : d ≡ 0 → None ≡ declared (first good (every_extension_of (item_at d s t a e)))
     in-item-beyond z = rw (item-message (message_in d s) s t a e none h, message-beyond d s a e none z)
 
-    module _ (l : Leaf) (q : l ≡ leaf_at name_tag any_bytes s a e) where
-      pub in-item-unnamed : l ≡ Not → NoDeclaration ≡ declared (first good (every_extension_of (item_at d s t a e)))
+    module _ (l : Option Span) (q : l ≡ leaf_at name_tag any_bytes s a e) where
+      pub in-item-unnamed : l ≡ None → None ≡ declared (first good (every_extension_of (item_at d s t a e)))
       in-item-unnamed g = rw (item-message (message_in d s) s t a e none h, message-unnamed d s a e none l q g)
 
-      pub in-item-named : (d ≡ 0 → ⊥) → (n m : ℕ) → l ≡ At n m → (x : Declared)
-          → x ≡ declared (first good (every_extension_of (items_in (d - 1) s (walk s m e))))
+      pub in-item-named : (d ≡ 0 → ⊥) → (u : Span) → l ≡ Some u → (x : Option Declaration)
+          → x ≡ declared (first good (every_extension_of (items_in (d - 1) s (walk s u.to e))))
           → x ≡ declared (first good (every_extension_of (item_at d s t a e)))
-      in-item-named z n m g x p =
-          rw (item-message (message_in d s) s t a e none h, message-named d s a e none z l q n m g, append-nil) p
+      in-item-named z u g x p =
+          rw (item-message (message_in d s) s t a e none h, message-named d s a e none z l q u.from u.to g, append-nil) p
 
 pub ruleset in-item-laws = (in-item-other, in-item-beyond, in-item-unnamed, in-item-named, leaf-inside)
 
-abbrev pub item_where : (good : Declaration → Bool) (left : ℕ) (s : List ℕ) (tag from to : ℕ) → Declared
+abbrev pub item_where : (good : Declaration → Bool) (left : ℕ) (s : List ℕ) (tag from to : ℕ) → Option Declaration
 item_where good d s t a e = declared (first good (every_extension_of (item_at d s t a e)))
 
-pub in-items-is : (good : Declaration → Bool) (d : ℕ) (s : List ℕ) (w : Walk) (r : Declared)
-    → r ≡ seek NoDeclaration (first_of tells_declared) (item_where good d s) w → r ≡ declared (first good (every_extension_of (items_in d s w)))
+pub in-items-is : (good : Declaration → Bool) (d : ℕ) (s : List ℕ) (w : Walk) (r : Option Declaration)
+    → r ≡ seek None (first_of tells_declared) (item_where good d s) w → r ≡ declared (first good (every_extension_of (items_in d s w)))
 unfolding items_in
 in-items-is good d s w r q =
-    q ∙ sym (seek_is NoDeclaration (first_of tells_declared) (item_where good d s)
+    q ∙ sym (seek_is None (first_of tells_declared) (item_where good d s)
     (λ w. declared (first good (every_extension_of (items_in d s w)))) refl refl
     (λ t a e w. rw (every-extension-item d s t a e (items_in d s w), declared-append)) w)
 
@@ -125,74 +121,74 @@ module _ (m : List ℕ) (k d : ℕ) (s : List ℕ) (t a e : ℕ) where
   no-message : t ≡ message_tag → may_hold k s t a e ≡ true
   no-message h = rw h
 
-  passed_none : may_hold k s t a e ≡ false → NoDeclaration ≡ item_where (is_extension_of s m k) d s t a e
+  passed_none : may_hold k s t a e ≡ false → None ≡ item_where (is_extension_of s m k) d s t a e
   passed_none q =
-      in-item-other (is_extension_of s m k) d s t a e (λ h. never (let u = no-message h in cc)) NoDeclaration (go (eqb t extension_tag) refl q)
+      in-item-other (is_extension_of s m k) d s t a e (λ h. never (let u = no-message h in cc)) None (go (eqb t extension_tag) refl q)
     where
       go : (c : Bool) → eqb t extension_tag ≡ c → elim c [ true ↦ extension_says k s a e | false ↦ eqb t message_tag ] ≡ false
-          → NoDeclaration ≡ declaration_where (is_extension_of s m k) extension_tag s t a e
+          → None ≡ declaration_where (is_extension_of s m k) extension_tag s t a e
       go true h g = extension-says-other k s t a e m (extension_says k s a e) refl g
       go false h g = extension-tag-other k s t a e m (eqb-false t extension_tag h)
 
   pub in-items-pass : {from to i : ℕ}
-      → Seeking NoDeclaration (first_of tells_declared) (item_where (is_extension_of s m k) d s) s from to i → i < to
-      → (r : Field) → r ≡ field_at s i to → r ≡ Whole t a e → (b : Bool) → b ≡ may_hold k s t a e → b ≡ false
-      → Seeking NoDeclaration (first_of tells_declared) (item_where (is_extension_of s m k) d s) s from to e
-  in-items-pass l h r q g b u z = seek-next l h r q t a e g NoDeclaration (passed_none (sym u ∙ z)) refl (λ y. refl)
+      → Seeking None (first_of tells_declared) (item_where (is_extension_of s m k) d s) s from to i → i < to
+      → (r : Option Field) → r ≡ field_at s i to → r ≡ Some (field t a e) → (b : Bool) → b ≡ may_hold k s t a e → b ≡ false
+      → Seeking None (first_of tells_declared) (item_where (is_extension_of s m k) d s) s from to e
+  in-items-pass l h r q g b u z = seek-next l h r q t a e g None (passed_none (sym u ∙ z)) refl (λ y. refl)
 
 pub ruleset in-items-laws = (in-items-is, in-items-pass, seek-laws, not-true, not-false)
 
 -- ---- extension_in_file
 module _ (good : Declaration → Bool) (s : List ℕ) (t a e : ℕ) where
-  pub in-file-other : (t ≡ file_tag → ⊥) → NoDeclaration ≡ declared (first good (every_extension (file_at s t a e)))
+  pub in-file-other : (t ≡ file_tag → ⊥) → None ≡ declared (first good (every_extension (file_at s t a e)))
   in-file-other h = rw (file-other s t a e [] h)
 
-  module _ (h : t ≡ file_tag) (r : Leaf) (q : r ≡ leaf_at package_tag any_bytes s a e) where
-    pub in-file-unnamed : r ≡ Not → NoDeclaration ≡ declared (first good (every_extension (file_at s t a e)))
+  module _ (h : t ≡ file_tag) (r : Option Span) (q : r ≡ leaf_at package_tag any_bytes s a e) where
+    pub in-file-unnamed : r ≡ None → None ≡ declared (first good (every_extension (file_at s t a e)))
     in-file-unnamed g = rw (file-unnamed s t a e [] h r q g)
 
-    pub in-file-named : (n m : ℕ) → r ≡ At n m → (x : Declared)
-        → x ≡ declared (first good (every_extension_of (items_in most_messages s (walk s m e))))
+    pub in-file-named : (u : Span) → r ≡ Some u → (x : Option Declaration)
+        → x ≡ declared (first good (every_extension_of (items_in most_messages s (walk s u.to e))))
         → x ≡ declared (first good (every_extension (file_at s t a e)))
-    in-file-named n m g x p = rw (file-named s t a e [] h r q n m g, append-nil) p
+    in-file-named u g x p = rw (file-named s t a e [] h r q u.from u.to g, append-nil) p
 
 pub ruleset in-file-laws = (in-file-other, in-file-unnamed, in-file-named, leaf-inside)
 
 -- ---- extension_numbered
-abbrev pub file_where : (good : Declaration → Bool) (s : List ℕ) (tag from to : ℕ) → Declared
+abbrev pub file_where : (good : Declaration → Bool) (s : List ℕ) (tag from to : ℕ) → Option Declaration
 file_where good s t a e = declared (first good (every_extension (file_at s t a e)))
 
 module _ (s m : List ℕ) (k to : ℕ) (h : to ≡ length s) where
-  pub extension-numbered-start : Seeking NoDeclaration (first_of tells_declared) (file_where (is_extension_of s m k) s) s 0 to 0
+  pub extension-numbered-start : Seeking None (first_of tells_declared) (file_where (is_extension_of s m k) s) s 0 to 0
   extension-numbered-start =
-      seek-start NoDeclaration (first_of tells_declared) (file_where (is_extension_of s m k) s) s 0 to (omega arith) (omega arith)
+      seek-start None (first_of tells_declared) (file_where (is_extension_of s m k) s) s 0 to (omega arith) (omega arith)
 
   -- the loop is a premise so that a search reads from it where the sheet ends
-  pub extension-numbered-is : (r : Declared) (i : ℕ)
-      → Seeking NoDeclaration (first_of tells_declared) (file_where (is_extension_of s m k) s) s 0 to i
-      → r ≡ seek NoDeclaration (first_of tells_declared) (file_where (is_extension_of s m k) s) (walk s 0 to)
+  pub extension-numbered-is : (r : Option Declaration) (i : ℕ)
+      → Seeking None (first_of tells_declared) (file_where (is_extension_of s m k) s) s 0 to i
+      → r ≡ seek None (first_of tells_declared) (file_where (is_extension_of s m k) s) (walk s 0 to)
       → r ≡ declared (extension_numbered s m k)
   extension-numbered-is r i _ q = q ∙ rw (h, tree-files s) (sym (files (walk s 0 (length s))))
     where
       files : (w : Walk) → declared (first (is_extension_of s m k) (every_extension (files_in s w)))
-          ≡ seek NoDeclaration (first_of tells_declared) (file_where (is_extension_of s m k) s) w
+          ≡ seek None (first_of tells_declared) (file_where (is_extension_of s m k) s) w
       files =
-          seek_is NoDeclaration (first_of tells_declared) (file_where (is_extension_of s m k) s)
+          seek_is None (first_of tells_declared) (file_where (is_extension_of s m k) s)
           (λ w. declared (first (is_extension_of s m k) (every_extension (files_in s w)))) refl refl
           λ t a e w. rw (every-extension-file s t a e (files_in s w), declared-append)
 
 pub ruleset extension-numbered-laws = (extension-numbered-start, extension-numbered-is, seek-laws)
 
 -- ---- declaration_of
-module _ (s m : List ℕ) (c : Scope) (k : ℕ) (r : Declared) (q : r ≡ declared (field_numbered k c)) where
+module _ (s m : List ℕ) (c : Scope) (k : ℕ) (r : Option Declaration) (q : r ≡ declared (field_numbered k c)) where
   declaration-of-or : declared (declaration_of s c m k) ≡ first_of tells_declared r (declared (extension_numbered s m k))
   unfolding declaration_of
   declaration-of-or = rw q (declared-or-else (field_numbered k c) (extension_numbered s m k))
 
-  pub declaration-of-field : (d : Declaration) → r ≡ Declares d → Declares d ≡ declared (declaration_of s c m k)
+  pub declaration-of-field : (d : Declaration) → r ≡ Some d → Some d ≡ declared (declaration_of s c m k)
   declaration-of-field d g = rw (declaration-of-or, g)
 
-  pub declaration-of-extension : r ≡ NoDeclaration → (x : Declared) → x ≡ declared (extension_numbered s m k)
+  pub declaration-of-extension : r ≡ None → (x : Option Declaration) → x ≡ declared (extension_numbered s m k)
       → x ≡ declared (declaration_of s c m k)
   declaration-of-extension g x p = rw (declaration-of-or, g) p
 

@@ -2,8 +2,6 @@
 -- Assumes nothing.
 use Rattle.std.specs.Prelude.{◌≡◌, List, ℕ, length, Option, None, Some}
 use Rattle.sheet.specs.declared.declaration.Declaration.{Declaration}
-use Rattle.sheet.specs.declared.declaration.Declared.{Declared}
-use Rattle.sheet.specs.declared.declaration.Declared.TheVariants.{Declares}
 use Rattle.sheet.specs.Table.{field_tag}
 use Rattle.sheet.proofs.PlaceLaws.{Places}
 use Rattle.basis.specs.First.{or_else}
@@ -25,7 +23,7 @@ module _ (s m : List ℕ) (k : ℕ) (p : LookupScope) (l : InSheet s p) (d : Dec
       go (Some x) f q = f q
 
   -- what `declaration_of` answers
-  module _ (r : Declared) (q : r ≡ declared (declaration_of s (holding s p) m k)) (g : r ≡ Declares d) where
+  module _ (r : Option Declaration) (q : r ≡ declared (declaration_of s (holding s p) m k)) (g : r ≡ Some d) where
     pub numbered-places : Places (length s) d
     numbered-places = declaration-places (declared-some r (declaration_of s (holding s p) m k) q d g)
 

@@ -1,10 +1,9 @@
 // The declaration of a number at a message: the message's fields first, then the sheet's extensions of it in the order of the bytes.
 #![tactic(auto)]
 
-ghost use Rattle.std.specs.Prelude.{◌≡◌, ◌≤◌, length};
+ghost use Rattle.std.specs.Prelude.{◌≡◌, ◌≤◌, length, None};
 ghost use Rattle.field.specs.Leaf.{Lies};
 ghost use Rattle.field.specs.Walk.{walk};
-ghost use Rattle.sheet.specs.declared.declaration.Declared.TheVariants.{NoDeclaration};
 ghost use Rattle.sheet.specs.Table.{extension_tag, field_tag};
 ghost use Rattle.sheet.specs.Tree.{items_in};
 ghost use Rattle.sheet.specs.Members.{every_extension_of, every_extension};
@@ -15,11 +14,10 @@ ghost use Rattle.scope.specs.inner.Steps.{declaration_at, tells_declared, whose,
 ghost use Rattle.numbers.specs.Number.{has_number, is_extension_of, field_numbered, extension_numbered, declaration_of};
 ghost use Rattle.numbers.specs.inner.Says.{says_number, field_says, extension_says, may_hold};
 
-use field::{Field, Leaf, Span};
+use field::{Field, Span};
 use limits::MOST_MESSAGES;
 use named::{declaration_at, extends};
 use scope::lookup::LookupScope;
-use sheet::declaration::Declared;
 use sheet::table;
 
 // Whether the number of a declaration is this one. It is read before the rest: most declarations that a look-up comes by are of another.
@@ -27,7 +25,7 @@ fn says_number(s: &[u8], at: usize, end: usize, number: u32) -> bool
     requires { (at ≤ end) × (end ≤ length s.now) }
     ensures { result ≡ says_number number s.now at end }
 {
-    let Leaf::At { from, to: _ } = field::sized_at(s, at, end, table::NUMBER, 4) else {
+    let Some(Span { from, to: _ }) = field::sized_at(s, at, end, table::NUMBER, 4) else {
         return false;
     };
     octets::u32_at(s, from) == number
@@ -38,10 +36,10 @@ fn field_says(s: &[u8], item: Span, number: u32) -> bool
     requires { Lies item s.now }
     ensures { result ≡ field_says number s.now item.from item.to }
 {
-    let Leaf::At {
+    let Some(Span {
         from: _,
         to: shapes,
-    } = field::leaf_at(s, item.from, item.to, table::NAME)
+    }) = field::leaf_at(s, item.from, item.to, table::NAME)
     else {
         return false;
     };
@@ -54,17 +52,17 @@ fn extension_says(s: &[u8], item: Span, number: u32) -> bool
     ensures { result ≡ extension_says number s.now item.from item.to }
 {
     let end = item.to;
-    let Leaf::At {
+    let Some(Span {
         from: _,
         to: extendees,
-    } = field::leaf_at(s, item.from, end, table::NAME)
+    }) = field::leaf_at(s, item.from, end, table::NAME)
     else {
         return false;
     };
-    let Leaf::At {
+    let Some(Span {
         from: _,
         to: shapes,
-    } = field::leaf_at(s, extendees, end, table::EXTENDEE)
+    }) = field::leaf_at(s, extendees, end, table::EXTENDEE)
     else {
         return false;
     };
@@ -72,62 +70,62 @@ fn extension_says(s: &[u8], item: Span, number: u32) -> bool
 }
 
 // The field of a message that a field of its body is, where it is of this number.
-fn field_numbered_at(s: &[u8], tag: u8, item: Span, number: u32) -> Declared
+fn field_numbered_at(s: &[u8], tag: u8, item: Span, number: u32) -> Option<Declaration>
     requires { Lies item s.now }
-    ensures { result ≡ whose NoDeclaration tells_declared (has_number number)
+    ensures { result ≡ whose None tells_declared (has_number number)
         (declaration_at field_tag s.now tag item.from item.to) }
 {
     if tag != table::FIELD {
-        return Declared::NoDeclaration;
+        return None;
     }
     if !field_says(s, item, number) {
-        return Declared::NoDeclaration;
+        return None;
     }
-    let Declared::Declares(d) = declaration_at(s, tag, item.from, item.to, table::FIELD) else {
-        return Declared::NoDeclaration;
+    let Some(d) = declaration_at(s, tag, item.from, item.to, table::FIELD) else {
+        return None;
     };
     if d.shape.number != number {
-        return Declared::NoDeclaration;
+        return None;
     }
-    Declared::Declares(d)
+    Some(d)
 }
 
 // The first field of that number of the message.
-fn field_numbered(s: &[u8], scope: LookupScope, number: u32) -> Declared
+fn field_numbered(s: &[u8], scope: LookupScope, number: u32) -> Option<Declaration>
     requires { InSheet s.now scope }
     ensures { result ≡ declared (field_numbered number (holding s.now scope)) }
 {
     let end = scope.body.to;
     let mut at = scope.body.from;
     while at < end {
-        let Field::Whole { tag, from, to } = field::field_at(s, at, end) else {
-            return Declared::NoDeclaration;
+        let Some(Field { tag, from, to }) = field::field_at(s, at, end) else {
+            return None;
         };
         let item = Span { from: from, to: to };
-        if let Declared::Declares(d) = field_numbered_at(s, tag, item, number) {
-            return Declared::Declares(d);
+        if let Some(d) = field_numbered_at(s, tag, item, number) {
+            return Some(d);
         }
         at = to;
     }
-    Declared::NoDeclaration
+    None
 }
 
 // The extension that a field of a scope is, where it is of this message and number, read as a whole.
-fn extension_read_at(s: &[u8], tag: u8, item: Span, message: &[u8], number: u32) -> Declared
+fn extension_read_at(s: &[u8], tag: u8, item: Span, message: &[u8], number: u32) -> Option<Declaration>
     requires { Lies item s.now }
-    ensures { result ≡ whose NoDeclaration tells_declared (is_extension_of s.now message.now number)
+    ensures { result ≡ whose None tells_declared (is_extension_of s.now message.now number)
         (declaration_at extension_tag s.now tag item.from item.to) }
 {
-    let Declared::Declares(d) = declaration_at(s, tag, item.from, item.to, table::EXTENSION) else {
-        return Declared::NoDeclaration;
+    let Some(d) = declaration_at(s, tag, item.from, item.to, table::EXTENSION) else {
+        return None;
     };
     if d.shape.number != number {
-        return Declared::NoDeclaration;
+        return None;
     }
     if !extends(s, message, d) {
-        return Declared::NoDeclaration;
+        return None;
     }
-    Declared::Declares(d)
+    Some(d)
 }
 
 // Whether an extension of this number may stand in a field of a scope: whether that is a message, or an extension that says this number. It
@@ -151,7 +149,7 @@ fn extension_in_item(
     left: usize,
     message: &[u8],
     number: u32,
-) -> Declared
+) -> Option<Declaration>
     requires { Lies item s.now }
     ensures { result ≡ declared (first (is_extension_of s.now message.now number)
         (every_extension_of (item_at left s.now tag item.from item.to))) }
@@ -160,11 +158,11 @@ fn extension_in_item(
         return extension_read_at(s, tag, item, message, number);
     }
     if left == 0 {
-        return Declared::NoDeclaration;
+        return None;
     }
     let end = item.to;
-    let Leaf::At { from: _, to: body } = field::leaf_at(s, item.from, end, table::NAME) else {
-        return Declared::NoDeclaration;
+    let Some(Span { from: _, to: body }) = field::leaf_at(s, item.from, end, table::NAME) else {
+        return None;
     };
     let inside = Span {
         from: body,
@@ -175,7 +173,7 @@ fn extension_in_item(
 
 // The first one in what a scope holds.
 #[cycle(extension_in_item_extension_in_items)]
-fn extension_in_items(s: &[u8], body: Span, left: usize, message: &[u8], number: u32) -> Declared
+fn extension_in_items(s: &[u8], body: Span, left: usize, message: &[u8], number: u32) -> Option<Declaration>
     requires { Lies body s.now }
     ensures { result ≡ declared (first (is_extension_of s.now message.now number)
         (every_extension_of (items_in left s.now (walk s.now body.from body.to)))) }
@@ -183,32 +181,32 @@ fn extension_in_items(s: &[u8], body: Span, left: usize, message: &[u8], number:
     let end = body.to;
     let mut at = body.from;
     while at < end {
-        let Field::Whole { tag, from, to } = field::field_at(s, at, end) else {
-            return Declared::NoDeclaration;
+        let Some(Field { tag, from, to }) = field::field_at(s, at, end) else {
+            return None;
         };
         let item = Span { from: from, to: to };
         if may_hold(s, tag, item, number) {
-            if let Declared::Declares(d) = extension_in_item(s, tag, item, left, message, number) {
-                return Declared::Declares(d);
+            if let Some(d) = extension_in_item(s, tag, item, left, message, number) {
+                return Some(d);
             }
         }
         at = to;
     }
-    Declared::NoDeclaration
+    None
 }
 
 // The first one in a field of a sheet.
-fn extension_in_file(s: &[u8], tag: u8, item: Span, message: &[u8], number: u32) -> Declared
+fn extension_in_file(s: &[u8], tag: u8, item: Span, message: &[u8], number: u32) -> Option<Declaration>
     requires { Lies item s.now }
     ensures { result ≡ declared (first (is_extension_of s.now message.now number)
         (every_extension (file_at s.now tag item.from item.to))) }
 {
     if tag != table::FILE {
-        return Declared::NoDeclaration;
+        return None;
     }
     let end = item.to;
-    let Leaf::At { from: _, to: body } = field::leaf_at(s, item.from, end, table::PACKAGE) else {
-        return Declared::NoDeclaration;
+    let Some(Span { from: _, to: body }) = field::leaf_at(s, item.from, end, table::PACKAGE) else {
+        return None;
     };
     let inside = Span {
         from: body,
@@ -218,31 +216,31 @@ fn extension_in_file(s: &[u8], tag: u8, item: Span, message: &[u8], number: u32)
 }
 
 // The first extension of that message and number, wherever the sheet declares it.
-fn extension_numbered(s: &[u8], message: &[u8], number: u32) -> Declared
+fn extension_numbered(s: &[u8], message: &[u8], number: u32) -> Option<Declaration>
     ensures { result ≡ declared (extension_numbered s.now message.now number) }
 {
     let end = s.len();
     let mut at = 0;
     while at < end {
-        let Field::Whole { tag, from, to } = field::field_at(s, at, end) else {
-            return Declared::NoDeclaration;
+        let Some(Field { tag, from, to }) = field::field_at(s, at, end) else {
+            return None;
         };
         let item = Span { from: from, to: to };
-        if let Declared::Declares(d) = extension_in_file(s, tag, item, message, number) {
-            return Declared::Declares(d);
+        if let Some(d) = extension_in_file(s, tag, item, message, number) {
+            return Some(d);
         }
         at = to;
     }
-    Declared::NoDeclaration
+    None
 }
 
 // What declares the number at the message that the scope is and whose full name is `message`.
-pub fn declaration_of(s: &[u8], scope: LookupScope, message: &[u8], number: u32) -> Declared
+pub fn declaration_of(s: &[u8], scope: LookupScope, message: &[u8], number: u32) -> Option<Declaration>
     requires { InSheet s.now scope }
     ensures { result ≡ declared (declaration_of s.now (holding s.now scope) message.now number) }
 {
-    if let Declared::Declares(d) = field_numbered(s, scope, number) {
-        return Declared::Declares(d);
+    if let Some(d) = field_numbered(s, scope, number) {
+        return Some(d);
     }
     extension_numbered(s, message, number)
 }

@@ -3,7 +3,7 @@
 --   Short o n <-> the outcome o is a refusal, or gives n elements or fewer
 --
 -- Assumes nothing.
-use Rattle.std.specs.Prelude.{◌≡◌, refl, Bool, true, false, List, [], ◌∷◌, ℕ, suc, ◌≤◌, ◌<◌, eqb, length, None, Some}
+use Rattle.std.specs.Prelude.{◌≡◌, refl, Bool, true, false, List, [], ◌∷◌, ℕ, suc, ◌≤◌, ◌<◌, eqb, length, None, Some, Ok, Result}
 use Rattle.basis.specs.Kit.{ap, ◌∙◌}
 use Rattle.basis.proofs.Kit.{arith, lt-ltb, le-ltb, Fits}
 use Rattle.basis.proofs.CountLaws.{count-few}
@@ -17,8 +17,6 @@ use Rattle.reply.specs.declared.Answer.{Answer}
 use Rattle.reply.specs.Reply.{bare, refused_by}
 use Rattle.reply.specs.Outcome.{Outcome, refused, nothing, give, push, Answered}
 use Rattle.reply.proofs.Outcomes.{answered-refused}
-use Rattle.emit.specs.declared.Put.{Put}
-use Rattle.emit.specs.declared.Put.TheVariants.{Wrote}
 use Rattle.emit.specs.inner.Puts.{Puts}
 use Rattle.emit.proofs.WriteLaws.{give-inv, put-wrote, call-laws}
 use Rattle.oneofs.specs.Fields.{real, synthetic, oneof, Group, joining, groups_after, groups, real_count}
@@ -68,8 +66,8 @@ groups-short r s member (w ∷ ws) =
 pub groups-present : (ws : List ℕ) → groups ws ≡ nothing → ⊥
 groups-present ws = (groups-short 0 0 None ws).present
 
-pub fields_fit : (numbering reals : ℕ) (ws z z' : List ℕ) (p : Put) (n : ℕ) → Puts (numbered numbering reals (groups ws)) 0 z z' p
-    → p ≡ Wrote n → length ws ≤ most_words → Fits w32 n
+pub fields_fit : (numbering reals : ℕ) (ws z z' : List ℕ) (p : Result ℕ Cause) (n : ℕ) → Puts (numbered numbering reals (groups ws)) 0 z z' p
+    → p ≡ Ok n → length ws ≤ most_words → Fits w32 n
 fields_fit numbering reals ws z z' p n u e h =
     let g = put-wrote n u e in
     let made = numbered-given numbering reals g.elements (groups ws) g.is in

@@ -5,7 +5,7 @@
 --   Numbering numbering reals ws l l' next-real next-synthetic member n i <-> the first i words are read, and n written over l, now l'
 --
 -- Assumes nothing.
-use Rattle.std.specs.Prelude.{◌≡◌, refl, List, [], ◌∷◌, ℕ, suc, ◌+◌, ◌≤◌, ◌<◌, length, get_or, drop, None, Some}
+use Rattle.std.specs.Prelude.{◌≡◌, refl, List, [], ◌∷◌, ℕ, suc, ◌+◌, ◌≤◌, ◌<◌, length, get_or, drop, None, Some, Err, Ok}
 use Rattle.basis.specs.Kit.{sym, ap, ◌∙◌, sets}
 use Rattle.basis.proofs.Kit.{arith, add-one}
 use lib.ListN.{drop_of_length-le}
@@ -14,7 +14,6 @@ use Rattle.reply.specs.declared.Refusal.TheVariants.{BadRequest}
 use Rattle.reply.specs.declared.Cause.{Cause}
 use Rattle.reply.specs.Reply.{bare}
 use Rattle.reply.specs.Outcome.{Outcome, refused, refuse, push}
-use Rattle.emit.specs.declared.Put.TheVariants.{Wrote, Refused}
 use Rattle.emit.specs.inner.Puts.{Puts}
 use Rattle.emit.proofs.WriteLaws.{Front, front-start, front-put, front-pass, front_length, front-refused, front-done}
 use Rattle.oneofs.specs.Fields.{real, synthetic, oneof, Group, groups_after, groups, index_of, word_of, numbered}
@@ -93,7 +92,7 @@ module _ (numbering reals : ℕ) (ws l : List ℕ) where
     pub numbering-length : length m ≡ length l
     numbering-length = front_length _ _ 0 l m n u.laid
 
-    pub numbering-done : length ws ≤ i → Puts (numbered numbering reals (groups ws)) 0 l m (Wrote n)
+    pub numbering-done : length ws ≤ i → Puts (numbered numbering reals (groups ws)) 0 l m (Ok n)
     unfolding groups_after
     numbering-done h = front-done _ _ 0 l m n u.laid (rw (drop_of_length-le ws h))
 
@@ -105,7 +104,7 @@ module _ (numbering reals : ℕ) (ws l : List ℕ) where
       here = ap (words numbering reals u.r u.s u.group) (word-here ws i h)
 
       refused-here : at-word ≡ refuse BadRequest → (c : Cause) → c ≡ bare BadRequest
-          → Puts (numbered numbering reals (groups ws)) 0 l m (Refused c)
+          → Puts (numbered numbering reals (groups ws)) 0 l m (Err c)
       refused-here e c q = front-refused _ _ 0 l m n u.laid c (here ∙ e ∙ ap refused (sym q))
 
       -- the next turn, from the counters that it has: a word is written, or none
@@ -148,12 +147,12 @@ module _ (numbering reals : ℕ) (ws l : List ℕ) where
 
       module _ (a : get_or ws i 0 ≡ 0 → ⊥) (b : get_or ws i 0 ≡ 1 → ⊥) (d : get_or ws i 0 ≡ 2 → ⊥) where
         pub numbering-other : (get_or ws i 0 ≡ 3 → ⊥) → (c : Cause) → c ≡ bare BadRequest
-            → Puts (numbered numbering reals (groups ws)) 0 l m (Refused c)
+            → Puts (numbered numbering reals (groups ws)) 0 l m (Err c)
         numbering-other e = refused-here (words-other numbering reals u.r u.s u.group _ _ a b d e)
 
         module _ (e : get_or ws i 0 ≡ 3) where
           pub numbering-stray : member ≡ 0 → (c : Cause) → c ≡ bare BadRequest
-              → Puts (numbered numbering reals (groups ws)) 0 l m (Refused c)
+              → Puts (numbered numbering reals (groups ws)) 0 l m (Err c)
           numbering-stray g =
               refused-here (words-stray numbering reals u.r u.s u.group _ _ a b d e (sym u.held.member_is ∙ g))
 

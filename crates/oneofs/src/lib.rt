@@ -9,7 +9,7 @@ ghost use Rattle.oneofs.specs.Fields.{real, synthetic, oneof, groups, real_count
 ghost use Rattle.oneofs.specs.Fields.{lower_fields, lower_fields_by};
 ghost use Rattle.emit.specs.inner.Puts.{Puts};
 
-use emit::{Put, put_word};
+use emit::put_word;
 use limits::MOST_WORDS;
 use reply::{Answer, Refusal};
 
@@ -60,7 +60,7 @@ fn shared_step(numbering: u32) -> u32
 
 // Each field gives 0, or one more than the index of its oneof. `real` and `synthetic` are the indices that the next oneof of each kind has,
 // and `member` is what a member of the open one gives.
-fn put_fields(numbering: u32, reals: u32, words: &[u32], out: &mut [u32]) -> Put
+fn put_fields(numbering: u32, reals: u32, words: &[u32], out: &mut [u32]) -> Result<usize, Cause>
     requires words_len_bound { length words.now ≤ most_words }
     requires reals_le_most_words { reals ≤ most_words }
     ensures { Puts (numbered numbering reals (groups words.now)) 0 out.old out.new result }
@@ -90,16 +90,16 @@ fn put_fields(numbering: u32, reals: u32, words: &[u32], out: &mut [u32]) -> Put
             synthetic += step;
         } else {
             if w != MEMBER {
-                return Put::Refused(reply::bare(Refusal::BadRequest));
+                return Err(reply::bare(Refusal::BadRequest));
             }
             if member == 0 {
-                return Put::Refused(reply::bare(Refusal::BadRequest));
+                return Err(reply::bare(Refusal::BadRequest));
             }
             put_word(out, n, member);
             n += 1;
         }
     }
-    Put::Wrote(n)
+    Ok(n)
 }
 
 // The oneof of each field, in a numbering of the caller's choice.
@@ -114,8 +114,8 @@ pub fn lower_fields_by(numbering: u32, words: &[u32], out: &mut [u32]) -> Answer
     }
     let reals = count_reals(words);
     match put_fields(numbering, reals, words, &mut out[..0]) {
-        Put::Refused(cause) => reply::refused_for(cause),
-        Put::Wrote(n) => {
+        Err(cause) => reply::refused_for(cause),
+        Ok(n) => {
             if out.len() < n {
                 return reply::refused(Refusal::NoRoom);
             }

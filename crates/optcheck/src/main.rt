@@ -4,12 +4,10 @@
 
 ghost use Rattle.std.specs.Prelude.{◌≤◌, length};
 
-use console::input::{Input, MOST_BYTES};
+use console::input::MOST_BYTES;
 use console::output::{number, text};
 use counts::declarations::count;
 use counts::options::{count_options, count_parts};
-use field::Leaf;
-use reply::Verdict;
 use sheet::table;
 
 const SHEET: u8 = 0x40;
@@ -41,8 +39,8 @@ fn tell_request(request: &[u8]) {
 }
 
 // Whether a verdict is fine; a refusal is printed.
-fn told(verdict: Verdict) -> bool {
-    let Verdict::Refused(why) = verdict else {
+fn told(verdict: Result<(), Refusal>) -> bool {
+    let Err(why) = verdict else {
         return true;
     };
     console::output::answer(reply::refused(why));
@@ -82,14 +80,14 @@ fn check_case(s: &[u8], at: usize) -> usize
     requires { at ≤ length s.now }
     ensures { result ≤ length s.now }
 {
-    let Leaf::At { from, to } = console::input::field_of(s, at, SHEET) else {
+    let Some(Span { from, to }) = console::input::field_of(s, at, SHEET) else {
         return 0;
     };
     if !has_request(s, to) {
         check_sheet(&s[from..to]);
         return to;
     }
-    let Leaf::At { from: a, to: e } = console::input::field_of(s, to, REQUEST) else {
+    let Some(Span { from: a, to: e }) = console::input::field_of(s, to, REQUEST) else {
         return 0;
     };
     check_both(&s[from..to], &s[a..e]);
@@ -113,7 +111,7 @@ fn check_cases(s: &[u8]) {
 
 // Standard input, read into a lent buffer.
 fn run_over(buffer: &mut [u8]) {
-    let Input::Bytes(n) = console::input::read(buffer) else {
+    let Some(n) = console::input::read(buffer) else {
         return;
     };
     check_cases(&buffer[..n]);

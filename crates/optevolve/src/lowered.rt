@@ -1,9 +1,8 @@
 // A request that is lowered by the newer sheet, and its option bytes as the older sheet reads them.
 use console::output::option_bytes;
-use field::Leaf;
 use field::part::span_in;
 use inputs::words::least;
-use request::heading::{Headed, heading_of};
+use request::heading::heading_of;
 
 // The room that is lent for the option bytes of a case.
 const ROOM: usize = 65_536;
@@ -38,10 +37,10 @@ fn tell_bytes(older: &[u8], newer: &[u8], options_type: &[u8], bytes: &[u8]) {
 
 // The same, of the request's own options type.
 fn tell_read(older: &[u8], newer: &[u8], request: &[u8], bytes: &[u8]) {
-    let Headed::Heads(heading) = heading_of(request) else {
+    let Some(heading) = heading_of(request) else {
         return;
     };
-    let Leaf::At { from, to } = span_in(request, heading.options_type) else {
+    let Some(Span { from, to }) = span_in(request, heading.options_type) else {
         return;
     };
     tell_bytes(older, newer, &request[from..to], bytes);

@@ -11,8 +11,8 @@ mod lowered;
 ghost use Rattle.std.specs.Prelude.{◌≤◌, length};
 
 use compared::tell_evolution;
-use console::input::{Input, MOST_BYTES, field_of};
-use field::{Leaf, leaf_at};
+use console::input::{MOST_BYTES, field_of};
+use field::{leaf_at, Span};
 use lowered::tell_request;
 
 const SHEET: u8 = 0x40;
@@ -25,7 +25,7 @@ fn answer_case(s: &[u8], older: &[u8], newer: &[u8], at: usize) -> usize
     ensures { result ≤ length s.now }
 {
     let told = tell_evolution(older, newer);
-    let Leaf::At { from, to } = leaf_at(s, at, s.len(), REQUEST) else {
+    let Some(Span { from, to }) = leaf_at(s, at, s.len(), REQUEST) else {
         return at;
     };
     if told {
@@ -39,10 +39,10 @@ fn compare_case(s: &[u8], at: usize) -> usize
     requires { at ≤ length s.now }
     ensures { result ≤ length s.now }
 {
-    let Leaf::At { from, to } = field_of(s, at, SHEET) else {
+    let Some(Span { from, to }) = field_of(s, at, SHEET) else {
         return 0;
     };
-    let Leaf::At { from: a, to: e } = field_of(s, to, SHEET) else {
+    let Some(Span { from: a, to: e }) = field_of(s, to, SHEET) else {
         return 0;
     };
     answer_case(s, &s[from..to], &s[a..e], e)
@@ -65,7 +65,7 @@ fn compare_cases(s: &[u8]) {
 
 // Standard input, read into a lent buffer.
 fn run_over(buffer: &mut [u8]) {
-    let Input::Bytes(n) = console::input::read(buffer) else {
+    let Some(n) = console::input::read(buffer) else {
         return;
     };
     compare_cases(&buffer[..n]);

@@ -4,9 +4,8 @@
 
 ghost use Rattle.std.specs.Prelude.{◌≤◌, length};
 
-use console::input::{Input, MOST_BYTES, field_of};
+use console::input::{MOST_BYTES, field_of};
 use console::output::{number, text};
-use field::Leaf;
 
 const SHEET: u8 = 0x40;
 
@@ -78,13 +77,13 @@ fn find_case(s: &[u8], at: usize) -> usize
     requires { at ≤ length s.now }
     ensures { result ≤ length s.now }
 {
-    let Leaf::At { from, to } = field_of(s, at, SHEET) else {
+    let Some(Span { from, to }) = field_of(s, at, SHEET) else {
         return 0;
     };
-    let Leaf::At { from: a, to: e } = field_of(s, to, SCOPE) else {
+    let Some(Span { from: a, to: e }) = field_of(s, to, SCOPE) else {
         return 0;
     };
-    let Leaf::At { from: n, to: m } = field_of(s, e, PATH) else {
+    let Some(Span { from: n, to: m }) = field_of(s, e, PATH) else {
         return 0;
     };
     answer(&s[from..to], &s[a..e], &s[n..m]);
@@ -108,7 +107,7 @@ fn find_cases(s: &[u8]) {
 
 // Standard input, read into a lent buffer.
 fn run_over(buffer: &mut [u8]) {
-    let Input::Bytes(n) = console::input::read(buffer) else {
+    let Some(n) = console::input::read(buffer) else {
         return;
     };
     find_cases(&buffer[..n]);

@@ -1,7 +1,7 @@
 -- The walk over the parts of a fine name: from one part to the next, and on to what follows them. `after` is what holds there: of an option
 -- its constant, of a name alone that it ends.
 -- Assumes nothing.
-use Rattle.std.specs.Prelude.{◌≡◌, true, false, List, ℕ, ◌≤◌, length}
+use Rattle.std.specs.Prelude.{◌≡◌, true, false, List, ℕ, ◌≤◌, length, Some, None, Option}
 use Rattle.basis.specs.Kit.{sym, ap, ◌∙◌}
 use Rattle.basis.proofs.Kit.{arith}
 use mathlib.Core.Path.{subst}
@@ -11,8 +11,6 @@ use Rattle.path.specs.Path.{is_path}
 use Rattle.field.specs.Leaf.{text}
 use Rattle.field.specs.Walk.{walk}
 use Rattle.request.specs.declared.name.Part.{Part}
-use Rattle.request.specs.declared.name.Parted.{Parted}
-use Rattle.request.specs.declared.name.Parted.TheVariants.{Is, NoPart}
 use Rattle.request.specs.Name.{part_at, parts_in}
 use Rattle.request.proofs.PartLaws.{parts-nil, parts-cons, after-parts-here, after-parts-next, part-ordered, part-inside}
 use Rattle.request.proofs.PartLaws.{part-within, part_falls}
@@ -20,8 +18,8 @@ use Rattle.constantform.specs.Leaves.{good_part}
 use Rattle.optionform.specs.Fine.{good_parts}
 use Rattle.optionform.specs.inner.Parts.{FineParts}
 
-module _ (after : ℕ → ℕ → Type 0) (s : List ℕ) (at end : ℕ) (k : FineParts after s at end) (r : Parted) (q : r ≡ part_at s at end) where
-  module _ (p : Part) (g : r ≡ Is p) where
+module _ (after : ℕ → ℕ → Type 0) (s : List ℕ) (at end : ℕ) (k : FineParts after s at end) (r : Option Part) (q : r ≡ part_at s at end) where
+  module _ (p : Part) (g : r ≡ Some p) where
     opened : (good_part p.extension (text s p.name) ≡ true) × (good_parts s (parts_in (walk s p.name.to end)) ≡ true)
     opened =
         (and-eq-true_iff (good_part p.extension (text s p.name)) (good_parts s (parts_in (walk s p.name.to end)))
@@ -50,11 +48,11 @@ module _ (after : ℕ → ℕ → Type 0) (s : List ℕ) (at end : ℕ) (k : Fin
         }
 
   -- Where no part stands, what follows the parts does.
-  pub fine-part-last : r ≡ NoPart → after at end
+  pub fine-part-last : r ≡ None → after at end
   fine-part-last g = subst (λ (x : ℕ). after x end) (after-parts-here s at end r q g) k.follows
 
 -- Where there are parts, the first stands at the start.
-pub part-some : (s : List ℕ) (at end : ℕ) → 1 ≤ length (parts_in (walk s at end)) → (r : Parted) → r ≡ part_at s at end → r ≡ NoPart → ⊥
+pub part-some : (s : List ℕ) (at end : ℕ) → 1 ≤ length (parts_in (walk s at end)) → (r : Option Part) → r ≡ part_at s at end → r ≡ None → ⊥
 part-some s at end h r q g = omega (arith, ap length (parts-nil s at end r q g))
 
 -- what a walk has need of at each part: the laws above, where the part lies, and that what is left gets shorter

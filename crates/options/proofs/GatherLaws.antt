@@ -5,7 +5,7 @@
 --                                            to is what the options that are left come to after them
 --
 -- Assumes nothing.
-use Rattle.std.specs.Prelude.{◌≡◌, refl, List, [], ℕ, ◌+◌, ◌-◌, ◌≤◌, ◌<◌, length, drop}
+use Rattle.std.specs.Prelude.{◌≡◌, refl, List, [], ℕ, ◌+◌, ◌-◌, ◌≤◌, ◌<◌, length, drop, None, Some, Option}
 use Rattle.basis.specs.Kit.{sym, ap, ◌∙◌}
 use Rattle.basis.proofs.Kit.{arith}
 use native.Mathlib.Nat.{add-zero}
@@ -14,9 +14,7 @@ use Rattle.basis.proofs.Never.{never}
 use Rattle.limits.specs.Figures.{most_options}
 use Rattle.octets.specs.inner.Laid.{Laid}
 use Rattle.octets.proofs.Overlay.{laid-append, laid-length}
-use Rattle.field.specs.declared.Field.{Field}
-use Rattle.field.specs.declared.Field.TheVariants.{Whole, Cut}
-use Rattle.field.specs.Field.{field_at}
+use Rattle.field.specs.Field.{field_at, field}
 use Rattle.field.specs.Leaf.{text}
 use Rattle.field.proofs.FieldLaws.{field-ordered, field-place-laws}
 use Rattle.request.specs.Request.{Option}
@@ -41,6 +39,7 @@ use Rattle.options.specs.inner.Gathering.{options_of, gathered_by, made_at, Fine
 use Rattle.options.proofs.ReachedLaws.{Reached, reached-start, reached-end, reached-cut, reached-parts, reached-few, reached-fits}
 use Rattle.options.proofs.ReachedLaws.{reached-first, reached-made, reached-next, reached-size}
 use Rattle.options.proofs.SetLaws.{set-few}
+use Rattle.field.specs.declared.Field.{Field}
 
 abbrev gather_from : Lookups → (s r : List ℕ) → Start → (option : ℕ) → List Known → Recs → List Option → Gathered
 gather_from L s r h = gather L s r (text r h.scope) (message_of r h)
@@ -98,66 +97,66 @@ module _ (L : Lookups) (s r : List ℕ) (h : Start) (l m ns₀ ns : List ℕ) (a
   pub gathering-noted : i < length r → n < length ns
   gathering-noted o = omega (arith, reached-few r h n i u.reached o, u.kept, u.places)
 
-  module _ (o : i < length r) (f : Field) (q : f ≡ field_at r i (length r)) where
-    pub gathering-cut : f ≡ Cut → Gathers (made_at L s r h) (bytes_most (length r)) (gathered_by L s r h) at l m ns (Gives n p)
+  module _ (o : i < length r) (f : Option Field) (q : f ≡ field_at r i (length r)) where
+    pub gathering-cut : f ≡ None → Gathers (made_at L s r h) (bytes_most (length r)) (gathered_by L s r h) at l m ns (Gives n p)
     gathering-cut g = reached-cut r h n i u.reached o f q g
 
-    module _ (t a e : ℕ) (g : f ≡ Whole t a e) where
-      gathering-room : Roomy at (length r) r → Roomy p (e - a) r
+    module _ (here : Field) (g : f ≡ Some here) where
+      gathering-room : Roomy at (length r) r → Roomy p (here.to - here.from) r
       gathering-room k =
-          let x = reached-next r h n i u.reached o f q t a e g in
-          record { room = omega (arith, k.room, u.few, u.laid.next, x.inside, reached-size r h n i u.reached o f q t a e g) }
+          let x = reached-next r h n i u.reached o f q here g in
+          record { room = omega (arith, k.room, u.few, u.laid.next, x.inside, reached-size r h n i u.reached o f q here g) }
 
-      pub gathering-settleable : Started s r h → Roomy at (length r) r → Settleable s r h n a e p
+      pub gathering-settleable : Started s r h → Roomy at (length r) r → Settleable s r h n here.from here.to p
       gathering-settleable y k = record {
         started = y;
         count = u.reached.count;
-        ordered = field-ordered r i (length r) f q t a e g;
-        within = (reached-next r h n i u.reached o f q t a e g).inside;
-        parts = reached-parts r h n i u.reached o f q t a e g;
+        ordered = field-ordered r i (length r) f q here g;
+        within = (reached-next r h n i u.reached o f q here g).inside;
+        parts = reached-parts r h n i u.reached o f q here g;
         room = gathering-room k;
       }
 
       -- what is come to by what this option comes to
-      gathering-whole : (v : Settled) → v ≡ settled_at L s r h a e
+      gathering-whole : (v : Settled) → v ≡ settled_at L s r h here.from here.to
           → gathered_by L s r h
           ≡ next n u.knowns u.rest v (λ ks x. gather_from L s r h (n + 1) ks x (drop (n + 1) (options_of r h)))
       unfolding settled_at
       gathering-whole v w =
           u.whole
-          ∙ ap (gather_from L s r h n u.knowns u.rest) (reached-first r h n i u.reached o f q t a e g)
+          ∙ ap (gather_from L s r h n u.knowns u.rest) (reached-first r h n i u.reached o f q here g)
           ∙ ap (λ z. next n u.knowns u.rest z (λ ks x. gather_from L s r h (n + 1) ks x (drop (n + 1) (options_of r h)))) (sym w)
 
       module _ (m' : List ℕ) (y : Settling) where
-        refused-by : (v : Settled) → v ≡ settled_at L s r h a e → (stop : Cause)
-            → Emits (settling_of n (note_in v)) (others_of v) (bytes_most (e - a)) m p m' y → y ≡ Fails stop → gathered_by L s r h ≡ stopped stop
+        refused-by : (v : Settled) → v ≡ settled_at L s r h here.from here.to → (stop : Cause)
+            → Emits (settling_of n (note_in v)) (others_of v) (bytes_most (here.to - here.from)) m p m' y → y ≡ Fails stop → gathered_by L s r h ≡ stopped stop
         unfolding settling_of
         refused-by (known k) w stop b z = let c = b.answer in never cc
         refused-by (others x) w stop b z = let c = b.answer in never cc
         refused-by (fails k) w stop b z = let c = b.answer in gathering-whole (fails k) w ∙ cc
 
-        next-by : (v : Settled) → v ≡ settled_at L s r h a e → (note z : ℕ) (ns' : List ℕ)
-            → Emits (settling_of n (note_in v)) (others_of v) (bytes_most (e - a)) m p m' y → y ≡ Gives note z → ns' ≡ noted n note ns
-            → Gathering L s r h l m' ns₀ ns' at z (n + 1) e
+        next-by : (v : Settled) → v ≡ settled_at L s r h here.from here.to → (note z : ℕ) (ns' : List ℕ)
+            → Emits (settling_of n (note_in v)) (others_of v) (bytes_most (here.to - here.from)) m p m' y → y ≡ Gives note z → ns' ≡ noted n note ns
+            → Gathering L s r h l m' ns₀ ns' at z (n + 1) here.to
         unfolding settling_of
         next-by (known k) w note z ns' b d j =
             let c = b.answer in
             let x : note ≡ note_of k = cc in
             let y : z ≡ p + length (encode nil) = cc in
-            let size = set-few L s r h a e (field-ordered r i (length r) f q t a e g) (reached-parts r h n i u.reached o f q t a e g) in
-            let own : length (encode k.made) ≤ bytes_most (e - a) = rw (← w) at size in
+            let size = set-few L s r h here.from here.to (field-ordered r i (length r) f q here g) (reached-parts r h n i u.reached o f q here g) in
+            let own : length (encode k.made) ≤ bytes_most (here.to - here.from) = rw (← w) at size in
             record {
               knowns = set_known k u.knowns;
               rest = u.rest;
-              reached = reached-next r h n i u.reached o f q t a e g;
+              reached = reached-next r h n i u.reached o f q here g;
               laid = rw (append-nil-right u.rest) at
                   (laid_more l m m' at p z u.rest nil u.laid (record { next = y; left = b.left nil refl }));
               noted = noted-set (made_at L s r h) ns n u.knowns u.noted (gathering-noted o) k
-                  (reached-made r h n i u.reached o f q t a e g L s ∙ ap set_recs (sym w)) note x ns' j;
+                  (reached-made r h n i u.reached o f q here g L s ∙ ap set_recs (sym w)) note x ns' j;
               kept = ap length j ∙ noted-length n note ns ∙ u.kept;
               places = u.places;
               whole = gathering-whole (known k) w;
-              few = omega (arith, u.few, own, known-few k u.knowns, reached-size r h n i u.reached o f q t a e g);
+              few = omega (arith, u.few, own, known-few k u.knowns, reached-size r h n i u.reached o f q here g);
             }
         next-by (others x) w note z ns' b d j =
             let c = b.answer in
@@ -166,25 +165,25 @@ module _ (L : Lookups) (s r : List ℕ) (h : Start) (l m ns₀ ns : List ℕ) (a
             record {
               knowns = u.knowns;
               rest = append u.rest x;
-              reached = reached-next r h n i u.reached o f q t a e g;
+              reached = reached-next r h n i u.reached o f q here g;
               laid = laid_more l m m' at p z u.rest x u.laid (record { next = y; left = b.left x refl });
               noted = noted-none (made_at L s r h) ns n u.knowns u.noted (gathering-noted o) ns' (rw none at j);
               kept = ap length j ∙ noted-length n note ns ∙ u.kept;
               places = u.places;
               whole = gathering-whole (others x) w;
-              few = omega (arith, u.few, b.few x refl, append-size u.rest x, reached-size r h n i u.reached o f q t a e g);
+              few = omega (arith, u.few, b.few x refl, append-size u.rest x, reached-size r h n i u.reached o f q here g);
             }
         next-by (fails k) w note z ns' b d j = let c = b.answer in never cc
 
-        module _ (b : Emits (settling_of n (note_in (settled_at L s r h a e))) (others_of (settled_at L s r h a e)) (bytes_most (e - a)) m p m' y)
+        module _ (b : Emits (settling_of n (note_in (settled_at L s r h here.from here.to))) (others_of (settled_at L s r h here.from here.to)) (bytes_most (here.to - here.from)) m p m' y)
           where
             pub gathering-refused : (stop : Cause) → y ≡ Fails stop
                 → Gathers (made_at L s r h) (bytes_most (length r)) (gathered_by L s r h) at l m' ns y
-            gathering-refused stop z = rw (refused-by (settled_at L s r h a e) refl stop b z, z) stops
+            gathering-refused stop z = rw (refused-by (settled_at L s r h here.from here.to) refl stop b z, z) stops
 
             pub gathering-next : (note z : ℕ) → y ≡ Gives note z → (ns' : List ℕ) → ns' ≡ noted n note ns
-                → Gathering L s r h l m' ns₀ ns' at z (n + 1) e
-            gathering-next note z d ns' j = next-by (settled_at L s r h a e) refl note z ns' b d j
+                → Gathering L s r h l m' ns₀ ns' at z (n + 1) here.to
+            gathering-next note z d ns' j = next-by (settled_at L s r h here.from here.to) refl note z ns' b d j
 
 pub ruleset gather-laws = (
   gathering-start,

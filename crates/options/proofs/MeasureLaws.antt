@@ -1,7 +1,7 @@
 -- What is measured before anything is written: the ways through `gather_length`, `known_length`, `measure_from`, `measure_all` and
 -- `measure_tested`.
 -- Assumes nothing.
-use Rattle.std.specs.Prelude.{◌≡◌, refl, List, ℕ, ◌+◌, ◌≤◌, length}
+use Rattle.std.specs.Prelude.{◌≡◌, refl, List, ℕ, ◌+◌, ◌≤◌, length, Err, None, Some, Ok, Option, Result}
 use Rattle.basis.specs.Kit.{sym, ap, ◌∙◌}
 use Rattle.basis.proofs.Kit.{arith, w64, Fits}
 use mir.Syntax.{w32}
@@ -12,8 +12,6 @@ use Rattle.basis.proofs.Never.{never}
 use Rattle.limits.specs.Figures.{most_options}
 use Rattle.octets.specs.inner.Laid.{Laid}
 use Rattle.reply.specs.declared.Refusal.{Refusal}
-use Rattle.reply.specs.declared.Verdict.{Verdict}
-use Rattle.reply.specs.declared.Verdict.TheVariants.{Fine, Refused as Bad}
 use Rattle.sheetform.specs.Form.{judge_length}
 use Rattle.requestform.specs.Form.{judge_request}
 use Rattle.records.specs.Records.{Recs, append, encode}
@@ -30,13 +28,11 @@ use Rattle.options.specs.declared.settle.Settling.TheVariants.{Gives, Fails}
 use Rattle.options.specs.inner.Settling.{Started}
 use Rattle.options.specs.Options.{Gathered, gathered, stopped}
 use Rattle.options.specs.inner.Gathering.{gathered_by, made_at, knowns_of, FineFrom, Gathers, gives, stops}
-use Rattle.options.specs.declared.measure.Opening.{Opening}
-use Rattle.options.specs.declared.measure.Opening.TheVariants.{At, Absent, Refused}
-use Rattle.options.specs.declared.measure.Measure.{Measure}
-use Rattle.options.specs.declared.measure.Measure.TheVariants as measure
 use Rattle.options.specs.Steps.{Steps, absent, refused, steps_in, steps_of, resolving_by, resolving_tested}
 use Rattle.options.specs.inner.Measuring.{Open, Opens, at, none, lost, rest_of, Counted, Tallies, Measures, fine, refuses}
 use Rattle.options.specs.inner.Measuring as measuring
+use Rattle.options.specs.declared.measure.Measured.{Measured}
+use Rattle.reply.specs.Verdicts.{Verdict}
 
 -- ---- what the loop over the options answered
 pub record Gave (made : ℕ → Recs) (k : ℕ) (g : Gathered) (at : ℕ) (l l' ns : List ℕ) (n next : ℕ) : Type 0 where
@@ -102,7 +98,7 @@ pub ruleset known-length-laws = (room-from, counted-count, counted-noted, counte
 
 -- ---- measure_from
 module _ (s r ns : List ℕ) (h : Start) (y : Settling) (u : Tallies s r ns h y) where
-  pub tallied-refused : (e : Cause) → y ≡ Fails e → Measures s r (steps_in (gathered_by (walking s) s r h)) ns (measure.Refused e)
+  pub tallied-refused : (e : Cause) → y ≡ Fails e → Measures s r (steps_in (gathered_by (walking s) s r h)) ns (Err e)
   tallied-refused e z = rw (u.stops e z) refuses
 
   module _ (n o : ℕ) (z : y ≡ Gives n o) where
@@ -130,42 +126,42 @@ module _ (s r ns : List ℕ) (h : Start) (y : Settling) (u : Tallies s r ns h y)
       tallied-length = record { fits = omega (arith, sum_is, tallied-counted.few, g.short) }
 
       pub tallied-fine : FineFrom r h
-          → Measures s r (steps_in (gathered_by (walking s) s r h)) ns (measure.Fine (record { start = h; count = n; length = p + o }))
+          → Measures s r (steps_in (gathered_by (walking s) s r h)) ns (Ok (Some (record { start = h; count = n; length = p + o })))
       tallied-fine b = fine (record { counted = tallied-counted; started = g; fine = b; length-is = sum_is })
 
 pub ruleset measure-from-laws = (tallied-refused, tallied-counted, tallied-sum, tallied-length, tallied-fine)
 
 -- ---- measure_all
-opened-at : {s r : List ℕ} {v : Opening} → Opens s r v → (h : Start) → v ≡ At h → Open s r h
+opened-at : {s r : List ℕ} {v : Result (Option Start) Cause} → Opens s r v → (h : Start) → v ≡ Ok (Some h) → Open s r h
 opened-at (at {h} o) k e = let i : h ≡ k = cc in rw i at o
 opened-at (none p) k e = never cc
 opened-at (lost p) k e = never cc
 
-opened-none : {s r : List ℕ} {v : Opening} → Opens s r v → v ≡ Absent → steps_of (walking s) s r ≡ absent
+opened-none : {s r : List ℕ} {v : Result (Option Start) Cause} → Opens s r v → v ≡ Ok None → steps_of (walking s) s r ≡ absent
 opened-none (at o) e = never cc
 opened-none (none p) e = p
 opened-none (lost p) e = never cc
 
-opened-lost : {s r : List ℕ} {v : Opening} → Opens s r v → (w : Cause) → v ≡ Refused w → steps_of (walking s) s r ≡ refused w
+opened-lost : {s r : List ℕ} {v : Result (Option Start) Cause} → Opens s r v → (w : Cause) → v ≡ Err w → steps_of (walking s) s r ≡ refused w
 opened-lost (at o) w z = never cc
 opened-lost (none p) w z = never cc
 opened-lost (lost {e} p) w z = let i : e ≡ w = cc in rw i at p
 
-module _ (s r : List ℕ) (v : Opening) (u : Opens s r v) where
-  pub all-absent : v ≡ Absent → (ns : List ℕ) → Measures s r (steps_of (walking s) s r) ns measure.Absent
+module _ (s r : List ℕ) (v : Result (Option Start) Cause) (u : Opens s r v) where
+  pub all-absent : v ≡ Ok None → (ns : List ℕ) → Measures s r (steps_of (walking s) s r) ns (Ok None)
   all-absent e ns = rw (opened-none u e) measuring.none
 
-  pub all-refused : (w : Cause) → v ≡ Refused w → (ns : List ℕ) → Measures s r (steps_of (walking s) s r) ns (measure.Refused w)
+  pub all-refused : (w : Cause) → v ≡ Err w → (ns : List ℕ) → Measures s r (steps_of (walking s) s r) ns (Err w)
   all-refused w e ns = rw (opened-lost u w e) refuses
 
-  module _ (h : Start) (e : v ≡ At h) where
+  module _ (h : Start) (e : v ≡ Ok (Some h)) where
     pub all-started : Started s r h
     all-started = (opened-at u h e).started
 
     pub all-fine : FineFrom r h
     all-fine = (opened-at u h e).fine
 
-    pub all-measured : (ns : List ℕ) (y : Measure) → Measures s r (steps_in (gathered_by (walking s) s r h)) ns y
+    pub all-measured : (ns : List ℕ) (y : Result (Option Measured) Cause) → Measures s r (steps_in (gathered_by (walking s) s r h)) ns y
         → Measures s r (steps_of (walking s) s r) ns y
     all-measured ns y m = subst (λ (o : Steps). Measures s r o ns y) (sym (opened-at u h e).steps) m
 
@@ -173,20 +169,20 @@ pub ruleset measure-all-laws = (all-absent, all-refused, all-started, all-fine, 
 
 -- ---- measure_tested
 module _ (s r : List ℕ) (u : Verdict) (x : u ≡ judge_length s) (ns : List ℕ) where
-  pub tested-long : (w : Refusal) → u ≡ Bad w → (y : Cause) → y ≡ bare w → Measures s r (resolving_tested s r) ns (measure.Refused y)
+  pub tested-long : (w : Refusal) → u ≡ Err w → (y : Cause) → y ≡ bare w → Measures s r (resolving_tested s r) ns (Err y)
   unfolding resolving_by
   tested-long w h y e = rw (← x, h, e) refuses
 
-  module _ (h : u ≡ Fine) (v : Verdict) (q : v ≡ judge_request r) where
-    pub tested-refused : (w : Refusal) → v ≡ Bad w → (y : Cause) → y ≡ bare w → Measures s r (resolving_tested s r) ns (measure.Refused y)
+  module _ (h : u ≡ Ok tt) (v : Verdict) (q : v ≡ judge_request r) where
+    pub tested-refused : (w : Refusal) → v ≡ Err w → (y : Cause) → y ≡ bare w → Measures s r (resolving_tested s r) ns (Err y)
     unfolding resolving_by
     tested-refused w g y e = rw (← x, h, ← q, g, e) refuses
 
-    pub tested-over : v ≡ Fine → (y : Measure) → Measures s r (steps_of (walking s) s r) ns y → Measures s r (resolving_tested s r) ns y
+    pub tested-over : v ≡ Ok tt → (y : Result (Option Measured) Cause) → Measures s r (steps_of (walking s) s r) ns y → Measures s r (resolving_tested s r) ns y
     unfolding resolving_by
     tested-over g y k = rw (← x, h, ← q, g) k
 
-pub tested-fine : (r : List ℕ) (v : Verdict) → v ≡ judge_request r → v ≡ Fine → judge_request r ≡ Fine
+pub tested-fine : (r : List ℕ) (v : Verdict) → v ≡ judge_request r → v ≡ Ok tt → judge_request r ≡ Ok tt
 tested-fine r v q g = sym q ∙ g
 
 pub ruleset measure-tested-laws = (tested-long, tested-refused, tested-over, tested-fine)

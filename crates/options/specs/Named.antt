@@ -7,39 +7,37 @@
 --    option_from i m ps c == the parts ps, the i-th first, from the message m on, and the constant c
 --
 -- Assumes nothing.
-use Rattle.std.specs.Prelude.{true, false, List, [], ◌∷◌, ℕ, ◌+◌, eqb}
+use Rattle.std.specs.Prelude.{true, false, List, [], ◌∷◌, ℕ, ◌+◌, eqb, Err, Ok, Result}
 use Rattle.reply.specs.declared.Refusal.{Refusal}
 use Rattle.reply.specs.declared.Refusal.TheVariants.{ExtensionIsNotMessage}
 use Rattle.field.specs.Leaf.{text}
 use Rattle.types.specs.Types.{TYPE_GROUP, TYPE_MESSAGE}
 use Rattle.sheet.specs.declared.declaration.Shape.{Shape}
 use Rattle.sheet.specs.declared.declaration.Declaration.{Declaration}
-use Rattle.fullname.specs.declared.LookedUp.{LookedUp}
-use Rattle.fullname.specs.declared.LookedUp.TheVariants.{Message as Is, NoMessage}
 use Rattle.request.specs.declared.name.Part.{Part}
 use Rattle.request.specs.Tree.{Constants}
 use Rattle.records.specs.Records.{nil}
 use Rattle.records.specs.Made.{Made, made, wrong, holding}
 use Rattle.lookups.specs.Lookups.{Lookups, Message}
 use Rattle.values.specs.Values.{on, records}
-use Rattle.steps.specs.declared.Step.{Step}
-use Rattle.steps.specs.declared.Step.TheVariants.{Found, NotFound}
 use Rattle.steps.specs.Steps.{why_of, step_of}
 use Rattle.faults.specs.declared.Fault.{Fault}
 use Rattle.faults.specs.Faults.{fault_at}
+use Rattle.scope.specs.declared.lookup.LookupScope.{LookupScope}
+use Rattle.steps.specs.declared.Lack.{Lack}
 
 -- of a constant's refusal the part is the last one of the name [WHERE-4]
 abbrev pub at : (part : ℕ) → Made Refusal → Made Fault
 at i (made x) = made x
 at i (wrong w) = wrong (fault_at i w)
 
-abbrev pub on_step : (part : ℕ) → Step → (Declaration → Made Fault) → Made Fault
-on_step i (NotFound l) f = wrong (fault_at i (why_of l))
-on_step i (Found d) f = f d
+abbrev pub on_step : (part : ℕ) → Result Declaration Lack → (Declaration → Made Fault) → Made Fault
+on_step i (Err l) f = wrong (fault_at i (why_of l))
+on_step i (Ok d) f = f d
 
-abbrev pub reached : (part field : ℕ) (name : List ℕ) → LookedUp → (Message → Made Fault) → Made Fault
-reached i n name (NoMessage w) f = wrong (fault_at i w)
-reached i n name (Is p) f = holding n (f (record { name = name; place = p }))
+abbrev pub reached : (part field : ℕ) (name : List ℕ) → Result LookupScope Refusal → (Message → Made Fault) → Made Fault
+reached i n name (Err w) f = wrong (fault_at i w)
+reached i n name (Ok p) f = holding n (f (record { name = name; place = p }))
 
 module _ (L : Lookups) (s r scope : List ℕ) where
   -- "Parts left on a message go inside it; on a group nothing is written there and the rest is unread (messages around it are written, the

@@ -6,12 +6,11 @@
 --     resolve_tested s r == what `resolve_tested` comes to
 --
 -- Assumes nothing.
-use Rattle.std.specs.Prelude.{List, ℕ, length}
+use Rattle.std.specs.Prelude.{List, ℕ, length, Err, None, Some, Ok, Option, Result}
 use Rattle.reply.specs.Outcome.{Outcome, nothing, give}
 use Rattle.reply.specs.Outcome as outcome
-use Rattle.judged.specs.declared.Judged.{Judged}
-use Rattle.judged.specs.declared.Judged.TheVariants as judged
 use Rattle.records.specs.Records.{encode}
+use Rattle.reply.specs.declared.Cause.{Cause}
 pub use Rattle.options.specs.Steps.{Steps, records, absent, refused, steps_in, on_type, some_options, unless, resolving, resolving_tested}
 unfoldable pub use Rattle.options.specs.Steps.{steps_of, resolving_by}
 
@@ -21,10 +20,10 @@ outcome_of (records x) = give (encode x)
 outcome_of absent = nothing
 outcome_of (refused e) = outcome.refused e
 
-abbrev pub judged_of : Steps → Judged
-judged_of (records x) = judged.Fine (length (encode x))
-judged_of absent = judged.Absent
-judged_of (refused e) = judged.Refused e
+abbrev pub judged_of : Steps → Result (Option ℕ) Cause
+judged_of (records x) = Ok (Some (length (encode x)))
+judged_of absent = Ok None
+judged_of (refused e) = Err e
 
 unfoldable pub resolve_bytes : (s r : List ℕ) → Outcome ℕ
 resolve_bytes s r = outcome_of (resolving s r)

@@ -9,13 +9,9 @@
 --    resolving_tested s r == the same, where its length is judged
 --
 -- Assumes nothing.
-use Rattle.std.specs.Prelude.{List, [], ◌∷◌, ℕ}
-use Rattle.reply.specs.declared.Verdict.{Verdict}
-use Rattle.reply.specs.declared.Verdict.TheVariants.{Fine, Refused}
-use Rattle.reply.specs.Verdicts.{first_fault}
+use Rattle.std.specs.Prelude.{List, [], ◌∷◌, ℕ, Err, Ok, Result}
+use Rattle.reply.specs.Verdicts.{first_fault, Verdict}
 use Rattle.field.specs.Leaf.{text}
-use Rattle.fullname.specs.declared.LookedUp.{LookedUp}
-use Rattle.fullname.specs.declared.LookedUp.TheVariants.{Message as Is, NoMessage}
 use Rattle.request.specs.Request.{Option, Request, request_of}
 use Rattle.sheetform.specs.Form.{judge_length, judge_sheet}
 use Rattle.requestform.specs.Form.{judge_request}
@@ -25,6 +21,8 @@ use Rattle.known.specs.Known.{known_recs}
 use Rattle.reply.specs.declared.Cause.{Cause}
 use Rattle.reply.specs.Reply.{bare}
 use Rattle.options.specs.Options.{Gathered, gathered, stopped, gather}
+use Rattle.reply.specs.declared.Refusal.{Refusal}
+use Rattle.scope.specs.declared.lookup.LookupScope.{LookupScope}
 
 pub data Steps : Type 0 where
   records : Recs → Steps
@@ -37,9 +35,9 @@ steps_in (gathered ks x) = records (append (known_recs ks) x)
 steps_in (stopped e) = refused e
 
 module _ (L : Lookups) (s r : List ℕ) where
-  abbrev pub on_type : Request → LookedUp → Steps
-  on_type q (NoMessage w) = refused (bare w)
-  on_type q (Is p) =
+  abbrev pub on_type : Request → Result LookupScope Refusal → Steps
+  on_type q (Err w) = refused (bare w)
+  on_type q (Ok p) =
       steps_in (gather L s r (text r q.scope) (record { name = text r q.options_type; place = p }) 0 [] nil q.options)
 
   -- "No options: Absent, before the options type is looked for." [STEP-1, STEP-2]
@@ -55,8 +53,8 @@ module _ (L : Lookups) (s r : List ℕ) where
 
 -- ---- a call: 01, Replies, "Inputs in the order a call names them, the sheet first" [ORDER-1]
 abbrev pub unless : Verdict → Steps → Steps
-unless Fine o = o
-unless (Refused w) o = refused (bare w)
+unless (Ok _) o = o
+unless (Err w) o = refused (bare w)
 
 unfoldable pub resolving_by : Verdict → (s r : List ℕ) → Steps
 resolving_by v s r = unless (first_fault v (judge_request r)) (steps_of (walking s) s r)

@@ -9,7 +9,7 @@ ghost use Rattle.steps.specs.inner.Reached.{message as message_of};
 ghost use Rattle.options.specs.Named.{at as at_part};
 ghost use Rattle.options.specs.inner.Written.{stepped_of, Steppable, constant_made, option_made};
 
-use faults::{Fault, Stepped, on_last};
+use faults::{Fault, on_last};
 use field::{Field, field_at};
 use limits::MOST_CONSTANTS;
 use records::{enclose, shortest_head};
@@ -28,7 +28,7 @@ fn put_constant(
     part: u32,
     out: &mut [u8],
     at: usize,
-) -> Stepped
+) -> Result<usize, Fault>
     requires from_le_to { (from ≤ to) × (to ≤ length request.now) }
     requires lies { Lies shape.path sheet.now }
     requires roomy { Roomy at (to - from) request.now }
@@ -36,13 +36,13 @@ fn put_constant(
         (at_part part (constant_made (walking sheet.now) sheet.now request.now shape from to))
         (bytes_most (to - from)) out.old at out.new result }
 {
-    let Field::Whole {
+    let Some(Field {
         tag,
         from: a,
         to: e,
-    } = field_at(request, from, to)
+    }) = field_at(request, from, to)
     else {
-        return Stepped::Next(at);
+        return Ok(at);
     };
     let wrote = put_value(sheet, request, shape, tag, a, e, MOST_CONSTANTS, out, at);
     on_last(part, wrote)
@@ -62,7 +62,7 @@ fn put_inside(
     part: u32,
     out: &mut [u8],
     at: usize,
-) -> Stepped
+) -> Result<usize, Fault>
     requires steppable { Steppable sheet.now request.now scope.now place from to part }
     requires roomy { Roomy at (3 + (to - from)) request.now }
     ensures { Emits stepped_of (holding number (option_made (walking sheet.now) sheet.now request.now
@@ -73,10 +73,10 @@ fn put_inside(
     let stepped = put_option(
         sheet, request, scope, message, place, from, to, part, out, start,
     );
-    let Stepped::Next(end) = stepped else {
+    let Ok(end) = stepped else {
         return stepped;
     };
-    Stepped::Next(enclose(out, at, number, end - start))
+    Ok(enclose(out, at, number, end - start))
 }
 
 // The parts of a name from a place on, the one at `part` first, in the message of that name and place, and the constant behind them.
@@ -92,15 +92,15 @@ pub fn put_option(
     part: u32,
     out: &mut [u8],
     at: usize,
-) -> Stepped
+) -> Result<usize, Fault>
     requires steppable { Steppable sheet.now request.now scope.now place from to part }
     requires roomy { Roomy at (to - from) request.now }
     ensures { Emits stepped_of (option_made (walking sheet.now) sheet.now request.now scope.now
         part (message_of message.now place) from to) (bytes_most (to - from)) out.old at out.new result }
 {
     match reach_of(sheet, request, scope, message, place, from, to) {
-        Reach::Fails(why) => Stepped::Refused(Fault { part, why }),
-        Reach::Nothing => Stepped::Next(at),
+        Reach::Fails(why) => Err(Fault { part, why }),
+        Reach::Nothing => Ok(at),
         Reach::Constant { shape, from: rest } => {
             put_constant(sheet, request, shape, rest, to, part, out, at)
         }

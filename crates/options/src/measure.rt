@@ -1,9 +1,8 @@
 // What a request comes to, measured before anything is written, and then written. It is measured in no room, which finds every refusal and
 // the length.
-ghost use Rattle.std.specs.Prelude.{◌≡◌, ◌≤◌, length};
+ghost use Rattle.std.specs.Prelude.{◌≡◌, ◌≤◌, length, Ok};
 ghost use Rattle.basis.specs.Kit.{sets};
 ghost use Rattle.limits.specs.Figures.{most_options};
-ghost use Rattle.reply.specs.declared.Verdict.TheVariants.{Fine};
 ghost use Rattle.requestform.specs.Form.{judge_request};
 ghost use Rattle.records.specs.Records.{encode};
 ghost use Rattle.lookups.specs.Lookups.{walking};
@@ -15,17 +14,8 @@ ghost use Rattle.options.specs.inner.Measuring.{all_of, Opens, Counted, Tallies,
 
 use crate::settle::{Settling, Start};
 use crate::{gather, put_known};
-use fullname::LookedUp;
-use reply::{Cause, Verdict, bare};
-use request::heading::{Headed, heading_of};
-
-// What the options start with, if there are any and the options type is found.
-#[derive(Clone, Copy)]
-pub enum Opening {
-    At(Start),
-    Absent,
-    Refused(Cause),
-}
+use reply::{Cause, bare};
+use request::heading::heading_of;
 
 // What there is to write: how many options there are, and how many bytes they come to.
 #[derive(Clone, Copy)]
@@ -35,37 +25,29 @@ pub struct Measured {
     pub length: u32,
 }
 
-// The verdict, with what was measured.
-#[derive(Clone, Copy)]
-pub enum Measure {
-    Fine(Measured),
-    Absent,
-    Refused(Cause),
-}
-
 // What the options of a fine request start with.
-fn open(sheet: &[u8], request: &[u8]) -> Opening
-    requires { judge_request request.now ≡ Fine }
+fn open(sheet: &[u8], request: &[u8]) -> Result<Option<Start>, Cause>
+    requires { judge_request request.now ≡ Ok tt }
     ensures { Opens sheet.now request.now result }
 {
-    let Headed::Heads(heading) = heading_of(request) else {
-        return Opening::Absent;
+    let Some(heading) = heading_of(request) else {
+        return Ok(None);
     };
     if request.len() <= heading.options {
-        return Opening::Absent;
+        return Ok(None);
     }
     let scope = heading.scope;
     let options_type = heading.options_type;
     let from = options_type.from;
     let to = options_type.to;
     match lookups::message(sheet, &request[from..to]) {
-        LookedUp::NoMessage(why) => Opening::Refused(bare(why)),
-        LookedUp::Message(place) => Opening::At(Start {
+        Err(why) => Err(bare(why)),
+        Ok(place) => Ok(Some(Start {
             scope: scope,
             options_type: options_type,
             options: heading.options,
             place: place,
-        }),
+        })),
     }
 }
 
@@ -94,7 +76,7 @@ fn known_length(sheet: &[u8], request: &[u8], start: Start, notes: &[usize], cou
 }
 
 // The options measured.
-fn measure_from(sheet: &[u8], request: &[u8], start: Start, notes: &mut [usize]) -> Measure
+fn measure_from(sheet: &[u8], request: &[u8], start: Start, notes: &mut [usize]) -> Result<Option<Measured>, Cause>
     requires started { Started sheet.now request.now start }
     requires fine_from { FineFrom request.now start }
     requires most_options_in_bounds { most_options ≤ length notes.old }
@@ -102,46 +84,46 @@ fn measure_from(sheet: &[u8], request: &[u8], start: Start, notes: &mut [usize])
         (steps_in (gathered_by (walking sheet.now) sheet.now request.now start)) notes.new result }
 {
     match gather_length(sheet, request, start, notes) {
-        Settling::Fails(cause) => Measure::Refused(cause),
+        Settling::Fails(cause) => Err(cause),
         Settling::Gives {
             note: count,
             next: others,
         } => {
             let known = known_length(sheet, request, start, notes, count);
-            Measure::Fine(Measured {
+            Ok(Some(Measured {
                 start: start,
                 count: count,
                 length: (known + others) as u32,
-            })
+            }))
         }
     }
 }
 
 // The verdict on a fine request.
-fn measure_all(sheet: &[u8], request: &[u8], notes: &mut [usize]) -> Measure
-    requires request_value { judge_request request.now ≡ Fine }
+fn measure_all(sheet: &[u8], request: &[u8], notes: &mut [usize]) -> Result<Option<Measured>, Cause>
+    requires request_value { judge_request request.now ≡ Ok tt }
     requires most_options_in_bounds { most_options ≤ length notes.old }
     ensures { Measures sheet.now request.now
         (steps_of (walking sheet.now) sheet.now request.now) notes.new result }
 {
     match open(sheet, request) {
-        Opening::Absent => Measure::Absent,
-        Opening::Refused(cause) => Measure::Refused(cause),
-        Opening::At(start) => measure_from(sheet, request, start, notes),
+        Ok(None) => Ok(None),
+        Err(cause) => Err(cause),
+        Ok(Some(start)) => measure_from(sheet, request, start, notes),
     }
 }
 
 // The verdict on a request under a sheet whose form was tested before: of that its length alone is tested here.
-pub fn measure_tested(sheet: &[u8], request: &[u8], notes: &mut [usize]) -> Measure
+pub fn measure_tested(sheet: &[u8], request: &[u8], notes: &mut [usize]) -> Result<Option<Measured>, Cause>
     requires { most_options ≤ length notes.old }
     ensures { Measures sheet.now request.now (resolving_tested sheet.now request.now)
         notes.new result }
 {
-    if let Verdict::Refused(why) = sheetform::check_length(sheet) {
-        return Measure::Refused(bare(why));
+    if let Err(why) = sheetform::check_length(sheet) {
+        return Err(bare(why));
     }
-    if let Verdict::Refused(why) = requestform::check_request(request) {
-        return Measure::Refused(bare(why));
+    if let Err(why) = requestform::check_request(request) {
+        return Err(bare(why));
     }
     measure_all(sheet, request, notes)
 }

@@ -17,10 +17,10 @@ ghost use Rattle.options.specs.inner.Settling.{message_of, settled_at, parted, o
 
 use crate::by_name::put_option;
 use builtins::{Built, builtin_of, put_builtin};
-use faults::{Fault, Stepped, cause_at};
+use faults::{Fault, cause_at};
 use field::{Field, Span, field_at};
 use reply::Cause;
-use request::name::{Part, Parted, part_at};
+use request::name::{Part, part_at};
 use scope::lookup::LookupScope;
 
 // What the options of a request start with: the scope and the path of the options type, where the options stand in the request, and where
@@ -42,20 +42,20 @@ pub enum Settling {
 }
 
 // The part that is the whole name of a builtin: a single direct one.
-fn builtin_part(request: &[u8], from: usize, to: usize) -> Parted
+fn builtin_part(request: &[u8], from: usize, to: usize) -> Option<Part>
     requires { (from ≤ to) × (to ≤ length request.now) }
     ensures { result ≡ parted (builtin_part (parts_in (walk request.now from to))) }
 {
-    let Parted::Is(part) = part_at(request, from, to) else {
-        return Parted::NoPart;
+    let Some(part) = part_at(request, from, to) else {
+        return None;
     };
     if part.extension {
-        return Parted::NoPart;
+        return None;
     }
-    if let Parted::Is(_) = part_at(request, part.name.to, to) {
-        return Parted::NoPart;
+    if let Some(_) = part_at(request, part.name.to, to) {
+        return None;
     }
-    Parted::Is(part)
+    Some(part)
 }
 
 // What the constant behind a part comes to on the builtin of its name.
@@ -69,11 +69,11 @@ fn built_at(sheet: &[u8], request: &[u8], start: Start, part: Part, to: usize) -
         (constant_at request.now part.name.to to) }
     ensures inside { InBuilt result request.now }
 {
-    let Field::Whole {
+    let Some(Field {
         tag,
         from: a,
         to: e,
-    } = field_at(request, part.name.to, to)
+    }) = field_at(request, part.name.to, to)
     else {
         return Built::Skipped;
     };
@@ -138,11 +138,11 @@ fn settle_named(
         out,
         at,
     ) {
-        Stepped::Next(next) => Settling::Gives {
+        Ok(next) => Settling::Gives {
             note: 0,
             next: next,
         },
-        Stepped::Refused(fault) => Settling::Fails(cause_at(option, fault)),
+        Err(fault) => Settling::Fails(cause_at(option, fault)),
     }
 }
 
@@ -163,7 +163,7 @@ pub fn settle(
         (others_of (settled_at (walking sheet.now) sheet.now request.now start from to)) (bytes_most (to - from))
         out.old at out.new result }
 {
-    let Parted::Is(part) = builtin_part(request, from, to) else {
+    let Some(part) = builtin_part(request, from, to) else {
         return settle_named(sheet, request, start, option, from, to, out, at);
     };
     settled_built(built_at(sheet, request, start, part, to), option, at)
@@ -187,7 +187,7 @@ pub fn put_set(
         (encode (set_recs (settled_at (walking sheet.now) sheet.now request.now start from to)))
         out.new result }
 {
-    let Parted::Is(part) = builtin_part(request, from, to) else {
+    let Some(part) = builtin_part(request, from, to) else {
         return at;
     };
     put_builtin(request, built_at(sheet, request, start, part, to), out, at)

@@ -4,8 +4,7 @@
 
 ghost use Rattle.std.specs.Prelude.{◌≤◌, length};
 
-use console::input::{Input, MOST_BYTES, field_of};
-use field::Leaf;
+use console::input::{MOST_BYTES, field_of};
 
 const SHEET: u8 = 0x40;
 
@@ -31,13 +30,13 @@ fn list_case(s: &[u8], at: usize, words: &mut [u32]) -> usize
     requires { at ≤ length s.now }
     ensures { result ≤ length s.now }
 {
-    let Leaf::At { from, to } = field_of(s, at, SHEET) else {
+    let Some(Span { from, to }) = field_of(s, at, SHEET) else {
         return 0;
     };
-    let Leaf::At { from: a, to: e } = field_of(s, to, OPTIONS_TYPE) else {
+    let Some(Span { from: a, to: e }) = field_of(s, to, OPTIONS_TYPE) else {
         return 0;
     };
-    let Leaf::At { from: n, to: m } = field_of(s, e, OPTION_BYTES) else {
+    let Some(Span { from: n, to: m }) = field_of(s, e, OPTION_BYTES) else {
         return 0;
     };
     answer_over(&s[from..to], &s[a..e], &s[n..m], words);
@@ -61,7 +60,7 @@ fn list_cases(s: &[u8], words: &mut [u32]) {
 
 // Standard input, read into a lent buffer.
 fn run_over(buffer: &mut [u8], words: &mut [u32]) {
-    let Input::Bytes(n) = console::input::read(buffer) else {
+    let Some(n) = console::input::read(buffer) else {
         return;
     };
     list_cases(&buffer[..n], words);

@@ -4,9 +4,8 @@
 
 ghost use Rattle.std.specs.Prelude.{◌≤◌, length};
 
-use console::input::{Input, MOST_BYTES, field_of};
+use console::input::{MOST_BYTES, field_of};
 use console::output::option_bytes;
-use field::Leaf;
 
 const SHEET: u8 = 0x40;
 
@@ -26,10 +25,10 @@ fn resolve_case(s: &[u8], at: usize, out: &mut [u8]) -> usize
     requires { at ≤ length s.now }
     ensures { result ≤ length s.now }
 {
-    let Leaf::At { from, to } = field_of(s, at, SHEET) else {
+    let Some(Span { from, to }) = field_of(s, at, SHEET) else {
         return 0;
     };
-    let Leaf::At { from: a, to: e } = field_of(s, to, REQUEST) else {
+    let Some(Span { from: a, to: e }) = field_of(s, to, REQUEST) else {
         return 0;
     };
     answer_case(&s[from..to], &s[a..e], out);
@@ -53,7 +52,7 @@ fn resolve_cases(s: &[u8], out: &mut [u8]) {
 
 // Standard input, read into a lent buffer.
 fn run_over(buffer: &mut [u8], out: &mut [u8]) {
-    let Input::Bytes(n) = console::input::read(buffer) else {
+    let Some(n) = console::input::read(buffer) else {
         return;
     };
     resolve_cases(&buffer[..n], out);

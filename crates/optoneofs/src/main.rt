@@ -4,8 +4,7 @@
 
 ghost use Rattle.std.specs.Prelude.{◌≤◌, length};
 
-use console::input::{Input, MOST_BYTES, field_of};
-use field::Leaf;
+use console::input::{MOST_BYTES, field_of};
 use inputs::words::MOST_PAYLOAD_WORDS;
 use limits::MOST_WORDS;
 
@@ -29,7 +28,7 @@ fn lower_words(numbering: u32, s: &[u8], at: usize) -> usize
     requires { at ≤ length s.now }
     ensures { result ≤ length s.now }
 {
-    let Leaf::At { from, to } = field_of(s, at, WORDS) else {
+    let Some(Span { from, to }) = field_of(s, at, WORDS) else {
         return 0;
     };
     if !console::input::has_words(WORDS, from, to) {
@@ -44,7 +43,7 @@ fn lower_numbered(s: &[u8], at: usize) -> usize
     requires { at ≤ length s.now }
     ensures { result ≤ length s.now }
 {
-    let Leaf::At { from, to } = field_of(s, at, NUMBERING) else {
+    let Some(Span { from, to }) = field_of(s, at, NUMBERING) else {
         return 0;
     };
     if !console::input::has_size(NUMBERING, from, to, 4) {
@@ -83,7 +82,7 @@ fn lower_cases(s: &[u8]) {
 
 // Standard input, read into a lent buffer.
 fn run_over(buffer: &mut [u8]) {
-    let Input::Bytes(n) = console::input::read(buffer) else {
+    let Some(n) = console::input::read(buffer) else {
         return;
     };
     lower_cases(&buffer[..n]);

@@ -4,9 +4,8 @@
 
 ghost use Rattle.std.specs.Prelude.{◌≤◌, length};
 
-use console::input::{Input, MOST_BYTES, field_of};
+use console::input::{MOST_BYTES, field_of};
 use console::output::text;
-use field::Leaf;
 
 const SHEET: u8 = 0x40;
 
@@ -36,16 +35,16 @@ fn query_case(s: &[u8], at: usize) -> usize
     requires { at ≤ length s.now }
     ensures { result ≤ length s.now }
 {
-    let Leaf::At { from, to } = field_of(s, at, SHEET) else {
+    let Some(Span { from, to }) = field_of(s, at, SHEET) else {
         return 0;
     };
-    let Leaf::At { from: a, to: e } = field_of(s, to, OPTIONS_TYPE) else {
+    let Some(Span { from: a, to: e }) = field_of(s, to, OPTIONS_TYPE) else {
         return 0;
     };
-    let Leaf::At { from: n, to: m } = field_of(s, e, NAME) else {
+    let Some(Span { from: n, to: m }) = field_of(s, e, NAME) else {
         return 0;
     };
-    let Leaf::At { from: b, to: f } = field_of(s, m, OPTION_BYTES) else {
+    let Some(Span { from: b, to: f }) = field_of(s, m, OPTION_BYTES) else {
         return 0;
     };
     answer(&s[from..to], &s[a..e], &s[n..m], &s[b..f]);
@@ -69,7 +68,7 @@ fn query_cases(s: &[u8]) {
 
 // Standard input, read into a lent buffer.
 fn run_over(buffer: &mut [u8]) {
-    let Input::Bytes(n) = console::input::read(buffer) else {
+    let Some(n) = console::input::read(buffer) else {
         return;
     };
     query_cases(&buffer[..n]);

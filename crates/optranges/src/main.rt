@@ -4,8 +4,7 @@
 
 ghost use Rattle.std.specs.Prelude.{◌≤◌, length};
 
-use console::input::{Input, MOST_BYTES, field_of};
-use field::Leaf;
+use console::input::{MOST_BYTES, field_of};
 use inputs::words::MOST_PAYLOAD_WORDS;
 use limits::MOST_WORDS;
 
@@ -29,13 +28,13 @@ fn lower_case(s: &[u8], at: usize) -> usize
     requires { at ≤ length s.now }
     ensures { result ≤ length s.now }
 {
-    let Leaf::At { from: k, to: next } = field_of(s, at, KIND) else {
+    let Some(Span { from: k, to: next }) = field_of(s, at, KIND) else {
         return 0;
     };
     if !console::input::has_size(KIND, k, next, 4) {
         return 0;
     }
-    let Leaf::At { from, to } = field_of(s, next, WORDS) else {
+    let Some(Span { from, to }) = field_of(s, next, WORDS) else {
         return 0;
     };
     if !console::input::has_words(WORDS, from, to) {
@@ -62,7 +61,7 @@ fn lower_cases(s: &[u8]) {
 
 // Standard input, read into a lent buffer.
 fn run_over(buffer: &mut [u8]) {
-    let Input::Bytes(n) = console::input::read(buffer) else {
+    let Some(n) = console::input::read(buffer) else {
         return;
     };
     lower_cases(&buffer[..n]);

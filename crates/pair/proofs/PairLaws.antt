@@ -1,14 +1,12 @@
 -- Pairs of a message constant: the ways through `pair_at`, where a pair lies, and the fields that begin with one or with none.
 -- Assumes nothing.
-use Rattle.std.specs.Prelude.{◌≡◌, refl, Bool, true, false, ◌&&◌, List, ℕ, ◌-◌, ◌≤◌, ◌<◌, leb, length}
+use Rattle.std.specs.Prelude.{◌≡◌, refl, Bool, true, false, ◌&&◌, List, ℕ, ◌-◌, ◌≤◌, ◌<◌, leb, length, None, Some, Option}
 use Rattle.basis.specs.Kit.{sym, ap, ◌∙◌}
 use Rattle.basis.proofs.Kit.{arith, not-true, not-false}
 use mathlib.Core.Path.{subst, subst⁻¹}
 use native.Mathlib.Decide.{dec_lt}
 use Rattle.basis.proofs.Never.{never}
-use Rattle.field.specs.declared.Field.{Field}
-use Rattle.field.specs.declared.Field.TheVariants.{Whole, Cut}
-use Rattle.field.specs.Field.{field_at}
+use Rattle.field.specs.Field.{field_at, field}
 use Rattle.field.specs.Leaf.{span}
 use Rattle.field.specs.Walk.{Walk, done, cut, step, walk}
 use Rattle.field.proofs.FieldLaws.{Bounds, field-bounds, field-inside}
@@ -17,9 +15,8 @@ use Rattle.field.proofs.Rest.{Rest}
 use Rattle.request.specs.Table.{pair_field_tag, pair_url_tag}
 use Rattle.request.specs.Constant.{is_pair_name}
 use Rattle.pair.specs.declared.Pair.{Pair}
-use Rattle.pair.specs.declared.Paired.{Paired}
-use Rattle.pair.specs.declared.Paired.TheVariants.{Pairs, NoPair}
 use Rattle.pair.specs.inner.Pair.{pair_with, pair_from, pair_at}
+use Rattle.field.specs.declared.Field.{Field}
 
 abbrev pub paired : ℕ → ℕ → ℕ → ℕ → ℕ → ℕ → Pair
 paired t a e k b f = record { by = t; name = span a e; tag = k; constant = span b f }
@@ -30,61 +27,61 @@ unfolding is_pair_name
 pair-name-is t = refl
 
 -- ---- pair_at
-module _ (s : List ℕ) (at end : ℕ) (r : Field) (q : r ≡ field_at s at end) where
-  pub pair-cut : r ≡ Cut → NoPair ≡ pair_at s at end
+module _ (s : List ℕ) (at end : ℕ) (r : Option Field) (q : r ≡ field_at s at end) where
+  pub pair-cut : r ≡ None → None ≡ pair_at s at end
   unfolding pair_at
   pair-cut g = rw (← q, g)
 
-  module _ (t a e : ℕ) (g : r ≡ Whole t a e) (n : Bool) (y : n ≡ is_pair_name t) where
-    pub pair-other : n ≡ false → NoPair ≡ pair_at s at end
+  module _ (here : Field) (g : r ≡ Some here) (n : Bool) (y : n ≡ is_pair_name here.tag) where
+    pub pair-other : n ≡ false → None ≡ pair_at s at end
     unfolding pair_at
     pair-other h = rw (← q, g) (simp (pair_from, ← y, h))
 
-    module _ (h : n ≡ true) (u : Field) (p : u ≡ field_at s e end) where
-      pub pair-short : u ≡ Cut → NoPair ≡ pair_at s at end
+    module _ (h : n ≡ true) (u : Option Field) (p : u ≡ field_at s here.to end) where
+      pub pair-short : u ≡ None → None ≡ pair_at s at end
       unfolding pair_at
       pair-short x = rw (← q, g) (simp (pair_from, ← y, h, ← p, x))
 
-      pub pair-whole : (k b f : ℕ) → u ≡ Whole k b f → Pairs (paired t a e k b f) ≡ pair_at s at end
+      pub pair-whole : (it : Field) → u ≡ Some it → Some (paired here.tag here.from here.to it.tag it.from it.to) ≡ pair_at s at end
       unfolding pair_at
-      pair-whole k b f x = rw (← q, g) (simp (pair_from, ← y, h, ← p, x))
+      pair-whole it x = rw (← q, g) (simp (pair_from, ← y, h, ← p, x))
 
 pub ruleset pair-laws = (not-true, not-false, pair-cut, pair-other, pair-short, pair-whole, field-inside)
 
 -- ---- the two fields that a pair is
 pub record PairFields (s : List ℕ) (at end : ℕ) (p : Pair) : Type 0 where
-  pub name : Whole p.by p.name.from p.name.to ≡ field_at s at end
+  pub name : Some (field p.by p.name.from p.name.to) ≡ field_at s at end
   pub named : is_pair_name p.by ≡ true
-  pub constant : Whole p.tag p.constant.from p.constant.to ≡ field_at s p.name.to end
+  pub constant : Some (field p.tag p.constant.from p.constant.to) ≡ field_at s p.name.to end
 
-pair-second : (s : List ℕ) (at end : ℕ) (p : Pair) (t a e : ℕ) → Whole t a e ≡ field_at s at end → is_pair_name t ≡ true
-    → (f : Field) → f ≡ field_at s e end → pair_with t a e f ≡ Pairs p → PairFields s at end p
-pair-second s at end p t a e q y Cut x g = never cc
-pair-second s at end p t a e q y (Whole k b f) x g =
-    let w : paired t a e k b f ≡ p = cc in
+pair-second : (s : List ℕ) (at end : ℕ) (p : Pair) (here : Field) → Some here ≡ field_at s at end → is_pair_name here.tag ≡ true
+    → (f : Option Field) → f ≡ field_at s here.to end → pair_with here.tag here.from here.to f ≡ Some p → PairFields s at end p
+pair-second s at end p here q y None x g = never cc
+pair-second s at end p here q y (Some found) x g =
+    let w : paired here.tag here.from here.to found.tag found.from found.to ≡ p = cc in
     subst (PairFields s at end) w (record { name = q; named = y; constant = x })
 
-pair-open : (s : List ℕ) (at end : ℕ) (p : Pair) (f : Field) → f ≡ field_at s at end → pair_from s end f ≡ Pairs p → PairFields s at end p
-pair-open s at end p Cut q g = never cc
-pair-open s at end p (Whole t a e) q g = go (is_pair_name t) refl g
+pair-open : (s : List ℕ) (at end : ℕ) (p : Pair) (f : Option Field) → f ≡ field_at s at end → pair_from s end f ≡ Some p → PairFields s at end p
+pair-open s at end p None q g = never cc
+pair-open s at end p (Some here) q g = go (is_pair_name here.tag) refl g
   where
-    go : (b : Bool) → is_pair_name t ≡ b → elim b [ true ↦ pair_with t a e (field_at s e end) | false ↦ NoPair ] ≡ Pairs p
+    go : (b : Bool) → is_pair_name here.tag ≡ b → elim b [ true ↦ pair_with here.tag here.from here.to (field_at s here.to end) | false ↦ None ] ≡ Some p
         → PairFields s at end p
-    go true y g = pair-second s at end p t a e q y (field_at s e end) refl g
+    go true y g = pair-second s at end p here.tag here.from here.to q y (field_at s here.to end) refl g
     go false y g = never cc
 
-module _ (s : List ℕ) (at end : ℕ) (r : Paired) (q : r ≡ pair_at s at end) (p : Pair) (g : r ≡ Pairs p) where
+module _ (s : List ℕ) (at end : ℕ) (r : Option Pair) (q : r ≡ pair_at s at end) (p : Pair) (g : r ≡ Some p) where
   pub pair-fields : PairFields s at end p
   unfolding pair_at
   pair-fields = pair-open s at end p (field_at s at end) refl (sym q ∙ g)
 
   name-bounds : Bounds at end p.name.from p.name.to
   name-bounds =
-      field-bounds s at end (Whole p.by p.name.from p.name.to) pair-fields.name p.by p.name.from p.name.to refl
+      field-bounds s at end (Some (field p.by p.name.from p.name.to)) pair-fields.name p.by p.name.from p.name.to refl
 
   constant-bounds : Bounds p.name.to end p.constant.from p.constant.to
   constant-bounds =
-      field-bounds s p.name.to end (Whole p.tag p.constant.from p.constant.to) pair-fields.constant
+      field-bounds s p.name.to end (Some (field p.tag p.constant.from p.constant.to)) pair-fields.constant
       p.tag p.constant.from p.constant.to refl
 
   pub pair-name-ordered : p.name.from ≤ p.name.to
@@ -114,9 +111,9 @@ module _ (s : List ℕ) (at end : ℕ) (r : Paired) (q : r ≡ pair_at s at end)
   pair-steps =
       let h : at < end = omega (arith, pair-further, pair-constant-inside) in
       let k : p.name.to < end = omega (arith, constant-bounds.starts, constant-bounds.ordered, pair-constant-inside) in
-      walk_step s at end h (Whole p.by p.name.from p.name.to) pair-fields.name p.by p.name.from p.name.to refl
+      walk_step s at end h (Some (field p.by p.name.from p.name.to)) pair-fields.name p.by p.name.from p.name.to refl
       ∙ ap (step p.by p.name.from p.name.to)
-      (walk_step s p.name.to end k (Whole p.tag p.constant.from p.constant.to) pair-fields.constant
+      (walk_step s p.name.to end k (Some (field p.tag p.constant.from p.constant.to)) pair-fields.constant
       p.tag p.constant.from p.constant.to refl)
 
 pub ruleset pair-places =
@@ -129,37 +126,37 @@ pub data Pairless : Walk → Type 0 where
   alone : {t a e : ℕ} → Pairless (step t a e done)
   cut_short : {t a e : ℕ} → Pairless (step t a e cut)
 
-module _ (s : List ℕ) (at end : ℕ) (h : at < end) (t a e : ℕ) (q : Whole t a e ≡ field_at s at end) where
-  first_step : walk s at end ≡ step t a e (walk s e end)
-  first_step = walk_step s at end h (Whole t a e) q t a e refl
+module _ (s : List ℕ) (at end : ℕ) (h : at < end) (here : Field) (q : Some here ≡ field_at s at end) where
+  first_step : walk s at end ≡ step here.tag here.from here.to (walk s here.to end)
+  first_step = walk_step s at end h (Some here) q here refl
 
-  pairless-second : (f : Field) → f ≡ field_at s e end → pair_with t a e f ≡ NoPair → Pairless (walk s at end)
-  pairless-second (Whole k b f) x g = never cc
-  pairless-second Cut x g = elim (dec_lt e end) [
-    | yes k ↦ subst⁻¹ Pairless (first_step ∙ ap (step t a e) (walk-cut s e end k Cut x refl)) cut_short
-    | no k ↦ subst⁻¹ Pairless (first_step ∙ ap (step t a e) (walk-done s e end (omega arith))) alone
+  pairless-second : (f : Option Field) → f ≡ field_at s here.to end → pair_with here.tag here.from here.to f ≡ None → Pairless (walk s at end)
+  pairless-second (Some it) x g = never cc
+  pairless-second None x g = elim (dec_lt here.to end) [
+    | yes k ↦ subst⁻¹ Pairless (first_step ∙ ap (step here.tag here.from here.to) (walk-cut s here.to end k None x refl)) cut_short
+    | no k ↦ subst⁻¹ Pairless (first_step ∙ ap (step here.tag here.from here.to) (walk-done s here.to end (omega arith))) alone
   ]
 
-pairless-from : (s : List ℕ) (at end : ℕ) → at < end → (f : Field) → f ≡ field_at s at end → pair_from s end f ≡ NoPair
+pairless-from : (s : List ℕ) (at end : ℕ) → at < end → (f : Option Field) → f ≡ field_at s at end → pair_from s end f ≡ None
     → Pairless (walk s at end)
-pairless-from s at end h Cut q g = subst⁻¹ Pairless (walk-cut s at end h Cut q refl) broken
-pairless-from s at end h (Whole t a e) q g = go (is_pair_name t) refl g
+pairless-from s at end h None q g = subst⁻¹ Pairless (walk-cut s at end h None q refl) broken
+pairless-from s at end h (Some it1) q g = go (is_pair_name it1.tag) refl g
   where
-    go : (b : Bool) → is_pair_name t ≡ b → elim b [ true ↦ pair_with t a e (field_at s e end) | false ↦ NoPair ] ≡ NoPair
+    go : (b : Bool) → is_pair_name it1.tag ≡ b → elim b [ true ↦ pair_with it1.tag it1.from it1.to (field_at s it1.to end) | false ↦ None ] ≡ None
         → Pairless (walk s at end)
-    go true y g = pairless-second s at end h t a e q (field_at s e end) refl g
-    go false y g = subst⁻¹ Pairless (first_step s at end h t a e q) (unnamed y)
+    go true y g = pairless-second s at end h it1.tag it1.from it1.to q (field_at s it1.to end) refl g
+    go false y g = subst⁻¹ Pairless (first_step s at end h it1.tag it1.from it1.to q) (unnamed y)
 
-pub pair-none : (s : List ℕ) (at end : ℕ) → at < end → (r : Paired) → r ≡ pair_at s at end → r ≡ NoPair → Pairless (walk s at end)
+pub pair-none : (s : List ℕ) (at end : ℕ) → at < end → (r : Option Pair) → r ≡ pair_at s at end → r ≡ None → Pairless (walk s at end)
 unfolding pair_at
 pair-none s at end h r q g = pairless-from s at end h (field_at s at end) refl (sym q ∙ g)
 
 -- ---- a loop over pairs: the answer v is what F gives of the fields that are left
-module _ {A : Type 0} (v : A) (F : Walk → A) (s : List ℕ) (to i : ℕ) (k : Rest v F s to i) (r : Paired) (q : r ≡ pair_at s i to) where
-  pub rest-pairless : i < to → r ≡ NoPair → (x : A) → ((w : Walk) → Pairless w → F w ≡ x) → v ≡ x
+module _ {A : Type 0} (v : A) (F : Walk → A) (s : List ℕ) (to i : ℕ) (k : Rest v F s to i) (r : Option Pair) (q : r ≡ pair_at s i to) where
+  pub rest-pairless : i < to → r ≡ None → (x : A) → ((w : Walk) → Pairless w → F w ≡ x) → v ≡ x
   rest-pairless h g x f = k.rest ∙ f (walk s i to) (pair-none s i to h r q g)
 
-  module _ (p : Pair) (g : r ≡ Pairs p) where
+  module _ (p : Pair) (g : r ≡ Some p) where
     pub rest-pair : v
         ≡ F (step p.by p.name.from p.name.to
         (step p.tag p.constant.from p.constant.to (walk s p.constant.to to)))

@@ -17,13 +17,6 @@ pub struct Pair {
     pub constant: Span,
 }
 
-// What a reader of pairs answers.
-#[derive(Clone, Copy)]
-pub enum Paired {
-    Pairs(Pair),
-    NoPair,
-}
-
 // Whether the tag is that of a pair's name.
 fn is_pair_name(tag: u8) -> bool
     ensures { result ≡ is_pair_name tag }
@@ -32,25 +25,25 @@ fn is_pair_name(tag: u8) -> bool
 }
 
 // The pair at a place; the next one starts where its constant ends.
-pub fn pair_at(s: &[u8], at: usize, end: usize) -> Paired
+pub fn pair_at(s: &[u8], at: usize, end: usize) -> Option<Pair>
     requires { (at ≤ end) × (end ≤ length s.now) }
     ensures { result ≡ pair_at s.now at end }
 {
-    let Field::Whole { tag: by, from, to } = field_at(s, at, end) else {
-        return Paired::NoPair;
+    let Some(Field { tag: by, from, to }) = field_at(s, at, end) else {
+        return None;
     };
     if !is_pair_name(by) {
-        return Paired::NoPair;
+        return None;
     }
-    let Field::Whole {
+    let Some(Field {
         tag,
         from: a,
         to: e,
-    } = field_at(s, to, end)
+    }) = field_at(s, to, end)
     else {
-        return Paired::NoPair;
+        return None;
     };
-    Paired::Pairs(Pair {
+    Some(Pair {
         by: by,
         name: Span { from: from, to: to },
         tag: tag,

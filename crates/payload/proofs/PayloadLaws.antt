@@ -1,7 +1,7 @@
 -- The laws of `payload`: the ways through the test of a place and a length, what it says where it is fine, and the part and the answer of
 -- its verdict.
 -- Assumes nothing.
-use Rattle.std.specs.Prelude.{◌≡◌, refl, Bool, true, false, List, ℕ, ◌+◌, ◌-◌, ◌≤◌, ◌<◌, leb, length}
+use Rattle.std.specs.Prelude.{◌≡◌, refl, Bool, true, false, List, ℕ, ◌+◌, ◌-◌, ◌≤◌, ◌<◌, leb, length, Err, Ok}
 use Rattle.basis.specs.Kit.{sym, ap, ◌∙◌}
 use Rattle.basis.proofs.Kit.{arith, Fits, w64}
 use mir.Syntax.{w32}
@@ -10,10 +10,8 @@ use Rattle.limits.specs.Figures.{most_option_bytes}
 use Rattle.octets.specs.Octets.{part}
 use Rattle.reply.specs.declared.Refusal.{Refusal}
 use Rattle.reply.specs.declared.Refusal.TheVariants.{BadRequest, BeyondLimit}
-use Rattle.reply.specs.declared.Verdict.{Verdict}
-use Rattle.reply.specs.declared.Verdict.TheVariants.{Fine, Refused}
 use Rattle.reply.specs.declared.Answer.{Answer}
-use Rattle.reply.specs.Verdicts.{judged, Says}
+use Rattle.reply.specs.Verdicts.{judged, Says, Verdict}
 use Rattle.reply.specs.Reply.{refused_by, done_with}
 use Rattle.reply.proofs.VerdictLaws.{says, first-fine-front, first-fine-rest, judged-fine}
 use Rattle.field.specs.Part.{PartOf, no_bytes}
@@ -25,7 +23,7 @@ pub bytes-said : (bs : List ℕ) (b : Bool) (r : Verdict) → b ≡ leb (length 
 unfolding judge_bytes
 bytes-said bs b r p q = says _ r (q ∙ ap (judged BeyondLimit) p)
 
-pub bytes-short : (bs : List ℕ) (r : Verdict) → Says (judge_bytes bs) r → r ≡ Fine → length bs ≤ most_option_bytes
+pub bytes-short : (bs : List ℕ) (r : Verdict) → Says (judge_bytes bs) r → r ≡ Ok tt → length bs ≤ most_option_bytes
 unfolding judge_bytes
 bytes-short bs r k q = leb-true (length bs) most_option_bytes (judged-fine BeyondLimit (leb (length bs) most_option_bytes) (sym k.is ∙ q))
 
@@ -40,12 +38,12 @@ same_test at n k h = go (leb n (k - at)) refl
     go false e = lt-leb (at + n) k (omega (arith, leb-false n (k - at) e))
 
 module _ (bs : List ℕ) (at n : ℕ) (v : Verdict) (q : Says (judge_bytes bs) v) where
-  pub place-long : (w : Refusal) → v ≡ Refused w → Refused w ≡ judge_payload bs at n
+  pub place-long : (w : Refusal) → v ≡ Err w → Err w ≡ judge_payload bs at n
   unfolding judge_payload
   place-long w g = rw (← q.is, g)
 
-  module _ (g : v ≡ Fine) where
-    pub place-past : length bs < at → Refused BadRequest ≡ judge_payload bs at n
+  module _ (g : v ≡ Ok tt) where
+    pub place-past : length bs < at → Err BadRequest ≡ judge_payload bs at n
     unfolding judge_payload
     place-past h = rw (← q.is, g, lt-leb (at + n) (length bs) (omega arith))
 
@@ -56,7 +54,7 @@ module _ (bs : List ℕ) (at n : ℕ) (v : Verdict) (q : Says (judge_bytes bs) v
 pub ruleset place-laws = (place-long, place-past, place-judged)
 
 -- ---- what is fine
-module _ (bs : List ℕ) (at n : ℕ) (v : Verdict) (q : v ≡ judge_payload bs at n) (g : v ≡ Fine) where
+module _ (bs : List ℕ) (at n : ℕ) (v : Verdict) (q : v ≡ judge_payload bs at n) (g : v ≡ Ok tt) where
   short : length bs ≤ most_option_bytes
   unfolding judge_payload judge_bytes
   short = leb-true _ _ (judged-fine BeyondLimit _ (first-fine-front (judge_bytes bs) _ (sym q ∙ g)))
@@ -84,7 +82,7 @@ module _ (bs : List ℕ) (at n : ℕ) (v : Verdict) (q : v ≡ judge_payload bs 
   answer-done r e = rw (← q, g) e
 
 -- ---- what is refused
-module _ (bs : List ℕ) (at n : ℕ) (v : Verdict) (q : v ≡ judge_payload bs at n) (w : Refusal) (g : v ≡ Refused w) where
+module _ (bs : List ℕ) (at n : ℕ) (v : Verdict) (q : v ≡ judge_payload bs at n) (w : Refusal) (g : v ≡ Err w) where
   pub part-refused : (b o : ℕ) (x : List ℕ) (b' o' : ℕ) → PartOf no_bytes bs b o x b' o' → PartOf (payload_span bs at n) bs b o x b' o'
   unfolding payload_span
   part-refused b o x b' o' h = rw (← q, g) h

@@ -6,13 +6,11 @@
 --   payload_answer bs at n == the answer beside it
 --
 -- Assumes nothing.
-use Rattle.std.specs.Prelude.{List, ℕ, ◌+◌, leb, length}
+use Rattle.std.specs.Prelude.{List, ℕ, ◌+◌, leb, length, Err, Ok}
 use Rattle.limits.specs.Figures.{most_option_bytes}
 use Rattle.reply.specs.declared.Refusal.TheVariants.{BadRequest, BeyondLimit}
-use Rattle.reply.specs.declared.Verdict.{Verdict}
-use Rattle.reply.specs.declared.Verdict.TheVariants.{Fine, Refused}
 use Rattle.reply.specs.declared.Answer.{Answer}
-use Rattle.reply.specs.Verdicts.{first_fault, judged, answer_for}
+use Rattle.reply.specs.Verdicts.{first_fault, judged, answer_for, Verdict}
 use Rattle.field.specs.declared.Span.{Span}
 use Rattle.field.specs.Leaf.{span}
 use Rattle.field.specs.Part.{no_bytes}
@@ -27,8 +25,8 @@ judge_payload bs at n = first_fault (judge_bytes bs) (judged BadRequest (leb (at
 
 -- "The payload of a length-delimited record comes back as a part of the option bytes" [PAYLOAD-1]
 abbrev pub span_for : (at size : ℕ) → Verdict → Span
-span_for at n Fine = span at (at + n)
-span_for at n (Refused w) = no_bytes
+span_for at n (Ok _) = span at (at + n)
+span_for at n (Err w) = no_bytes
 
 unfoldable pub payload_span : (bs : List ℕ) (at size : ℕ) → Span
 payload_span bs at n = span_for at n (judge_payload bs at n)

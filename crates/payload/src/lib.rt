@@ -9,10 +9,10 @@ ghost use Rattle.payload.specs.Payload.{judge_bytes, judge_payload, payload_span
 
 use field::part::none_of;
 use limits::MOST_OPTION_BYTES;
-use reply::{Answer, Refusal, Verdict};
+use reply::{Answer, Refusal};
 
 // Whether option bytes are not too long to read.
-pub fn check_bytes(bytes: &[u8]) -> Verdict
+pub fn check_bytes(bytes: &[u8]) -> Result<(), Refusal>
     ensures { Says (judge_bytes bytes.now) result }
 {
     reply::judge(bytes.len() <= MOST_OPTION_BYTES, Refusal::BeyondLimit)
@@ -26,14 +26,14 @@ pub struct AnsweredPart<'b> {
 }
 
 // Whether a place and a length lie in option bytes that are not too long.
-fn check_place(bytes: &[u8], place: usize, length: usize) -> Verdict
+fn check_place(bytes: &[u8], place: usize, length: usize) -> Result<(), Refusal>
     ensures { result ≡ judge_payload bytes.now place length }
 {
-    if let Verdict::Refused(why) = check_bytes(bytes) {
-        return Verdict::Refused(why);
+    if let Err(why) = check_bytes(bytes) {
+        return Err(why);
     }
     if bytes.len() < place {
-        return Verdict::Refused(Refusal::BadRequest);
+        return Err(Refusal::BadRequest);
     }
     reply::judge(length <= bytes.len() - place, Refusal::BadRequest)
 }
@@ -43,7 +43,7 @@ pub fn payload_part<'b>(bytes: &'b [u8], place: usize, length: usize) -> &'b [u8
     ensures { PartOf (payload_span bytes.now place length)
         bytes.now bytes.entry.ref_ptr.0 bytes.entry.ref_ptr.1 result.now result.ref_ptr.0 result.ref_ptr.1 }
 {
-    if let Verdict::Refused(_) = check_place(bytes, place, length) {
+    if let Err(_) = check_place(bytes, place, length) {
         return none_of(bytes);
     }
     let end = place + length;
@@ -55,8 +55,8 @@ pub fn payload_answer(bytes: &[u8], place: usize, length: usize) -> Answer
     ensures { result ≡ payload_answer bytes.now place length }
 {
     match check_place(bytes, place, length) {
-        Verdict::Refused(why) => reply::refused(why),
-        Verdict::Fine => reply::done(length as u32),
+        Err(why) => reply::refused(why),
+        Ok(()) => reply::done(length as u32),
     }
 }
 

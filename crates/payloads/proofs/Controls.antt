@@ -8,10 +8,9 @@ use Rattle.types.specs.Types.{VARINT, I64, LEN, I32}
 use Rattle.varint.specs.Varint.{read_within, read_varint}
 use Rattle.wire.specs.Fixed.{little}
 use Rattle.wire.specs.Numbers.{unzigzag_of, low32_of, widen32_of}
-use Rattle.payloads.specs.declared.Payload.TheVariants.{Whole, Cut}
 use Rattle.payloads.specs.Extent.{Extent, payload_at}
 use Rattle.payloads.specs.Value.{said, value_of}
-use Rattle.payloads.specs.inner.Placed.{payload_in}
+use Rattle.payloads.specs.inner.Placed.{payload_in, held}
 
 -- ---- the value of what is said, by the groups of types
 bools : map (value_of TYPE_BOOL) (0 ∷ 1 ∷ 0x8000000000000000 ∷ []) ≡ 0 ∷ 1 ∷ 1 ∷ []
@@ -112,6 +111,6 @@ bytes = 0xFF ∷ 0x96 ∷ 0x01 ∷ 0x02 ∷ 0x03 ∷ 0x04 ∷ []
 placed :
     payload_in VARINT bytes 1 3 ∷ payload_in VARINT bytes 1 2 ∷ payload_in I32 bytes 2 6 ∷ payload_in I32 bytes 2 5
     ∷ payload_in LEN bytes 2 4 ∷ payload_in LEN bytes 2 3 ∷ []
-    ≡ Whole 1 2 150 ∷ Cut ∷ Whole 2 4 0x04030201 ∷ Cut ∷ Whole 3 1 0 ∷ Cut ∷ []
+    ≡ Some (held 1 2 150) ∷ None ∷ Some (held 2 4 0x04030201) ∷ None ∷ Some (held 3 1 0) ∷ None ∷ []
 unfolding payload_in payload_at said read_varint read_within little
 placed = refl

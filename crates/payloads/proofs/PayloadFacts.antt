@@ -9,29 +9,27 @@ use borrow.Author.Tests.{leb-true}
 use lib.ListN.{length-take}
 use Rattle.octets.specs.Octets.{part}
 use Rattle.types.specs.Types.{VARINT, I64, LEN, I32}
-use Rattle.varint.specs.declared.Read.{Read}
-use Rattle.varint.specs.declared.Read.TheVariants.{Varint, Bad}
-use Rattle.varint.specs.Varint.{read_varint}
-use Rattle.payloads.specs.declared.Payload.{Payload}
-use Rattle.payloads.specs.declared.Payload.TheVariants.{Whole}
+use Rattle.varint.specs.Varint.{read_varint, read}
 use Rattle.payloads.specs.Extent.{Extent, within, on_read, payload_at}
 use Rattle.payloads.specs.Value.{said}
-use Rattle.payloads.specs.inner.Placed.{placed, payload_in}
+use Rattle.payloads.specs.inner.Placed.{placed, payload_in, held}
 use Rattle.payloads.proofs.VarintOwn.{varint-own}
+use Rattle.payloads.specs.declared.Payload.{Payload}
+use Rattle.varint.specs.declared.Read.{Read}
 
 -- ---- what is made of a varint was made of one that was read
 pub record Given {A : Type 0} (bs : List ℕ) (f : (value size : ℕ) → Option A) (x : A) : Type 0 where
   pub value : ℕ
   pub size : ℕ
-  pub read : read_varint bs ≡ Varint value size
+  pub read : read_varint bs ≡ Some (read value size)
   pub made : f value size ≡ Some x
 
 pub read-given : {A : Type 0} (bs : List ℕ) (f : (value size : ℕ) → Option A) (x : A) → on_read (read_varint bs) f ≡ Some x → Given bs f x
 read-given {A} bs f x = go (read_varint bs) refl
   where
-    go : (r : Read) → read_varint bs ≡ r → on_read r f ≡ Some x → Given bs f x
-    go (Varint v n) e q = record { value = v; size = n; read = e; made = q }
-    go Bad e q = never cc
+    go : (r : Option Read) → read_varint bs ≡ r → on_read r f ≡ Some x → Given bs f x
+    go (Some it) e q = record { value = it.value; size = it.next; read = e; made = q }
+    go None e q = never cc
 
 -- ---- an extent: n bytes behind k, and all of them are there
 record Held (bs : List ℕ) (k n : ℕ) (x : Extent) : Type 0 where
@@ -79,12 +77,12 @@ abbrev pub bytes_of : List ℕ → Extent → List ℕ
 bytes_of bs x = take x.size (drop x.before bs)
 
 module _ (bs : List ℕ) (x : Extent) where
-  pub extent-own : payload_at VARINT bs ≡ Some x → read_varint (bytes_of bs x) ≡ Varint (said VARINT (bytes_of bs x)) x.size
+  pub extent-own : payload_at VARINT bs ≡ Some x → read_varint (bytes_of bs x) ≡ Some (read (said VARINT (bytes_of bs x)) x.size)
   unfolding payload_at said
   extent-own e =
       let g = read-given bs (λ v n. within bs 0 n) x e in
       let h = within_held bs 0 g.size x g.made in
-      let here : read_varint (take g.size bs) ≡ Varint g.value g.size = varint-own bs g.value g.size g.read in
+      let here : read_varint (take g.size bs) ≡ Some (read g.value g.size) = varint-own bs g.value g.size g.read in
       rw (h.is, here)
 
   pub extent-eight : payload_at I64 bs ≡ Some x → x.size ≡ 8
@@ -95,7 +93,7 @@ module _ (bs : List ℕ) (x : Extent) where
   unfolding payload_at
   extent-four e = rw (within_held bs 0 4 x e).is
 
-  pub extent-length : payload_at LEN bs ≡ Some x → read_varint bs ≡ Varint x.size x.before
+  pub extent-length : payload_at LEN bs ≡ Some x → read_varint bs ≡ Some (read x.size x.before)
   unfolding payload_at
   extent-length e =
       let g = read-given bs (λ k n. within bs n k) x e in
@@ -110,15 +108,15 @@ pub record PlacedAs (w : ℕ) (s : List ℕ) (at end p k v : ℕ) : Type 0 where
   pub number : v ≡ said w (bytes_of (part s at end) extent)
 
 module _ (w : ℕ) (s : List ℕ) (at end p k v : ℕ) where
-  pub payload-placed : payload_in w s at end ≡ Whole p k v → PlacedAs w s at end p k v
+  pub payload-placed : payload_in w s at end ≡ Some (held p k v) → PlacedAs w s at end p k v
   unfolding payload_in
   payload-placed = go (payload_at w (part s at end)) refl
     where
-      go : (o : Option Extent) → payload_at w (part s at end) ≡ o → placed w (part s at end) at o ≡ Whole p k v → PlacedAs w s at end p k v
+      go : (o : Option Extent) → payload_at w (part s at end) ≡ o → placed w (part s at end) at o ≡ Some (held p k v) → PlacedAs w s at end p k v
       go None e q = never cc
       go (Some x) e q = record { extent = x; found = e; place = cc; size = cc; number = cc }
 
-  module _ (e : payload_in w s at end ≡ Whole p k v) where
+  module _ (e : payload_in w s at end ≡ Some (held p k v)) where
     pub payload-after : at ≤ p
     payload-after = let h = payload-placed e in omega (arith, h.place)
 
@@ -130,11 +128,11 @@ module _ (w : ℕ) (s : List ℕ) (at end p k v : ℕ) where
         omega (arith, h.place, h.size, room, few)
 
 -- as the callers of `payload_at` have it
-module _ (w : ℕ) (s : List ℕ) (at end : ℕ) (r : Payload) (e : r ≡ payload_in w s at end) (p k v : ℕ) (q : r ≡ Whole p k v) where
-  pub whole-after : at ≤ p
-  whole-after = payload-after w s at end p k v (sym e ∙ q)
+module _ (w : ℕ) (s : List ℕ) (at end : ℕ) (r : Option Payload) (e : r ≡ payload_in w s at end) (x : Payload) (q : r ≡ Some x) where
+  pub whole-after : at ≤ x.at
+  whole-after = payload-after w s at end x.at x.size x.number (sym e ∙ q)
 
-  pub whole-inside : at ≤ end → p + k ≤ end
-  whole-inside = payload-inside w s at end p k v (sym e ∙ q)
+  pub whole-inside : at ≤ end → x.at + x.size ≤ end
+  whole-inside = payload-inside w s at end x.at x.size x.number (sym e ∙ q)
 
 pub ruleset payload-bounds = (whole-after, whole-inside)

@@ -1,6 +1,6 @@
 -- The value of what this project writes is what was written: of every number that fits its type.
 -- Assumes nothing.
-use Rattle.std.specs.Prelude.{◌≡◌, refl, Bool, true, false, ◌&&◌, ◌||◌, List, [], ◌∷◌, ℕ, ◌-◌, ◌^◌, ◌≤◌, ◌<◌, eqb, length}
+use Rattle.std.specs.Prelude.{◌≡◌, refl, Bool, true, false, ◌&&◌, ◌||◌, List, [], ◌∷◌, ℕ, ◌-◌, ◌^◌, ◌≤◌, ◌<◌, eqb, length, Some}
 use Rattle.basis.specs.Kit.{sym, ap, ◌∙◌}
 use Rattle.basis.proofs.Kit.{arith, ne_eqb}
 use mathlib.Core.Path.{subst}
@@ -14,8 +14,7 @@ use Rattle.types.specs.Types.{is_any, wire_of, I64, LEN, SGROUP, I32, VARINT}
 use Rattle.types.specs.Types.{TYPE_DOUBLE, TYPE_FIXED64, TYPE_SFIXED64, TYPE_STRING, TYPE_BYTES, TYPE_MESSAGE, TYPE_GROUP}
 use Rattle.types.specs.Types.{TYPE_FLOAT, TYPE_INT32, TYPE_FIXED32, TYPE_BOOL, TYPE_UINT32, TYPE_ENUM, TYPE_SFIXED32}
 use Rattle.types.specs.Types.{TYPE_SINT32, TYPE_SINT64}
-use Rattle.varint.specs.declared.Read.TheVariants.{Varint}
-use Rattle.varint.specs.Varint.{varint, read_varint}
+use Rattle.varint.specs.Varint.{varint, read_varint, read}
 use Rattle.varint.proofs.VarintLaws.{read-varint}
 use Rattle.wire.specs.Fixed.{little_of}
 use Rattle.wire.proofs.FixedLaws.{little-little-of}
@@ -77,7 +76,7 @@ module _ (v : ℕ) where
   pub said-varint : v < 2 ^ 64 → said VARINT (varint v) ≡ v
   unfolding said
   said-varint h =
-      let here : read_varint (varint v) ≡ Varint v (length (varint v)) = rw append-nil at (read-varint v [] h) in
+      let here : read_varint (varint v) ≡ Some (read v (length (varint v))) = rw append-nil at (read-varint v [] h) in
       rw here
 
   pub said-four : v < 2 ^ 32 → said I32 (little_of 4 v) ≡ v

@@ -9,9 +9,8 @@
 -- Assumes nothing.
 use Rattle.std.specs.Prelude.{true, false, List, ℕ, ◌+◌, eqb, leb, length, Option, None, Some}
 use Rattle.types.specs.Types.{VARINT, I64, I32}
-use Rattle.varint.specs.declared.Read.{Read}
-use Rattle.varint.specs.declared.Read.TheVariants.{Varint, Bad}
 use Rattle.varint.specs.Varint.{read_varint}
+use Rattle.varint.specs.declared.Read.{Read}
 
 pub record Extent : Type 0 where
   pub before : ℕ
@@ -20,9 +19,9 @@ pub record Extent : Type 0 where
 abbrev pub within : (bs : List ℕ) (before size : ℕ) → Option Extent
 within bs k n = elim (leb (k + n) (length bs)) [ true ↦ Some (record { before = k; size = n }) | false ↦ None ]
 
-abbrev pub on_read : {A : Type 0} → Read → ((value size : ℕ) → Option A) → Option A
-on_read (Varint v n) f = f v n
-on_read Bad f = None
+abbrev pub on_read : {A : Type 0} → Option Read → ((value size : ℕ) → Option A) → Option A
+on_read (Some r) f = f r.value r.next
+on_read None f = None
 
 unfoldable pub payload_at : (wire : ℕ) (bs : List ℕ) → Option Extent
 payload_at w bs = elim (eqb w VARINT) [

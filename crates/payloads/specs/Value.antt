@@ -9,18 +9,17 @@
 --       Fits t v <-> v is a value of the type t, as 64 bits
 --
 -- Assumes nothing.
-use Rattle.std.specs.Prelude.{Bool, true, false, List, [], ◌∷◌, ℕ, ◌-◌, ◌^◌, ◌≤◌, ◌<◌, eqb, ◌⊎◌}
+use Rattle.std.specs.Prelude.{Bool, true, false, List, [], ◌∷◌, ℕ, ◌-◌, ◌^◌, ◌≤◌, ◌<◌, eqb, ◌⊎◌, None, Some, Option}
 use Rattle.types.specs.Types.{is_any, VARINT, LEN, TYPE_FLOAT, TYPE_INT32, TYPE_FIXED32, TYPE_BOOL, TYPE_UINT32, TYPE_ENUM, TYPE_SFIXED32}
 use Rattle.types.specs.Types.{TYPE_SINT32, TYPE_SINT64}
-use Rattle.varint.specs.declared.Read.{Read}
-use Rattle.varint.specs.declared.Read.TheVariants.{Varint, Bad}
 use Rattle.varint.specs.Varint.{read_varint}
 use Rattle.wire.specs.Fixed.{little}
 use Rattle.wire.specs.Numbers.{unzigzag_of, low32_of, widen32_of}
+use Rattle.varint.specs.declared.Read.{Read}
 
-abbrev pub number_read : Read → ℕ
-number_read (Varint v n) = v
-number_read Bad = 0
+abbrev pub number_read : Option Read → ℕ
+number_read (Some r) = r.value
+number_read None = 0
 
 -- Encoding, "Base 128 Varints" and "Non-varint Numbers"; 01, Listing: "Length-delimited .. records have value 0" [LIST-6]
 unfoldable pub said : (wire : ℕ) (payload : List ℕ) → ℕ

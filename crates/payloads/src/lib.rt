@@ -16,70 +16,71 @@ use varint::{Read, varint_at};
 use wire::fixed::{fixed32_at, fixed64_at};
 use wire::numbers::{low32, unzigzag, widen32};
 
-// A payload: its place, its size and the number that its bytes say, 0 of a length-delimited one; or that it breaks off.
+// A payload: its place, its size and the number that its bytes say, 0 of a length-delimited one.
 #[derive(Clone, Copy)]
-pub enum Payload {
-    Whole { at: usize, size: usize, number: u64 },
-    Cut,
+pub struct Payload {
+    pub at: usize,
+    pub size: usize,
+    pub number: u64,
 }
 
 // A varint that says its own number, or else a length and as many bytes.
-fn varint_in(s: &[u8], own: bool, at: usize, end: usize) -> Payload
+fn varint_in(s: &[u8], own: bool, at: usize, end: usize) -> Option<Payload>
     requires { (at ≤ end) × (end ≤ length s.now) }
     ensures { result ≡ payload_in (only_if own varint_type len_type) s.now at end }
 {
-    let Read::Varint { value, next } = varint_at(s, at, end) else {
-        return Payload::Cut;
+    let Some(Read { value, next }) = varint_at(s, at, end) else {
+        return None;
     };
     if own {
-        return Payload::Whole {
+        return Some(Payload {
             at: at,
             size: next - at,
             number: value,
-        };
+        });
     }
     if value <= (end - next) as u64 {
-        return Payload::Whole {
+        return Some(Payload {
             at: next,
             size: value as usize,
             number: 0,
-        };
+        });
     }
-    Payload::Cut
+    None
 }
 
 // Four bytes.
-fn four_in(s: &[u8], at: usize, end: usize) -> Payload
+fn four_in(s: &[u8], at: usize, end: usize) -> Option<Payload>
     requires { (at ≤ end) × (end ≤ length s.now) }
     ensures { result ≡ payload_in i32_type s.now at end }
 {
     if end - at < 4 {
-        return Payload::Cut;
+        return None;
     }
-    Payload::Whole {
+    Some(Payload {
         at: at,
         size: 4,
         number: fixed32_at(s, at) as u64,
-    }
+    })
 }
 
 // Eight bytes.
-fn eight_in(s: &[u8], at: usize, end: usize) -> Payload
+fn eight_in(s: &[u8], at: usize, end: usize) -> Option<Payload>
     requires { (at ≤ end) × (end ≤ length s.now) }
     ensures { result ≡ payload_in i64_type s.now at end }
 {
     if end - at < 8 {
-        return Payload::Cut;
+        return None;
     }
-    Payload::Whole {
+    Some(Payload {
         at: at,
         size: 8,
         number: fixed64_at(s, at),
-    }
+    })
 }
 
 // The payload of a wire type that is read, between two places.
-pub fn payload_at(s: &[u8], wire: u8, at: usize, end: usize) -> Payload
+pub fn payload_at(s: &[u8], wire: u8, at: usize, end: usize) -> Option<Payload>
     requires at_le_end { (at ≤ end) × (end ≤ length s.now) }
     requires wire_value { wire_read wire ≡ true }
     ensures { result ≡ payload_in wire s.now at end }

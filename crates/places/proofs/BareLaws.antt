@@ -1,18 +1,17 @@
 -- What is refused nowhere, if at all: the ways to an outcome, and that its answer has neither position.
 -- Assumes nothing.
-use Rattle.std.specs.Prelude.{◌≡◌, refl, Bool, true, false, List, ℕ, ltb, length}
+use Rattle.std.specs.Prelude.{◌≡◌, refl, Bool, true, false, List, ℕ, ltb, length, Err, Ok}
 use Rattle.basis.specs.Kit.{sym, ap, ◌∙◌}
 use Rattle.basis.proofs.Never.{never}
 use Rattle.reply.specs.declared.Refusal.{Refusal}
 use Rattle.reply.specs.declared.Refusal.TheVariants.{NoRoom}
-use Rattle.reply.specs.declared.Verdict.{Verdict}
-use Rattle.reply.specs.declared.Verdict.TheVariants.{Fine, Refused}
 use Rattle.reply.specs.declared.Where.TheVariants.{Nowhere}
 use Rattle.reply.specs.declared.Cause.{Cause}
 use Rattle.reply.specs.declared.Answer.{Answer}
 use Rattle.reply.specs.Reply.{nowhere, positions, bare, refused_for}
 use Rattle.reply.specs.Outcome.{Outcome, refused, refuse, unless, nothing, give, push, within, answer_of, Answered}
 use Rattle.places.specs.Places.{Bare, Neither}
+use Rattle.reply.specs.Verdicts.{Verdict}
 
 module _ {A : Type 0} where
   pub bare-refuse : (w : Refusal) → Bare {A = A} (refuse w)
@@ -30,8 +29,8 @@ module _ {A : Type 0} where
   bare-push front (give l) h c e = never cc
 
   pub bare-unless : (v : Verdict) (o : Outcome A) → Bare o → Bare (unless v o)
-  bare-unless Fine o h = h
-  bare-unless (Refused w) o h = bare-refuse w
+  bare-unless (Ok _) o h = h
+  bare-unless (Err w) o h = bare-refuse w
 
   -- of two, whichever a test says
   pub bare-either : (b : Bool) {x y : Outcome A} → Bare x → Bare y → Bare {A = A} (elim b [ true ↦ x | false ↦ y ])

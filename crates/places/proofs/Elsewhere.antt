@@ -1,24 +1,18 @@
 -- Every other call is refused nowhere, if it is.
 -- Assumes nothing.
-use Rattle.std.specs.Prelude.{◌≡◌, refl, Bool, List, [], ◌∷◌, map, ℕ, suc, ◌%◌, eqb, ltb, length, None, Some}
+use Rattle.std.specs.Prelude.{◌≡◌, refl, Bool, List, [], ◌∷◌, map, ℕ, suc, ◌%◌, eqb, ltb, length, None, Some, Err, ℤ, Ok, Option, Result}
 use lib.IntN.{ℤ}
 use Rattle.limits.specs.Figures.{most_words}
 use Rattle.reply.specs.declared.Refusal.TheVariants.{BadRequest, BeyondLimit, RangeEnd}
-use Rattle.reply.specs.declared.Verdict.{Verdict}
-use Rattle.reply.specs.declared.Verdict.TheVariants.{Fine, Refused}
-use Rattle.reply.specs.Verdicts.{first_fault, asked, answer_for}
+use Rattle.reply.specs.Verdicts.{first_fault, asked, answer_for, Verdict}
 use Rattle.reply.specs.Outcome.{Outcome, refused, nothing, give}
 use Rattle.sheetform.specs.Form.{judge_sheet}
 use Rattle.lookups.specs.Lookups.{walking}
 use Rattle.entries.specs.Tree.{rows, words_of as row_words}
 use Rattle.entries.specs.Reading.{Under, under, refused_by, records_of}
-use Rattle.search.specs.declared.extension.Resolved.{Resolved}
-use Rattle.search.specs.declared.extension.Resolved.TheVariants.{Field, Refused as Unfound}
 use Rattle.find.specs.Find.{words_of, worded, finding, find_words}
 use Rattle.listing.specs.Listing.{judge_inputs, listed, listing_by, listing}
 use Rattle.payload.specs.Payload.{judge_payload, payload_answer}
-use Rattle.ranges.specs.declared.End.{End}
-use Rattle.ranges.specs.declared.End.TheVariants.{At, NoNext}
 use Rattle.ranges.specs.Ranges.{enum_reserved, end_of, with_end, pairs, lower_ranges}
 use Rattle.oneofs.specs.Fields.{lower_fields, real, synthetic, oneof, Group, joining, groups_after, groups, real_count}
 use Rattle.oneofs.specs.Fields.{declared, synthetic_last, word_of, numbered, lower_fields_by}
@@ -26,11 +20,13 @@ use Rattle.oneofs.proofs.Theorems.{declared_same}
 use Rattle.evolution.specs.Calls.{clean_answer, contained_answer}
 use Rattle.places.specs.Places.{Bare, Neither}
 use Rattle.places.proofs.BareLaws.{bare-refuse, bare-nothing, bare-give, bare-push, bare-unless, bare-either}
+use Rattle.reply.specs.declared.Refusal.{Refusal}
+use Rattle.search.specs.declared.extension.Found.{Found}
 
 -- ---- find
-worded-bare : (x : Resolved) → Bare (worded x)
-worded-bare (Field f) = bare-give (words_of f)
-worded-bare (Unfound w) = bare-refuse w
+worded-bare : (x : Result Found Refusal) → Bare (worded x)
+worded-bare (Ok f) = bare-give (words_of f)
+worded-bare (Err w) = bare-refuse w
 
 pub find-bare : (s c p : List ℕ) → Bare (find_words s c p)
 unfolding find_words
@@ -46,9 +42,9 @@ unfolding listing_by
 list-bare s type bs = bare-unless (judge_inputs (judge_sheet s) type bs) _ (listed-bare (records_of (walking s) s type bs))
 
 -- ---- the lowerings
-end-bare : (s : ℤ) (x : End) (o : Outcome ℤ) → Bare o → Bare (with_end s x o)
-end-bare s (At e) o h = bare-push (s ∷ e ∷ []) o h
-end-bare s NoNext o h = bare-refuse RangeEnd
+end-bare : (s : ℤ) (x : Option ℤ) (o : Outcome ℤ) → Bare o → Bare (with_end s x o)
+end-bare s (Some e) o h = bare-push (s ∷ e ∷ []) o h
+end-bare s None o h = bare-refuse RangeEnd
 
 pairs-bare : (k : ℕ) (ws : List ℤ) → Bare (pairs k ws)
 unfolding pairs
@@ -95,8 +91,8 @@ fields-bare ws = rw (← (declared_same ws)) (fields-by-bare declared ws)
 
 -- ---- the calls that lend no memory
 asked-neither : (v : Verdict) (b : Bool) → Neither (asked v b)
-asked-neither Fine b = (refl, refl)
-asked-neither (Refused w) b = (refl, refl)
+asked-neither (Ok _) b = (refl, refl)
+asked-neither (Err w) b = (refl, refl)
 
 pub clean-neither : (s : List ℕ) → Neither (clean_answer s)
 clean-neither s = asked-neither (judge_sheet s) _
@@ -105,8 +101,8 @@ pub contained-neither : (s t : List ℕ) → Neither (contained_answer s t)
 contained-neither s t = asked-neither (first_fault (judge_sheet s) (judge_sheet t)) _
 
 for-neither : (n : ℕ) (v : Verdict) → Neither (answer_for n v)
-for-neither n Fine = (refl, refl)
-for-neither n (Refused w) = (refl, refl)
+for-neither n (Ok _) = (refl, refl)
+for-neither n (Err w) = (refl, refl)
 
 pub payload-neither : (bs : List ℕ) (at n : ℕ) → Neither (payload_answer bs at n)
 unfolding payload_answer

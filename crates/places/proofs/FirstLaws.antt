@@ -5,7 +5,7 @@
 --                           refused nowhere, if at all
 --
 -- Assumes nothing.
-use Rattle.std.specs.Prelude.{◌≡◌, refl, List, [], ◌∷◌, ℕ, zero, suc, ◌+◌, ◌<◌, length, Option, None, Some}
+use Rattle.std.specs.Prelude.{◌≡◌, refl, List, [], ◌∷◌, ℕ, zero, suc, ◌+◌, ◌<◌, length, Option, None, Some, Err, Ok, Result}
 use Rattle.basis.specs.Kit.{sym, ap, ◌∙◌}
 use Rattle.basis.specs.Among.{Among, here, there}
 use Rattle.basis.proofs.Kit.{arith}
@@ -15,17 +15,13 @@ use native.Mathlib.Nat.{zero-add, add-zero}
 use lib.ListN.{get_elem?}
 use Rattle.basis.proofs.Never.{never}
 use Rattle.reply.specs.declared.Refusal.{Refusal}
-use Rattle.reply.specs.declared.Verdict.{Verdict}
-use Rattle.reply.specs.declared.Verdict.TheVariants.{Fine, Refused}
 use Rattle.reply.specs.declared.Cause.{Cause}
 use Rattle.reply.specs.declared.Where.TheVariants.{Nowhere}
 use Rattle.reply.specs.Reply.{bare}
-use Rattle.reply.specs.Verdicts.{first_fault}
+use Rattle.reply.specs.Verdicts.{first_fault, Verdict}
 use Rattle.reply.proofs.VerdictLaws.{refused-fine}
 use Rattle.scope.specs.declared.lookup.LookupScope.{LookupScope}
 use Rattle.sheetform.specs.Form.{judge_sheet}
-use Rattle.fullname.specs.declared.LookedUp.{LookedUp}
-use Rattle.fullname.specs.declared.LookedUp.TheVariants.{Message as Found, NoMessage}
 use Rattle.request.specs.Request as tree
 use Rattle.request.specs.Request.{request_of}
 use Rattle.requestform.specs.Form.{judge_request}
@@ -153,8 +149,8 @@ module _ (L : Lookups) (s r scope : List ℕ) (m : Message) where
 
 -- ---- the call
 pub data Resolves (s r : List ℕ) : Type 0 where
-  refuses : (p : LookupScope) (k : ℕ) (e : Fault) → judge_sheet s ≡ Fine → judge_request r ≡ Fine
-      → (walking s).message (options_type r) ≡ Found p → FirstFault (settled_in s r p) (request_of r).options k e
+  refuses : (p : LookupScope) (k : ℕ) (e : Fault) → judge_sheet s ≡ Ok tt → judge_request r ≡ Ok tt
+      → (walking s).message (options_type r) ≡ Ok p → FirstFault (settled_in s r p) (request_of r).options k e
       → resolving s r ≡ refused (cause_at k e) → Resolves s r
   passes : (OptionRefused s r → ⊥) → ((c : Cause) → resolving s r ≡ refused c → c.place ≡ Nowhere) → Resolves s r
 
@@ -169,20 +165,20 @@ module _ (s r : List ℕ) where
   abbrev request : tree.Request
   request = request_of r
 
-  module _ (f : judge_sheet s ≡ Fine) (g : judge_request r ≡ Fine) where
+  module _ (f : judge_sheet s ≡ Ok tt) (g : judge_request r ≡ Ok tt) where
     steps-fine : resolving s r ≡ request_steps (walking s) s r request
     unfolding resolving_by steps_of
     steps-fine = rw (f, g) refl
 
-    pub steps-some : {o : tree.Option} {os : List tree.Option} → request.options ≡ o ∷ os → (u : LookedUp) → (walking s).message (options_type r) ≡ u
+    pub steps-some : {o : tree.Option} {os : List tree.Option} → request.options ≡ o ∷ os → (u : Result LookupScope Refusal) → (walking s).message (options_type r) ≡ u
         → resolving s r ≡ on_type (walking s) s r request u
     steps-some h u e = steps-fine ∙ ap (some_options (walking s) s r request) h ∙ ap (on_type (walking s) s r request) e
 
     -- an options message that is found: the options decide
-    module _ (p : LookupScope) (t : (walking s).message (options_type r) ≡ Found p)
-        (on : resolving s r ≡ on_type (walking s) s r request (Found p)) where
+    module _ (p : LookupScope) (t : (walking s).message (options_type r) ≡ Ok p)
+        (on : resolving s r ≡ on_type (walking s) s r request (Ok p)) where
       same_place : (k : OptionRefused s r) → k.place ≡ p
-      same_place k = let y : Found k.place ≡ Found p = sym k.type ∙ t in cc
+      same_place k = let y : Ok k.place ≡ Ok p = sym k.type ∙ t in cc
 
       of-searched : Searched (settled_in s r p) request.options → Resolves s r
       of-searched (fault k e u) =
@@ -194,12 +190,12 @@ module _ (s r : List ℕ) where
           passes (λ k. fails-none (settled_in s r p) (subst (λ (z : LookupScope). settled_in s r z k.option ≡ fails k.fault) (same_place k) k.refused) (h k.option k.one))
           (refused-never (on ∙ ap steps_in y.is) (λ c e. never cc))
 
-    by-type : {o : tree.Option} {os : List tree.Option} → request.options ≡ o ∷ os → (u : LookedUp) → (walking s).message (options_type r) ≡ u
+    by-type : {o : tree.Option} {os : List tree.Option} → request.options ≡ o ∷ os → (u : Result LookupScope Refusal) → (walking s).message (options_type r) ≡ u
         → Resolves s r
-    by-type h (NoMessage w) t =
-        passes (λ k. let y : Found k.place ≡ NoMessage w = sym k.type ∙ t in never cc)
-        (refused-bare w (steps-some h (NoMessage w) t))
-    by-type h (Found p) t = of-searched p t (steps-some h (Found p) t) (searched (settled_in s r p) request.options)
+    by-type h (Err w) t =
+        passes (λ k. let y : Ok k.place ≡ Err w = sym k.type ∙ t in never cc)
+        (refused-bare w (steps-some h (Err w) t))
+    by-type h (Ok p) t = of-searched p t (steps-some h (Ok p) t) (searched (settled_in s r p) request.options)
 
     by-options : (os : List tree.Option) → request.options ≡ os → Resolves s r
     by-options [] h =
@@ -207,18 +203,18 @@ module _ (s r : List ℕ) where
         (refused-never (steps-fine ∙ ap (some_options (walking s) s r request) h) (λ c e. never cc))
     by-options (o ∷ os) h = by-type h ((walking s).message (options_type r)) refl
 
-  steps-faulty : {u v : Verdict} (w : Refusal) → judge_sheet s ≡ u → judge_request r ≡ v → first_fault u v ≡ Refused w
+  steps-faulty : {u v : Verdict} (w : Refusal) → judge_sheet s ≡ u → judge_request r ≡ v → first_fault u v ≡ Err w
       → resolving s r ≡ refused (bare w)
   unfolding resolving_by
   steps-faulty w f g h = rw (f, g, h) refl
 
-  by-request : judge_sheet s ≡ Fine → (v : Verdict) → judge_request r ≡ v → Resolves s r
-  by-request f Fine g = by-options f g request.options refl
-  by-request f (Refused w) g = passes (λ k. refused-fine w (sym g ∙ k.request)) (refused-bare w (steps-faulty w f g refl))
+  by-request : judge_sheet s ≡ Ok tt → (v : Verdict) → judge_request r ≡ v → Resolves s r
+  by-request f (Ok _) g = by-options f g request.options refl
+  by-request f (Err w) g = passes (λ k. refused-fine w (sym g ∙ k.request)) (refused-bare w (steps-faulty w f g refl))
 
   by-sheet : (v : Verdict) → judge_sheet s ≡ v → Resolves s r
-  by-sheet Fine f = by-request f (judge_request r) refl
-  by-sheet (Refused w) f = passes (λ k. refused-fine w (sym f ∙ k.sheet)) (refused-bare w (steps-faulty w f refl refl))
+  by-sheet (Ok _) f = by-request f (judge_request r) refl
+  by-sheet (Err w) f = passes (λ k. refused-fine w (sym f ∙ k.sheet)) (refused-bare w (steps-faulty w f refl refl))
 
   pub resolves : Resolves s r
   resolves = by-sheet (judge_sheet s) refl

@@ -1,6 +1,6 @@
 -- The part of a query's name that is at fault.
 -- Assumes nothing.
-use Rattle.std.specs.Prelude.{◌≡◌, refl, Bool, true, false, List, [], ◌∷◌, ℕ, ◌+◌, eqb}
+use Rattle.std.specs.Prelude.{◌≡◌, refl, Bool, true, false, List, [], ◌∷◌, ℕ, ◌+◌, eqb, Err, Ok, Result}
 use Rattle.basis.specs.Kit.{sym, ◌∙◌}
 use mathlib.Core.Path.{subst}
 use native.Mathlib.Nat.{zero-add}
@@ -11,18 +11,16 @@ use Rattle.reply.specs.declared.Refusal.TheVariants.{ExtensionIsNotMessage}
 use Rattle.field.specs.Leaf.{text}
 use Rattle.types.specs.Types.{TYPE_GROUP, TYPE_MESSAGE}
 use Rattle.sheet.specs.declared.declaration.Declaration.{Declaration}
-use Rattle.fullname.specs.declared.LookedUp.{LookedUp}
-use Rattle.fullname.specs.declared.LookedUp.TheVariants.{Message as Found, NoMessage}
 use Rattle.request.specs.declared.name.Part.{Part}
 use Rattle.lookups.specs.Lookups.{Lookups, Message}
-use Rattle.steps.specs.declared.Step.{Step}
-use Rattle.steps.specs.declared.Step.TheVariants as step
 use Rattle.steps.specs.Steps.{why_of, step_of}
 use Rattle.naming.specs.Name as name
 use Rattle.naming.specs.Name.{Named, names, group, refused_at, also, declarations}
 use Rattle.places.specs.Parts.{lacks, no-message, not-message, AtPart}
 use Rattle.places.specs.Places.{NothingBehind}
 use Rattle.places.proofs.PartLaws.{other, PartFault, fault-here, fault-inside}
+use Rattle.scope.specs.declared.lookup.LookupScope.{LookupScope}
+use Rattle.steps.specs.declared.Lack.{Lack}
 
 module _ (L : Lookups) (s q : List ℕ) where
   abbrev Misnamed : (i : ℕ) → Message → List Part → (part : ℕ) → Refusal → Type 0
@@ -43,11 +41,11 @@ module _ (L : Lookups) (s q : List ℕ) where
       also-refused d group e = never cc
       also-refused d (refused_at j v) e = e
 
-      module _ (d : Declaration) (g : step_of L s q [] m p ≡ step.Found d) where
-        entered-name : d.shape.typ ≡ TYPE_MESSAGE → (u : LookedUp) → L.message (text s d.shape.path) ≡ u
+      module _ (d : Declaration) (g : step_of L s q [] m p ≡ Ok d) where
+        entered-name : d.shape.typ ≡ TYPE_MESSAGE → (u : Result LookupScope Refusal) → L.message (text s d.shape.path) ≡ u
             → name.on_message i (text s d.shape.path) u (λ n. also d (more n)) ≡ refused_at k w → Misnamed i m (p ∷ o ∷ ps) k w
-        entered-name t (NoMessage v) h e = misnamed-same i m (p ∷ o ∷ ps) i v e (fault-here L s q [] (no-message g t h))
-        entered-name t (Found x) h e =
+        entered-name t (Err v) h e = misnamed-same i m (p ∷ o ∷ ps) i v e (fault-here L s q [] (no-message g t h))
+        entered-name t (Ok x) h e =
             let n : Message = record { name = text s d.shape.path; place = x } in
             fault-inside L s q [] (record { declaration = d; found = g; message = t; path = refl; one = h })
             (deeper n (also-refused d (more n) e))
@@ -68,15 +66,15 @@ module _ (L : Lookups) (s q : List ℕ) where
             entered-name (eqb-true d.shape.typ TYPE_MESSAGE h) (L.message (text s d.shape.path)) refl e
         left-name false h e = outside-name (other d.shape.typ TYPE_MESSAGE h) (eqb d.shape.typ TYPE_GROUP) refl e
 
-      followed-name : (v : Step) → step_of L s q [] m p ≡ v
+      followed-name : (v : Result Declaration Lack) → step_of L s q [] m p ≡ v
           → name.on_step i v (λ d. name.left L s q i d (λ n. also d (more n))) ≡ refused_at k w → Misnamed i m (p ∷ o ∷ ps) k w
-      followed-name (step.NotFound l) g e = misnamed-same i m (p ∷ o ∷ ps) i (why_of l) e (fault-here L s q [] (lacks g))
-      followed-name (step.Found d) g e = left-name d g (eqb d.shape.typ TYPE_MESSAGE) refl e
+      followed-name (Err l) g e = misnamed-same i m (p ∷ o ∷ ps) i (why_of l) e (fault-here L s q [] (lacks g))
+      followed-name (Ok d) g e = left-name d g (eqb d.shape.typ TYPE_MESSAGE) refl e
 
-    last_name : (i : ℕ) (m : Message) (p : Part) (v : Step) → step_of L s q [] m p ≡ v
+    last_name : (i : ℕ) (m : Message) (p : Part) (v : Result Declaration Lack) → step_of L s q [] m p ≡ v
         → name.on_step i v (λ d. names (d ∷ [])) ≡ refused_at k w → Misnamed i m (p ∷ []) k w
-    last_name i m p (step.NotFound l) g e = misnamed-same i m (p ∷ []) i (why_of l) e (fault-here L s q [] (lacks g))
-    last_name i m p (step.Found d) g e = never cc
+    last_name i m p (Err l) g e = misnamed-same i m (p ∷ []) i (why_of l) e (fault-here L s q [] (lacks g))
+    last_name i m p (Ok d) g e = never cc
 
     name-fault : (i : ℕ) (m : Message) (ps : List Part) → declarations L s q i m ps ≡ refused_at k w → Misnamed i m ps k w
     name-fault i m [] e = never cc

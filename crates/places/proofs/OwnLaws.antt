@@ -1,14 +1,12 @@
 -- An option in a request of its own, of the same scope and options type: it is refused there as it is here, or comes to records.
 -- Assumes nothing.
-use Rattle.std.specs.Prelude.{◌≡◌, List, [], ◌∷◌, ℕ, None, Some}
+use Rattle.std.specs.Prelude.{◌≡◌, List, [], ◌∷◌, ℕ, None, Some, Ok}
 use Rattle.basis.specs.Kit.{ap, ◌∙◌}
 use Rattle.basis.specs.Among.{Among, here, there}
 use Rattle.basis.proofs.AmongLaws.{among-nil}
 use Rattle.basis.proofs.Never.{never}
-use Rattle.reply.specs.declared.Verdict.TheVariants.{Fine}
 use Rattle.scope.specs.declared.lookup.LookupScope.{LookupScope}
 use Rattle.sheetform.specs.Form.{judge_sheet}
-use Rattle.fullname.specs.declared.LookedUp.TheVariants.{Message as Found}
 use Rattle.request.specs.Request as tree
 use Rattle.request.specs.Request.{request_of}
 use Rattle.records.specs.Records.{Recs, nil}
@@ -22,7 +20,7 @@ use Rattle.alone.specs.Alone.{alone, fault_of, Own}
 use Rattle.places.specs.Places.{scope_of, options_type, options_at, settled_in}
 use Rattle.places.proofs.FirstLaws.{first-here, gather-first, gather-passed, steps-some}
 
-module _ (s r : List ℕ) (f : judge_sheet s ≡ Fine) (p : LookupScope) (t : (walking s).message (options_type r) ≡ Found p)
+module _ (s r : List ℕ) (f : judge_sheet s ≡ Ok tt) (p : LookupScope) (t : (walking s).message (options_type r) ≡ Ok p)
     (i : ℕ) (o : tree.Option) (k : Own r i o) where
   abbrev own : List ℕ
   own = alone r i
@@ -33,8 +31,8 @@ module _ (s r : List ℕ) (f : judge_sheet s ≡ Fine) (p : LookupScope) (t : (w
       ∙ ap (λ (z : List ℕ). fault_of (settle (walking s) s r z (options_at own p) o)) k.scope
       ∙ ap (λ (z : List ℕ). fault_of (settle (walking s) s r (scope_of r) (record { name = z; place = p }) o)) k.type
 
-  own-steps : resolving s own ≡ on_type (walking s) s own (request_of own) (Found p)
-  own-steps = steps-some s own f k.fine k.options (Found p) (ap (λ (z : List ℕ). (walking s).message z) k.type ∙ t)
+  own-steps : resolving s own ≡ on_type (walking s) s own (request_of own) (Ok p)
+  own-steps = steps-some s own f k.fine k.options (Ok p) (ap (λ (z : List ℕ). (walking s).message z) k.type ∙ t)
 
   own-gathers : resolving s own ≡ steps_in (gather (walking s) s own (scope_of own) (options_at own p) 0 [] nil (k.own ∷ []))
   own-gathers =

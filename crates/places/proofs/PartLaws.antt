@@ -3,7 +3,7 @@
 --   PartFault Ends i m ps k w <-> w is the refusal of the k-th part, where the parts ps begin with the i-th, from the message m on
 --
 -- Assumes nothing.
-use Rattle.std.specs.Prelude.{◌≡◌, refl, Bool, true, false, List, [], ◌∷◌, ℕ, suc, ◌+◌, ◌<◌, eqb, length, Option, None, Some}
+use Rattle.std.specs.Prelude.{◌≡◌, refl, Bool, true, false, List, [], ◌∷◌, ℕ, suc, ◌+◌, ◌<◌, eqb, length, Option, None, Some, Err, Ok, Result}
 use Rattle.basis.specs.Kit.{sym, ap, ◌∙◌}
 use Rattle.basis.specs.First.{told}
 use Rattle.basis.proofs.Kit.{arith, eq-eqb}
@@ -18,8 +18,6 @@ use Rattle.field.specs.Leaf.{text}
 use Rattle.types.specs.Types.{TYPE_GROUP, TYPE_MESSAGE}
 use Rattle.sheet.specs.declared.declaration.Shape.{Shape}
 use Rattle.sheet.specs.declared.declaration.Declaration.{Declaration}
-use Rattle.fullname.specs.declared.LookedUp.{LookedUp}
-use Rattle.fullname.specs.declared.LookedUp.TheVariants.{Message as Found, NoMessage}
 use Rattle.request.specs.declared.name.Part.{Part}
 use Rattle.request.specs.Tree.{Constants}
 use Rattle.request.specs.Request as tree
@@ -30,14 +28,14 @@ use Rattle.values.specs.Values.{on, records}
 use Rattle.builtins.specs.declared.Built.{Built}
 use Rattle.builtins.specs.declared.Built.TheVariants.{Skipped, Sets, Wrong}
 use Rattle.builtins.specs.Builtins.{builtin_of}
-use Rattle.steps.specs.declared.Step.{Step}
-use Rattle.steps.specs.declared.Step.TheVariants as step
 use Rattle.steps.specs.Steps.{why_of, step_of}
 use Rattle.faults.specs.declared.Fault.{Fault}
 use Rattle.options.specs.Named.{at, on_step, left, reached, option_from}
 use Rattle.faults.specs.Faults.{fault_at}
 use Rattle.options.specs.Settle.{fails, settled_built, settled, builtin_part, settle}
 use Rattle.places.specs.Parts.{Means, here, inside, Blamed, lacks, no-message, not-message, ends, AtPart, OnLast, FaultOf, builtin, named}
+use Rattle.scope.specs.declared.lookup.LookupScope.{LookupScope}
+use Rattle.steps.specs.declared.Lack.{Lack}
 
 pub other : (a b : ℕ) → eqb a b ≡ false → a ≡ b → ⊥
 other a b h e = let y = eq-eqb a b e in never cc
@@ -85,19 +83,19 @@ module _ (L : Lookups) (s r scope : List ℕ) where
 
     -- the last part
     module _ (i : ℕ) (m : Message) (p : Part) (f : Fault) where
-      constant-fault : (d : Declaration) → step_of L s r scope m p ≡ step.Found d → (v : Made Refusal)
+      constant-fault : (d : Declaration) → step_of L s r scope m p ≡ Ok d → (v : Made Refusal)
           → records L s r (on d.shape) c ≡ v → at i v ≡ wrong f → Faulty i m (p ∷ []) f
       constant-fault d g (made x) h e = never cc
       constant-fault d g (wrong w) h e =
           let y : fault_at i w ≡ f = cc in
           subst (Faulty i m (p ∷ [])) y (fault-here (ends g h))
 
-      last-fault : (v : Step) → step_of L s r scope m p ≡ v → on_step i v (λ d. at i (records L s r (on d.shape) c)) ≡ wrong f
+      last-fault : (v : Result Declaration Lack) → step_of L s r scope m p ≡ v → on_step i v (λ d. at i (records L s r (on d.shape) c)) ≡ wrong f
           → Faulty i m (p ∷ []) f
-      last-fault (step.NotFound l) g e =
+      last-fault (Err l) g e =
           let y : fault_at i (why_of l) ≡ f = cc in
           subst (Faulty i m (p ∷ [])) y (fault-here (lacks g))
-      last-fault (step.Found d) g e = constant-fault d g (records L s r (on d.shape) c) refl e
+      last-fault (Ok d) g e = constant-fault d g (records L s r (on d.shape) c) refl e
 
     -- a part that others follow, `more` being what those come to
     module _ (i : ℕ) (m : Message) (p q : Part) (ps : List Part) (f : Fault) (more : Message → Made Fault)
@@ -106,13 +104,13 @@ module _ (L : Lookups) (s r scope : List ℕ) where
       held n (made x) e = never cc
       held n (wrong g) e = let y : g ≡ f = cc in ap wrong y
 
-      module _ (d : Declaration) (g : step_of L s r scope m p ≡ step.Found d) where
-        entered-fault : d.shape.typ ≡ TYPE_MESSAGE → (u : LookedUp) → L.message (text s d.shape.path) ≡ u
+      module _ (d : Declaration) (g : step_of L s r scope m p ≡ Ok d) where
+        entered-fault : d.shape.typ ≡ TYPE_MESSAGE → (u : Result LookupScope Refusal) → L.message (text s d.shape.path) ≡ u
             → reached i d.shape.number (text s d.shape.path) u more ≡ wrong f → Faulty i m (p ∷ q ∷ ps) f
-        entered-fault t (NoMessage w) h e =
+        entered-fault t (Err w) h e =
             let y : fault_at i w ≡ f = cc in
             subst (Faulty i m (p ∷ q ∷ ps)) y (fault-here (no-message g t h))
-        entered-fault t (Found x) h e =
+        entered-fault t (Ok x) h e =
             let n : Message = record { name = text s d.shape.path; place = x } in
             fault-inside (record { declaration = d; found = g; message = t; path = refl; one = h })
             (deeper n (held d.shape.number (more n) e))
@@ -133,12 +131,12 @@ module _ (L : Lookups) (s r scope : List ℕ) where
             entered-fault (eqb-true d.shape.typ TYPE_MESSAGE h) (L.message (text s d.shape.path)) refl e
         left-fault false h e = outside-fault (other d.shape.typ TYPE_MESSAGE h) (eqb d.shape.typ TYPE_GROUP) refl e
 
-      followed-fault : (v : Step) → step_of L s r scope m p ≡ v → on_step i v (λ d. left L s r scope i d.shape more) ≡ wrong f
+      followed-fault : (v : Result Declaration Lack) → step_of L s r scope m p ≡ v → on_step i v (λ d. left L s r scope i d.shape more) ≡ wrong f
           → Faulty i m (p ∷ q ∷ ps) f
-      followed-fault (step.NotFound l) g e =
+      followed-fault (Err l) g e =
           let y : fault_at i (why_of l) ≡ f = cc in
           subst (Faulty i m (p ∷ q ∷ ps)) y (fault-here (lacks g))
-      followed-fault (step.Found d) g e = left-fault d g (eqb d.shape.typ TYPE_MESSAGE) refl e
+      followed-fault (Ok d) g e = left-fault d g (eqb d.shape.typ TYPE_MESSAGE) refl e
 
     option-fault : (i : ℕ) (m : Message) (ps : List Part) (f : Fault) → option_from L s r scope i m ps c ≡ wrong f → Faulty i m ps f
     option-fault i m [] f e = never cc

@@ -1,17 +1,15 @@
 -- What the two positions of an answer of `query` say.
 -- Assumes nothing.
-use Rattle.std.specs.Prelude.{◌≡◌, refl, List, [], ℕ, ◌<◌, length, Option, None, Some}
+use Rattle.std.specs.Prelude.{◌≡◌, refl, List, [], ℕ, ◌<◌, length, Option, None, Some, Err, Ok}
 use Rattle.basis.specs.Kit.{sym, ap, ◌∙◌}
 use Rattle.basis.proofs.Kit.{arith}
 use Rattle.basis.proofs.Never.{never}
 use Rattle.reply.specs.declared.Refusal.{Refusal}
-use Rattle.reply.specs.declared.Verdict.{Verdict}
-use Rattle.reply.specs.declared.Verdict.TheVariants.{Fine, Refused}
 use Rattle.reply.specs.declared.Answer.{Answer}
 use Rattle.reply.specs.Reply.{nowhere, refused_for}
 use Rattle.reply.specs.Outcome.{Outcome, refuse, within, answer_of, Answered}
 use Rattle.reply.specs.Outcome as outcome
-use Rattle.reply.specs.Verdicts.{first_fault}
+use Rattle.reply.specs.Verdicts.{first_fault, Verdict}
 use Rattle.reply.proofs.VerdictLaws.{refused-fine, first-fine-front, first-fine-rest}
 use Rattle.sheetform.specs.Form.{judge_sheet}
 use Rattle.requestform.specs.Form.{judge_options_type, judge_name}
@@ -39,7 +37,7 @@ module _ (s type q bs : List ℕ) where
   unfolding query_by query_of
   query-named k = rw (k.fine, k.read, k.refused) refl
 
-  name-fine : judge_inputs (judge_sheet s) type q bs ≡ Fine → judge_name q ≡ Fine
+  name-fine : judge_inputs (judge_sheet s) type q bs ≡ Ok tt → judge_name q ≡ Ok tt
   unfolding judge_inputs
   name-fine f =
       first-fine-front (judge_name q) (judge_bytes bs)
@@ -57,7 +55,7 @@ module _ (s type q bs : List ℕ) where
   bare-answered None = bare-nothing
   bare-answered (Some y) = bare-give (words y)
 
-  module _ (f : judge_inputs (judge_sheet s) type q bs ≡ Fine) where
+  module _ (f : judge_inputs (judge_sheet s) type q bs ≡ Ok tt) where
     of-records : (u : Under) → records_of (walking s) s type bs ≡ u → come ≡ on_records joins_none (walking s) s q u
     unfolding query_by query_of
     of-records u g = rw (f, g) refl
@@ -86,13 +84,13 @@ module _ (s type q bs : List ℕ) where
         other (λ k. let y : under k.message k.records ≡ unread w = sym k.read ∙ g in never cc)
         (query-not (of-records (unread w) g) (bare-refuse w))
 
-  of-faulty : (w : Refusal) → judge_inputs (judge_sheet s) type q bs ≡ Refused w → come ≡ refuse w
+  of-faulty : (w : Refusal) → judge_inputs (judge_sheet s) type q bs ≡ Err w → come ≡ refuse w
   unfolding query_by
   of-faulty w f = rw f refl
 
   by-inputs : (v : Verdict) → judge_inputs (judge_sheet s) type q bs ≡ v → Asked
-  by-inputs Fine f = by-records f (records_of (walking s) s type bs) refl
-  by-inputs (Refused w) f = other (λ k. refused-fine w (sym f ∙ k.fine)) (query-not (of-faulty w f) (bare-refuse w))
+  by-inputs (Ok _) f = by-records f (records_of (walking s) s type bs) refl
+  by-inputs (Err w) f = other (λ k. refused-fine w (sym f ∙ k.fine)) (query-not (of-faulty w f) (bare-refuse w))
 
   module _ (before after : List ℕ) (a : Answer) (k : Answered (query s type q bs) before after a) where
     named-answer : (n : NameRefused s type q bs) → a ≡ refused_for (of_part n.part n.why)

@@ -1,13 +1,12 @@
 -- What the two positions of an answer of `resolve` say.
 -- Assumes nothing.
-use Rattle.std.specs.Prelude.{◌≡◌, refl, Bool, true, false, List, ℕ, ◌<◌, ltb, length}
+use Rattle.std.specs.Prelude.{◌≡◌, refl, Bool, true, false, List, ℕ, ◌<◌, ltb, length, Ok}
 use Rattle.basis.specs.Kit.{sym, ap, ◌∙◌}
 use Rattle.basis.proofs.Kit.{arith}
 use mathlib.Core.Path.{subst}
 use mathlib.Core.Logic.{inl, inr}
 use Rattle.basis.proofs.Never.{never}
 use Rattle.reply.specs.declared.Refusal.TheVariants.{NoRoom}
-use Rattle.reply.specs.declared.Verdict.TheVariants.{Fine}
 use Rattle.reply.specs.declared.Where.TheVariants.{Nowhere}
 use Rattle.reply.specs.declared.Cause.{Cause}
 use Rattle.reply.specs.declared.Answer.{Answer}
@@ -15,7 +14,6 @@ use Rattle.reply.specs.Reply.{nowhere, refused_for}
 use Rattle.reply.specs.Outcome.{refuse, give, within, answer_of, Answered}
 use Rattle.scope.specs.declared.lookup.LookupScope.{LookupScope}
 use Rattle.sheetform.specs.Form.{judge_sheet}
-use Rattle.fullname.specs.declared.LookedUp.TheVariants.{Message as Found}
 use Rattle.request.specs.Request.{request_of}
 use Rattle.requestform.specs.Form.{judge_request}
 use Rattle.requestform.proofs.FineLaws.{fine-few-options}
@@ -62,8 +60,8 @@ unfolding resolve_bytes
 resolve-bare s r h = steps-bare (resolving s r) h
 
 -- ---- refused at an option
-module _ (s r : List ℕ) (p : LookupScope) (n : ℕ) (e : Fault) (f : judge_sheet s ≡ Fine) (g : judge_request r ≡ Fine)
-    (t : (walking s).message (options_type r) ≡ Found p) (u : FirstFault (settled_in s r p) (request_of r).options n e) where
+module _ (s r : List ℕ) (p : LookupScope) (n : ℕ) (e : Fault) (f : judge_sheet s ≡ Ok tt) (g : judge_request r ≡ Ok tt)
+    (t : (walking s).message (options_type r) ≡ Ok p) (u : FirstFault (settled_in s r p) (request_of r).options n e) where
   abbrev said : Answer
   said = refused_for (cause_at n e)
 

@@ -10,14 +10,13 @@
 -- `Ends h w` says that w is the refusal of what stands behind the last part, on a field of the shape h: of a query's name there is none.
 --
 -- Assumes nothing.
-use Rattle.std.specs.Prelude.{◌≡◌, List, [], ◌∷◌, ◌++◌, ℕ, length, None, Some}
+use Rattle.std.specs.Prelude.{◌≡◌, List, [], ◌∷◌, ◌++◌, ℕ, length, None, Some, Err, Ok}
 use Rattle.reply.specs.declared.Refusal.{Refusal}
 use Rattle.reply.specs.declared.Refusal.TheVariants.{ExtensionIsNotMessage}
 use Rattle.field.specs.Leaf.{text}
 use Rattle.types.specs.Types.{TYPE_GROUP, TYPE_MESSAGE}
 use Rattle.sheet.specs.declared.declaration.Shape.{Shape}
 use Rattle.sheet.specs.declared.declaration.Declaration.{Declaration}
-use Rattle.fullname.specs.declared.LookedUp.TheVariants.{Message as Found, NoMessage}
 use Rattle.request.specs.declared.name.Part.{Part}
 use Rattle.request.specs.Tree.{Constants}
 use Rattle.request.specs.Request.{Option}
@@ -27,7 +26,6 @@ use Rattle.values.specs.Values.{on, records}
 use Rattle.builtins.specs.declared.Built.TheVariants.{Wrong}
 use Rattle.builtins.specs.Builtins.{builtin_of}
 use Rattle.steps.specs.declared.Lack.{Lack}
-use Rattle.steps.specs.declared.Step.TheVariants as step
 use Rattle.steps.specs.Steps.{why_of, step_of}
 use Rattle.faults.specs.declared.Fault.{Fault}
 use Rattle.faults.specs.Faults.{fault_at}
@@ -36,10 +34,10 @@ use Rattle.options.specs.Settle.{builtin_part}
 module _ (L : Lookups) (s r scope : List ℕ) where
   pub record Means (m : Message) (p : Part) (n : Message) : Type 0 where
     pub declaration : Declaration
-    pub found : step_of L s r scope m p ≡ step.Found declaration
+    pub found : step_of L s r scope m p ≡ Ok declaration
     pub message : declaration.shape.typ ≡ TYPE_MESSAGE
     pub path : n.name ≡ text s declaration.shape.path
-    pub one : L.message n.name ≡ Found n.place
+    pub one : L.message n.name ≡ Ok n.place
 
   pub data Leads : Message → List Part → Message → Type 0 where
     here : {m : Message} → Leads m [] m
@@ -49,12 +47,12 @@ module _ (L : Lookups) (s r scope : List ℕ) where
     -- 4, 5 and 9 are the part's own; 7, 8 and 6 come of its declaration, where parts are left on it; what stands behind the name is at fault
     -- on the last part alone
     pub data Blamed (m : Message) (p : Part) : (behind : List Part) → Refusal → Type 0 where
-      lacks : {qs : List Part} {l : Lack} → step_of L s r scope m p ≡ step.NotFound l → Blamed m p qs (why_of l)
-      no-message : {q : Part} {qs : List Part} {d : Declaration} {w : Refusal} → step_of L s r scope m p ≡ step.Found d
-          → d.shape.typ ≡ TYPE_MESSAGE → L.message (text s d.shape.path) ≡ NoMessage w → Blamed m p (q ∷ qs) w
-      not-message : {q : Part} {qs : List Part} {d : Declaration} → step_of L s r scope m p ≡ step.Found d
+      lacks : {qs : List Part} {l : Lack} → step_of L s r scope m p ≡ Err l → Blamed m p qs (why_of l)
+      no-message : {q : Part} {qs : List Part} {d : Declaration} {w : Refusal} → step_of L s r scope m p ≡ Ok d
+          → d.shape.typ ≡ TYPE_MESSAGE → L.message (text s d.shape.path) ≡ Err w → Blamed m p (q ∷ qs) w
+      not-message : {q : Part} {qs : List Part} {d : Declaration} → step_of L s r scope m p ≡ Ok d
           → (d.shape.typ ≡ TYPE_MESSAGE → ⊥) → (d.shape.typ ≡ TYPE_GROUP → ⊥) → Blamed m p (q ∷ qs) ExtensionIsNotMessage
-      ends : {d : Declaration} {w : Refusal} → step_of L s r scope m p ≡ step.Found d → Ends d.shape w → Blamed m p [] w
+      ends : {d : Declaration} {w : Refusal} → step_of L s r scope m p ≡ Ok d → Ends d.shape w → Blamed m p [] w
 
     pub record AtPart (m : Message) (ps : List Part) (j : ℕ) (w : Refusal) : Type 0 where
       pub before : List Part

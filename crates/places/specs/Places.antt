@@ -19,12 +19,11 @@
 --                 Bare o <-> what comes to o is refused nowhere, if it is
 --
 -- Assumes nothing.
-use Rattle.std.specs.Prelude.{◌≡◌, List, [], ℕ, ◌<◌, length, ◌⊎◌, Some}
+use Rattle.std.specs.Prelude.{◌≡◌, List, [], ℕ, ◌<◌, length, ◌⊎◌, Some, Ok}
 use Rattle.basis.specs.Among.{Among}
 use Rattle.std.proofs.Math.ListN.{get_elem?}
 use Rattle.reply.specs.declared.Refusal.{Refusal}
 use Rattle.reply.specs.declared.Refusal.TheVariants.{NoRoom}
-use Rattle.reply.specs.declared.Verdict.TheVariants.{Fine}
 use Rattle.reply.specs.declared.Where.TheVariants.{Nowhere}
 use Rattle.reply.specs.declared.Cause.{Cause}
 use Rattle.reply.specs.declared.Answer.{Answer}
@@ -34,7 +33,6 @@ use Rattle.field.specs.Leaf.{text}
 use Rattle.field.specs.Walk.{walk}
 use Rattle.sheetform.specs.Form.{judge_sheet}
 use Rattle.scope.specs.declared.lookup.LookupScope.{LookupScope}
-use Rattle.fullname.specs.declared.LookedUp.TheVariants.{Message as Found}
 use Rattle.request.specs.declared.name.Part.{Part}
 use Rattle.request.specs.Name.{parts_in}
 use Rattle.request.specs.Request.{Option, request_of}
@@ -65,10 +63,10 @@ abbrev pub settled_in : (s r : List ℕ) → LookupScope → Option → Settled
 settled_in s r p o = settle (walking s) s r (scope_of r) (options_at r p) o
 
 pub record OptionRefused (s r : List ℕ) : Type 0 where
-  pub sheet : judge_sheet s ≡ Fine
-  pub request : judge_request r ≡ Fine
+  pub sheet : judge_sheet s ≡ Ok tt
+  pub request : judge_request r ≡ Ok tt
   pub place : LookupScope
-  pub type : (walking s).message (options_type r) ≡ Found place
+  pub type : (walking s).message (options_type r) ≡ Ok place
   pub option : Option
   pub one : Among option (request_of r).options
   pub fault : Fault
@@ -107,7 +105,7 @@ pub record PartRefused (s r : List ℕ) (a : Answer) : Type 0 where
   pub at : get_elem? (request_of r).options a.option ≡ Some option
   pub below : a.part < length option.parts
   pub place : LookupScope
-  pub type : (walking s).message (options_type r) ≡ Found place
+  pub type : (walking s).message (options_type r) ≡ Ok place
   pub fault : Fault
   pub faulty : FaultOf (walking s) s r (scope_of r) (options_at r place) option fault
   pub answer : a ≡ refused_for (cause_at a.option fault)
@@ -120,7 +118,7 @@ abbrev pub NothingBehind : {A B : Type 0} → A → B → Type 0
 NothingBehind h w = ⊥
 
 pub record NameRefused (s type q bs : List ℕ) : Type 0 where
-  pub fine : judge_inputs (judge_sheet s) type q bs ≡ Fine
+  pub fine : judge_inputs (judge_sheet s) type q bs ≡ Ok tt
   pub message : Message
   pub records : Tree
   pub read : records_of (walking s) s type bs ≡ under message records

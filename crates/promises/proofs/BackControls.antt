@@ -1,6 +1,6 @@
 -- Closed cases of the premise under which what is written is listed back: a sheet that declares each number once, and one that does not.
 -- Assumes nothing.
-use Rattle.std.specs.Prelude.{◌≡◌, refl, true, List, [], ◌∷◌, ◌++◌, ℕ}
+use Rattle.std.specs.Prelude.{◌≡◌, refl, true, List, [], ◌∷◌, ◌++◌, ℕ, Ok}
 use Rattle.basis.specs.Kit.{sym, ap, ◌∙◌}
 use Rattle.basis.specs.Among.{here}
 use Rattle.basis.proofs.Kit.{arith}
@@ -19,7 +19,6 @@ use Rattle.sheet.specs.Tree.{File, value_in, item_in, items_in, file_in, tree_of
 use Rattle.scope.specs.Scope.{holding}
 use Rattle.scopes.specs.Scopes.{scopes}
 use Rattle.sheet.proofs.Sheets.{file, message, field, extension}
-use Rattle.fullname.specs.declared.LookedUp.TheVariants.{Message as Found}
 use Rattle.fullname.specs.FullName.{messages_at}
 use Rattle.lookups.specs.Lookups.{Message, walking}
 use Rattle.readback.specs.Once.{DeclaredAt, as-field, as-extension, Once}
@@ -51,7 +50,7 @@ files : Every (λ f. Each Is f.items) (tree_of (sheet 2))
 unfolding tree_of file_in items_in item_in value_in extension_at message_field_at value_at shape_at type_path_at has_type_path walk_by leaf_at field_at big_at
 files = each-file (tree_of (sheet 2)) (((inl refl, tt), (inr refl, tt)), tt)
 
-declared-is : (m : Message) → (walking (sheet 2)).message m.name ≡ Found m.place → (d : Declaration) → DeclaredAt (sheet 2) m d → Is d
+declared-is : (m : Message) → (walking (sheet 2)).message m.name ≡ Ok m.place → (d : Declaration) → DeclaredAt (sheet 2) m d → Is d
 unfolding tree_of file_in items_in item_in value_in extension_at message_field_at value_at shape_at type_path_at has_type_path walk_by leaf_at field_at big_at
 declared-is m at d (as-field k) =
     let all = found-holds (sheet 2) (Each Is) (inside-each Is) files m.name m.place at in

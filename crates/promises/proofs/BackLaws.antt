@@ -1,12 +1,11 @@
 -- What a request writes reads back: by Encoding as these records, and under the same sheet, where that declares each number once, as rows
 -- that hold what they hold. The statements stand at the end.
 -- Assumes nothing.
-use Rattle.std.specs.Prelude.{◌≡◌, true, ◌&&◌, List, ℕ, ◌≤◌, length, Some}
+use Rattle.std.specs.Prelude.{◌≡◌, true, ◌&&◌, List, ℕ, ◌≤◌, length, Some, Ok}
 use Rattle.basis.proofs.Kit.{arith}
 use mathlib.Core.Bool.{and-eq-true_iff}
 use borrow.Author.Tests.{le-leb}
 use Rattle.limits.specs.Figures.{most_levels, most_option_bytes}
-use Rattle.reply.specs.declared.Verdict.TheVariants.{Fine}
 use Rattle.reply.specs.Outcome.{give}
 use Rattle.octets.proofs.Bytes.{Bytes}
 use Rattle.path.specs.Path.{is_rel_path, is_rel_or_empty}
@@ -45,8 +44,8 @@ nested-few (bytes n t b r) = omega (arith, nested-few r)
 nested-few (message n i r) = omega (arith, nested-few i, nested-few r)
 
 -- ---- a listing whose inputs are fine
-module _ (s type bs : List ℕ) (sheet : judge_sheet s ≡ Fine) (name : is_rel_path type ≡ true) (few : length bs ≤ most_option_bytes) where
-  inputs-fine : judge_inputs (judge_sheet s) type bs ≡ Fine
+module _ (s type bs : List ℕ) (sheet : judge_sheet s ≡ Ok tt) (name : is_rel_path type ≡ true) (few : length bs ≤ most_option_bytes) where
+  inputs-fine : judge_inputs (judge_sheet s) type bs ≡ Ok tt
   unfolding judge_inputs judge_options_type judge_bytes
   inputs-fine = rw (sheet, name, le-leb (length bs) most_option_bytes few)
 
@@ -54,7 +53,7 @@ module _ (s type bs : List ℕ) (sheet : judge_sheet s ≡ Fine) (name : is_rel_
   unfolding listing_by
   listing-is m t e = rw (inputs-fine, e)
 
-pub type-fine : (r : List ℕ) → judge_request r ≡ Fine → is_rel_path (text r (request_of r).options_type) ≡ true
+pub type-fine : (r : List ℕ) → judge_request r ≡ Ok tt → is_rel_path (text r (request_of r).options_type) ≡ true
 type-fine r p =
     let q = request_of r in
     let scope = is_rel_or_empty (text r q.scope) in

@@ -5,7 +5,7 @@
 --            longest os ==  how many parts the longest name of the options has
 --
 -- Assumes nothing.
-use Rattle.std.specs.Prelude.{◌≡◌, refl, Bool, true, false, List, [], ◌∷◌, ℕ, ◌+◌, ◌-◌, ◌≤◌, eqb, ltb, length}
+use Rattle.std.specs.Prelude.{◌≡◌, refl, Bool, true, false, List, [], ◌∷◌, ℕ, ◌+◌, ◌-◌, ◌≤◌, eqb, ltb, length, Err, None, Some, Ok, Option, Result}
 use Rattle.basis.specs.Kit.{sym, ap, ◌∙◌}
 use Rattle.basis.proofs.Kit.{arith}
 use Prim.Native.Nat.{max}
@@ -13,16 +13,10 @@ use Rattle.basis.proofs.Never.{never}
 use borrow.Author.Tests.{ltb-true, ltb-false}
 use Rattle.limits.specs.Figures.{most_request, most_constants}
 use Rattle.reply.specs.declared.Refusal.TheVariants.{BeyondLimit}
-use Rattle.reply.specs.declared.Verdict.{Verdict}
-use Rattle.reply.specs.declared.Verdict.TheVariants.{Fine, Refused}
-use Rattle.reply.specs.Verdicts.{first_fault}
+use Rattle.reply.specs.Verdicts.{first_fault, Verdict}
 use Rattle.reply.proofs.VerdictLaws.{refused-fine, first-fine-front, first-fine-rest}
 use Rattle.field.specs.Leaf.{text}
 use Rattle.field.specs.Walk.{Walk, done, cut, step, walk}
-use Rattle.fullname.specs.declared.LookedUp.{LookedUp}
-use Rattle.fullname.specs.declared.LookedUp.TheVariants.{Message as IsMessage, NoMessage}
-use Rattle.request.specs.declared.heading.Headed.{Headed}
-use Rattle.request.specs.declared.heading.Headed.TheVariants.{Heads, NoHeading}
 use Rattle.request.specs.Table.{option_tag}
 use Rattle.request.specs.Request.{Option, Request, heading_of, option_of, option_in, options_in, request_with, request_of}
 use Rattle.records.specs.Records.{Recs, nil, append, encode}
@@ -41,6 +35,9 @@ use Rattle.promises.proofs.SmallLaws.{deepest-append, length-encode-append}
 use Rattle.promises.proofs.SmallLaws.{Small, small-nil, small-self, small-more, small-append, set-small}
 use Rattle.promises.proofs.WidthLaws.{width, width-walk}
 use Rattle.promises.proofs.OptionBounds.{SmallSettled, sets, writes as writing, faulty, settle-small}
+use Rattle.reply.specs.declared.Refusal.{Refusal}
+use Rattle.request.specs.declared.heading.Heading.{Heading}
+use Rattle.scope.specs.declared.lookup.LookupScope.{LookupScope}
 
 abbrev pub longest : List Option → ℕ
 longest [] = 0
@@ -107,9 +104,9 @@ module _ {k n : ℕ} where
   some-small L s r q [] u = none
   some-small L s r q (o ∷ os) u = go (L.message (text r q.options_type))
     where
-      go : (v : LookedUp) → SmallSteps k n (on_type L s r q v)
-      go (NoMessage w) = stops
-      go (IsMessage p) = steps-in (u (record { name = text r q.options_type; place = p }))
+      go : (v : Result LookupScope Refusal) → SmallSteps k n (on_type L s r q v)
+      go (Err w) = stops
+      go (Ok p) = steps-in (u (record { name = text r q.options_type; place = p }))
 
 module _ (L : Lookups) (s r : List ℕ) where
   -- a level for each part of the longest name but its last, and for each level of a constant
@@ -117,11 +114,11 @@ module _ (L : Lookups) (s r : List ℕ) where
   unfolding steps_of request_of
   steps-small = go (heading_of r)
     where
-      go : (h : Headed) → SmallSteps (longest (request_with r h).options + (most_constants - 1)) (bytes_most (length r))
+      go : (h : Option Heading) → SmallSteps (longest (request_with r h).options + (most_constants - 1)) (bytes_most (length r))
           (some_options L s r (request_with r h) (request_with r h).options)
-      go NoHeading = none
-      go (Heads h) =
-          some-small L s r (request_with r (Heads h)) (options_in r (walk r h.options (length r)))
+      go None = none
+      go (Some h) =
+          some-small L s r (request_with r (Some h)) (options_in r (walk r h.options (length r)))
           λ m. gather-small L s r (text r h.scope) m _ (bytes_most (length r)) (walk r h.options (length r)) (omega arith) 0
           (omega (arith, width-walk r h.options (length r))) 0 [] nil small-nil
 
@@ -135,7 +132,7 @@ module _ (L : Lookups) (s r : List ℕ) where
       go (refused w) e stops = never cc
 
 -- ---- what is fine
-fine-length : (r : List ℕ) → judge_request r ≡ Fine → length r ≤ most_request
+fine-length : (r : List ℕ) → judge_request r ≡ Ok tt → length r ≤ most_request
 fine-length r p = go (ltb most_request (length r)) refl
   where
     go : (b : Bool) → ltb most_request (length r) ≡ b → length r ≤ most_request
@@ -143,18 +140,18 @@ fine-length r p = go (ltb most_request (length r)) refl
     go false l = ltb-false most_request (length r) l
 
 module _ (v : Verdict) (s r : List ℕ) (x : Recs) (e : resolving_by v s r ≡ records x) where
-  fine-both : first_fault v (judge_request r) ≡ Fine
+  fine-both : first_fault v (judge_request r) ≡ Ok tt
   unfolding resolving_by
   fine-both = go (first_fault v (judge_request r)) e
     where
-      go : (u : Verdict) → unless u (steps_of (walking s) s r) ≡ records x → u ≡ Fine
-      go Fine e = refl
-      go (Refused w) e = never cc
+      go : (u : Verdict) → unless u (steps_of (walking s) s r) ≡ records x → u ≡ Ok tt
+      go (Ok _) e = refl
+      go (Err w) e = never cc
 
-  pub resolved-sheet : v ≡ Fine
+  pub resolved-sheet : v ≡ Ok tt
   resolved-sheet = first-fine-front v (judge_request r) fine-both
 
-  pub resolved-fine : judge_request r ≡ Fine
+  pub resolved-fine : judge_request r ≡ Ok tt
   resolved-fine = first-fine-rest v (judge_request r) fine-both
 
   pub resolved-steps : steps_of (walking s) s r ≡ records x
@@ -167,7 +164,7 @@ pub resolving-few : (L : Lookups) (s r : List ℕ) (x : Recs) → steps_of L s r
 resolving-few L s r x e = (records-small L s r x e).few
 
 -- A fine request, which has at most 8,192 bytes, writes at most 65,536.
-pub request-few : (L : Lookups) (s r : List ℕ) → judge_request r ≡ Fine → (x : Recs) → steps_of L s r ≡ records x → length (encode x) ≤ 65536
+pub request-few : (L : Lookups) (s r : List ℕ) → judge_request r ≡ Ok tt → (x : Recs) → steps_of L s r ≡ records x → length (encode x) ≤ 65536
 request-few L s r p x e = omega (arith, resolving-few L s r x e, fine-length r p)
 
 -- So does every call of `resolve` and of `resolve_tested`, however the sheet is judged.

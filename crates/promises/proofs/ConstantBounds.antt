@@ -1,7 +1,7 @@
 -- What a constant comes to on a field: at most the levels that it may have, and at most seven bytes for each byte of its own field, its
 -- header among them; over any look-ups and of any bytes.
 -- Assumes nothing.
-use Rattle.std.specs.Prelude.{◌≡◌, refl, Bool, true, false, List, ℕ, zero, suc, ◌+◌, ◌-◌, ◌≤◌, eqb, length, drop}
+use Rattle.std.specs.Prelude.{◌≡◌, refl, Bool, true, false, List, ℕ, zero, suc, ◌+◌, ◌-◌, ◌≤◌, eqb, length, drop, Err, None, Some, Ok, Option, Result}
 use Rattle.basis.specs.Kit.{sym}
 use Rattle.basis.proofs.Kit.{arith}
 use lib.ListN.{length-take}
@@ -14,13 +14,9 @@ use Rattle.field.specs.Walk.{Walk, done, cut, step, walk}
 use Rattle.types.specs.Types.{TYPE_MESSAGE}
 use Rattle.sheet.specs.declared.declaration.Shape.{Shape}
 use Rattle.scope.specs.declared.lookup.LookupScope.{LookupScope}
-use Rattle.fullname.specs.declared.LookedUp.{LookedUp}
-use Rattle.fullname.specs.declared.LookedUp.TheVariants.{Message as IsMessage, NoMessage}
 use Rattle.request.specs.declared.constant.Constant.{Constant}
 use Rattle.request.specs.declared.constant.Constant.TheVariants.{Bool as BoolOf, Integer, Float as FloatOf, NotANumber}
 use Rattle.request.specs.declared.constant.Constant.TheVariants.{Text, Ident, Message as MessageOf, List as ListOf}
-use Rattle.request.specs.declared.constant.Held.{Held}
-use Rattle.request.specs.declared.constant.Held.TheVariants.{Holds, NoConstant}
 use Rattle.request.specs.Constant.{constant_of, is_pair_name}
 use Rattle.request.specs.Tree.{PairName, unnamed, none, pair_name_of, elements_in, pairs_in, grown, if_held, constant_in}
 use Rattle.request.proofs.ConstantLaws.{text-span, in-message, in_list, span-place}
@@ -32,8 +28,6 @@ use Rattle.records.specs.inner.Emits.{bytes_most}
 use Rattle.records.proofs.RecsLaws.{number-few, bytes-few}
 use Rattle.records.proofs.MadeLaws.{both-none}
 use Rattle.lookups.specs.Lookups.{Lookups}
-use Rattle.scalars.specs.declared.Scalar.{Scalar}
-use Rattle.scalars.specs.declared.Scalar.TheVariants.{Fits, Misfit}
 use Rattle.scalars.specs.Scalars.{scalar_on}
 use Rattle.scalars.proofs.BodyLaws.{bytes_of}
 use Rattle.values.specs.Values.{made_of, Holder, on, within, Asked, field, passed, refused as asked_wrong, asked, on_asked, reached, in_message}
@@ -56,22 +50,22 @@ module _ {k n : ℕ} where
       → SmallMade (suc k) (20 + n) (in_message L s h f)
   message-small L s h f u = go (eqb h.typ TYPE_MESSAGE) (L.message (text s h.path))
     where
-      go : (b : Bool) (v : LookedUp) → SmallMade {W = Refusal} (suc k) (20 + n) (elim b [
+      go : (b : Bool) (v : Result LookupScope Refusal) → SmallMade {W = Refusal} (suc k) (20 + n) (elim b [
         | true ↦ reached h.number v f
         | false ↦ wrong MessageFieldRequiresMessageConstant
       ])
-      go true (NoMessage w) = refused
-      go true (IsMessage p) = holding-small h.number (u p)
+      go true (Err w) = refused
+      go true (Ok p) = holding-small h.number (u p)
       go false v = refused
 
 module _ (L : Lookups) (s r : List ℕ) where
   -- ---- a scalar that was read, its payload from a to e
-  module _ (t a e : ℕ) (c : Constant) (q : constant_of r t a e ≡ Holds c) (h : Shape) where
-    pub record-small : (u : Refusal) (b : Body) → scalar_on L s r u h c ≡ Fits b → Small 1 (bytes_most (header + (e - a))) (record_of r h b)
+  module _ (t a e : ℕ) (c : Constant) (q : constant_of r t a e ≡ Some c) (h : Shape) where
+    pub record-small : (u : Refusal) (b : Body) → scalar_on L s r u h c ≡ Ok b → Small 1 (bytes_most (header + (e - a))) (record_of r h b)
     record-small u (Bits v) g = record { levels = omega arith; few = omega (arith, number-few h.number h.typ v) }
     record-small u (Bytes p) g =
         let o = text-span c p (bytes_of p L s r u h c g) in
-        let y : p ≡ span a e = span-place r t a e (Holds c) (sym q) c refl p o in
+        let y : p ≡ span a e = span-place r t a e (Some c) (sym q) c refl p o in
         rw y (record {
           levels = omega arith;
           few = omega (arith, bytes-few h.number h.typ (part r a e), part-few r a e);
@@ -81,9 +75,9 @@ module _ (L : Lookups) (s r : List ℕ) where
     unfolding scalar_made
     scalar-small = go (scalar_on L s r UnknownEnumValue h c) refl
       where
-        go : (x : Scalar) → scalar_on L s r UnknownEnumValue h c ≡ x → SmallMade 1 (bytes_most (header + (e - a))) (made_of r h x)
-        go (Fits b) g = small (record-small UnknownEnumValue b g)
-        go (Misfit w) g = refused
+        go : (x : Result Body Refusal) → scalar_on L s r UnknownEnumValue h c ≡ x → SmallMade 1 (bytes_most (header + (e - a))) (made_of r h x)
+        go (Ok b) g = small (record-small UnknownEnumValue b g)
+        go (Err w) g = refused
 
   -- ---- what a list or a message holds, its constants being small with d levels left
   module _ (d : ℕ) (inner : (k : Holder) (n : PairName) (t a e : ℕ)
@@ -114,12 +108,12 @@ module _ (L : Lookups) (s r : List ℕ) where
         go false v = small small-nil
 
     module _ (k : Holder) (n : PairName) (t a e : ℕ) where
-      scalar-grown : (c : Constant) → constant_of r t a e ≡ Holds c
+      scalar-grown : (c : Constant) → constant_of r t a e ≡ Some c
           → SmallMade (suc d) (bytes_most (header + (e - a))) (on_asked (asked s r k n) (scalar_made L s r c))
       scalar-grown c q =
           asked-small (asked s r k n) (scalar_made L s r c) λ h. made_more (omega arith) (omega arith) (scalar-small t a e c q h)
 
-      grown-small : (c : Constant) → constant_of r t a e ≡ Holds c
+      grown-small : (c : Constant) → constant_of r t a e ≡ Some c
           → SmallMade (suc d) (bytes_most (header + (e - a))) (records L s r k (grown (constant_in d r) r n none c))
       grown-small (BoolOf b) q = rw both-none (scalar-grown (BoolOf b) q)
       grown-small (Integer m x) q = rw both-none (scalar-grown (Integer m x) q)
@@ -128,18 +122,18 @@ module _ (L : Lookups) (s r : List ℕ) where
       grown-small (Text p) q = rw both-none (scalar-grown (Text p) q)
       grown-small (Ident p) q = rw both-none (scalar-grown (Ident p) q)
       grown-small (MessageOf p) q =
-          rw (both-none, span-place r t a e (Holds (MessageOf p)) (sym q) (MessageOf p) refl p in-message)
+          rw (both-none, span-place r t a e (Some (MessageOf p)) (sym q) (MessageOf p) refl p in-message)
           (asked-small (asked s r k n) _ λ h. made_more (omega arith) (omega (arith, width-walk r a e))
           (message-small L s h _ λ m. pairs_small (within m) (walk r a e)))
       grown-small (ListOf p) q =
-          rw (both-none, span-place r t a e (Holds (ListOf p)) (sym q) (ListOf p) refl p in_list)
+          rw (both-none, span-place r t a e (Some (ListOf p)) (sym q) (ListOf p) refl p in_list)
           (asked-small (asked s r k n) _ λ h. made_more (omega arith) (omega (arith, width-walk r a e))
           (elements-small (on h) (walk r a e)))
 
-      held_small : (u : Held) → constant_of r t a e ≡ u
+      held_small : (u : Option Constant) → constant_of r t a e ≡ u
           → SmallMade (suc d) (bytes_most (header + (e - a))) (records L s r k (if_held (constant_in d r) r n none u))
-      held_small NoConstant q = small small-nil
-      held_small (Holds c) q = grown-small c q
+      held_small None q = small small-nil
+      held_small (Some c) q = grown-small c q
 
   -- ---- a constant with d levels left
   pub constant-small : (d : ℕ) (k : Holder) (n : PairName) (t a e : ℕ)

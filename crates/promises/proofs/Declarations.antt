@@ -5,7 +5,7 @@
 --       Steady L s <-> every step in a message that L finds comes to a usable declaration, and enum values are of 32 bits
 --
 -- Assumes nothing.
-use Rattle.std.specs.Prelude.{◌≡◌, refl, Bool, true, ◌&&◌, List, [], ◌∷◌, ◌++◌, ℕ, ◌+◌, ◌^◌, ◌≤◌, ◌<◌, leb, Some}
+use Rattle.std.specs.Prelude.{◌≡◌, refl, Bool, true, ◌&&◌, List, [], ◌∷◌, ◌++◌, ℕ, ◌+◌, ◌^◌, ◌≤◌, ◌<◌, leb, Some, Ok}
 use Rattle.basis.specs.First.{first}
 use Rattle.basis.specs.Among.{Among, here, there}
 use Rattle.basis.proofs.FirstLaws.{Every, none_of, one_of, every_append, every-onto, every-collect}
@@ -14,7 +14,6 @@ use Rattle.basis.proofs.AmongFirsts.{given-some, first-some}
 use mathlib.Core.Bool.{and-eq-true_iff}
 use borrow.Author.Tests.{leb-true}
 use Rattle.limits.specs.Figures.{most_number, most_type, most_label}
-use Rattle.reply.specs.declared.Verdict.TheVariants.{Fine}
 use Rattle.octets.proofs.Bytes.{Bytes}
 use Rattle.ident.specs.Ident.{is_ident}
 use Rattle.path.specs.Path.{Path, parent, spell, components, is_rel_path, is_rel_or_empty}
@@ -34,7 +33,6 @@ use Rattle.scope.specs.declared.lookup.LookupScope.{LookupScope}
 use Rattle.scope.specs.Scope.{Scope, holding, file_scope, message_scope, down}
 use Rattle.scopes.specs.Scopes.{follow, scope_in, scopes_in, scopes_from, scopes}
 use Rattle.scopes.proofs.ScopeFiles.{only-some}
-use Rattle.fullname.specs.declared.LookedUp.TheVariants.{Message as Found}
 use Rattle.fullname.specs.FullName.{message_of, messages_at}
 use Rattle.fullname.proofs.LiesLaws.{looked-up-is}
 use Rattle.search.specs.declared.extension.Candidate.{Candidate}
@@ -51,9 +49,9 @@ pub record Usable (L : Lookups) (s : List ℕ) (m : Message) (d : Declaration) :
   pub range : (1 ≤ d.shape.number) × (d.shape.number ≤ most_number)
 
 pub record Steady (L : Lookups) (s : List ℕ) : Type 0 where
-  pub field : (m : Message) → L.message m.name ≡ Found m.place → (n : List ℕ) (d : Declaration) → field_named s n m.place ≡ Some d
+  pub field : (m : Message) → L.message m.name ≡ Ok m.place → (n : List ℕ) (d : Declaration) → field_named s n m.place ≡ Some d
       → Usable L s m d
-  pub extension : (m : Message) → L.message m.name ≡ Found m.place → (scope n : List ℕ) (c : Candidate)
+  pub extension : (m : Message) → L.message m.name ≡ Ok m.place → (scope n : List ℕ) (c : Candidate)
       → L.extension scope m.name n ≡ Extends c → Usable L s m c.found.declaration
   pub value : (n : List ℕ) (vs : Span) (v : Value) → value_in s n vs ≡ Some v → v.number < 2 ^ 32
 
@@ -107,7 +105,7 @@ module _ (s : List ℕ) (P : Items → Type 0)
         (scopes-hold p)
 
     -- so of what stands where a message was found
-    pub found-holds : (path : List ℕ) (p : LookupScope) → (walking s).message path ≡ Found p → P (holding s p).items
+    pub found-holds : (path : List ℕ) (p : LookupScope) → (walking s).message path ≡ Ok p → P (holding s p).items
     found-holds path p q =
         every-among (rw (looked-up-is s (components path) ((walking s).message path) refl p q) at (messages-hold (components path))) here
 
@@ -209,11 +207,11 @@ files-held all (f ∷ fs) h =
     (files-held all fs (λ d k. h d (among-append-right (every_extension_of f.items) k)))
 
 -- ==== the statement
-module _ (s : List ℕ) (fine : judge_sheet s ≡ Fine) where
+module _ (s : List ℕ) (fine : judge_sheet s ≡ Ok tt) where
   ranged : Every (λ f. Each InRange f.items) (tree_of s)
   ranged = files-ranged s (tree_of s) (fine-good s fine)
 
-  module _ (m : Message) (at : (walking s).message m.name ≡ Found m.place) where
+  module _ (m : Message) (at : (walking s).message m.name ≡ Ok m.place) where
     field-usable : (n : List ℕ) (d : Declaration) → field_named s n m.place ≡ Some d → Usable (walking s) s m d
     field-usable n d q =
         let items = (holding s m.place).items in

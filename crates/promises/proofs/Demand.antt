@@ -1,7 +1,7 @@
 -- Demand 3: what is written under a newer sheet is listed under an older one that is contained in it. Of the definitions first, then of
 -- the calls' own contracts. The statements stand at the end of each part.
 -- Assumes nothing.
-use Rattle.std.specs.Prelude.{◌≡◌, refl, Bool, true, false, List, map, ℕ, ◌<◌, ltb, length, take, drop}
+use Rattle.std.specs.Prelude.{◌≡◌, refl, Bool, true, false, List, map, ℕ, ◌<◌, ltb, length, take, drop, Err, Ok}
 use Rattle.basis.specs.Kit.{sym, ap, ◌∙◌}
 use Rattle.basis.proofs.Kit.{arith, le-ltb}
 use lib.Dec.{ltb→lt}
@@ -10,15 +10,12 @@ use Rattle.limits.specs.Figures.{most_levels}
 use Rattle.octets.proofs.Bytes.{Bytes}
 use Rattle.reply.specs.declared.Refusal.{Refusal}
 use Rattle.reply.specs.declared.Refusal.TheVariants.{NoRoom}
-use Rattle.reply.specs.declared.Verdict.{Verdict}
-use Rattle.reply.specs.declared.Verdict.TheVariants.{Fine, Refused}
 use Rattle.reply.specs.declared.Cause.{Cause}
 use Rattle.reply.specs.declared.Answer.{Answer}
 use Rattle.reply.specs.Reply.{number, bare, refused_for, refused_by, done_with, decided}
-use Rattle.reply.specs.Verdicts.{first_fault, asked}
+use Rattle.reply.specs.Verdicts.{first_fault, asked, Verdict}
 use Rattle.reply.specs.Outcome.{refuse, give, within, answer_of, left_of, Answered}
 use Rattle.reply.proofs.Rows.{every-at}
-use Rattle.fullname.specs.declared.LookedUp.TheVariants.{Message as Found}
 use Rattle.lookups.specs.Lookups.{Message, walking}
 use Rattle.records.specs.Records.{Recs, encode}
 use Rattle.sheetform.specs.Form.{judge_sheet}
@@ -55,7 +52,7 @@ module _ (older newer r : List ℕ) (octets : Bytes newer) (octets' : Bytes r) (
   there : NamesMessage older type
   there = among-message older type known
 
-  at : (walking older).message type ≡ Found there.scope.place
+  at : (walking older).message type ≡ Ok there.scope.place
   at = clean_found older o.fine o.clear type there.scope there.among
 
   abbrev m : Message
@@ -105,13 +102,13 @@ decided-true : (b : Bool) → decided b ≡ decided true → b ≡ true
 decided-true true e = refl
 decided-true false e = absurd (let none : 0 ≡ 1 = ap (λ (a : Answer). a.second) e in omega arith)
 
-asked-fine : (v : Verdict) (b : Bool) → asked v b ≡ decided true → v ≡ Fine
-asked-fine Fine b e = refl
-asked-fine (Refused w) b e = absurd (refused-yes w e)
+asked-fine : (v : Verdict) (b : Bool) → asked v b ≡ decided true → v ≡ Ok tt
+asked-fine (Ok _) b e = refl
+asked-fine (Err w) b e = absurd (refused-yes w e)
 
 asked-true : (v : Verdict) (b : Bool) → asked v b ≡ decided true → b ≡ true
-asked-true Fine b e = decided-true b e
-asked-true (Refused w) b e = absurd (refused-yes w e)
+asked-true (Ok _) b e = decided-true b e
+asked-true (Err w) b e = absurd (refused-yes w e)
 
 clean-sheet : (s : List ℕ) → clean_answer s ≡ decided true → CleanSheet s
 clean-sheet s e = record { fine = asked-fine (judge_sheet s) (clean s) e; clear = asked-true (judge_sheet s) (clean s) e }

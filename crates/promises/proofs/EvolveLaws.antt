@@ -4,7 +4,7 @@
 --   One s t m m' <-> the messages m of the older sheet s and m' of the newer one t have one full name, by which both are found
 --
 -- Assumes nothing.
-use Rattle.std.specs.Prelude.{◌≡◌, refl, Bool, true, ◌&&◌, List, [], ◌∷◌, ℕ, eqb, Some}
+use Rattle.std.specs.Prelude.{◌≡◌, refl, Bool, true, ◌&&◌, List, [], ◌∷◌, ℕ, eqb, Some, Ok}
 use Rattle.basis.specs.Kit.{sym, ap, ◌∙◌}
 use Rattle.basis.specs.Among.{Among, here}
 use Rattle.basis.proofs.CountLaws.{any-passing, every-among}
@@ -13,7 +13,6 @@ use mathlib.Core.Bool.{and-eq-true_iff}
 use borrow.Author.Tests.{eqb-true}
 use Rattle.octets.specs.Octets.{same_bytes}
 use Rattle.octets.proofs.SameBytes.{same-sound}
-use Rattle.reply.specs.declared.Verdict.TheVariants.{Fine}
 use Rattle.field.specs.Leaf.{text}
 use Rattle.types.specs.Types.{TYPE_MESSAGE}
 use Rattle.path.specs.Path.{components, all_ident}
@@ -23,7 +22,6 @@ use Rattle.sheet.specs.Members.{every_extension}
 use Rattle.sheetform.specs.Form.{judge_sheet}
 use Rattle.scope.specs.declared.lookup.LookupScope.{LookupScope}
 use Rattle.scope.specs.Scope.{Scope, holding, extends}
-use Rattle.fullname.specs.declared.LookedUp.TheVariants.{Message as Found}
 use Rattle.fullname.specs.FullName.{messages_at, looked_up}
 use Rattle.fullname.proofs.LiesLaws.{looked-up-is}
 use Rattle.lookups.specs.Lookups.{Message, walking}
@@ -42,11 +40,11 @@ use Rattle.promises.proofs.CleanLaws.{number, number_of, field-number, extension
 use Rattle.promises.proofs.CleanLaws.{clean-name, number-once, path-message, extendee-message}
 
 -- ---- a clean sheet
-module _ (s : List ℕ) (fine : judge_sheet s ≡ Fine) (c : clean s ≡ true) where
-  only : (m : Message) → (walking s).message m.name ≡ Found m.place → messages_at s (components m.name) ≡ holding s m.place ∷ []
+module _ (s : List ℕ) (fine : judge_sheet s ≡ Ok tt) (c : clean s ≡ true) where
+  only : (m : Message) → (walking s).message m.name ≡ Ok m.place → messages_at s (components m.name) ≡ holding s m.place ∷ []
   only m at = looked-up-is s (components m.name) ((walking s).message m.name) refl m.place at
 
-  among-only : (m : Message) → (walking s).message m.name ≡ Found m.place
+  among-only : (m : Message) → (walking s).message m.name ≡ Ok m.place
       → Among (holding s m.place) (messages_at s (components m.name))
   among-only m at = rw (only m at) here
 
@@ -64,7 +62,7 @@ module _ (s : List ℕ) (fine : judge_sheet s ≡ Fine) (c : clean s ≡ true) w
       subst (λ t. Among (number t d) (every_number s)) (sym (same-sound m.name (text s d.extendee) x))
       (extension-number s e.0 d e.1)
 
-  module _ (m : Message) (at : (walking s).message m.name ≡ Found m.place) where
+  module _ (m : Message) (at : (walking s).message m.name ≡ Ok m.place) where
     -- what is declared at a message is among its numbers, by the name by which it is found, where that is a path
     pub declared-number : all_ident (components m.name) ≡ true → (d : Declaration) → DeclaredAt s m d
         → Among (number m.name d) (every_number s)
@@ -94,17 +92,17 @@ module _ (s : List ℕ) (fine : judge_sheet s ≡ Fine) (c : clean s ≡ true) w
   clean-once m at d e k l q = once-at m at d e k l q
 
   -- a message that is declared is found
-  pub clean_found : (t : List ℕ) (x : Scope) → Among (named t (message x)) (every_declared s) → (walking s).message t ≡ Found x.place
+  pub clean_found : (t : List ℕ) (x : Scope) → Among (named t (message x)) (every_declared s) → (walking s).message t ≡ Ok x.place
   clean_found t x k = ap looked_up (message-found s fine (clean-name s c) t x k)
 
 -- ---- two sheets, the older contained in the newer
-module _ (s t : List ℕ) (fine : judge_sheet s ≡ Fine) (clear : clean s ≡ true) (fine' : judge_sheet t ≡ Fine) (clear' : clean t ≡ true)
+module _ (s t : List ℕ) (fine : judge_sheet s ≡ Ok tt) (clear : clean s ≡ true) (fine' : judge_sheet t ≡ Ok tt) (clear' : clean t ≡ true)
     (within : contained s t ≡ true) where
   pub record One (m m' : Message) : Type 0 where
     pub name : m.name ≡ m'.name
     pub path : all_ident (components m.name) ≡ true
-    pub found : (walking s).message m.name ≡ Found m.place
-    pub found' : (walking t).message m'.name ≡ Found m'.place
+    pub found : (walking s).message m.name ≡ Ok m.place
+    pub found' : (walking t).message m'.name ≡ Ok m'.place
 
   -- the number of the newer that is like one of the older
   record Alike (n : List ℕ) (d : Declaration) : Type 0 where
@@ -180,7 +178,7 @@ module _ (s t : List ℕ) (fine : judge_sheet s ≡ Fine) (clear : clean s ≡ t
     like : alike s t d d' ≡ true
     like = subst (λ x. alike s t d x ≡ true) same kept.like
 
-    reaches : d'.shape.typ ≡ TYPE_MESSAGE → (p : LookupScope) → (walking t).message (path_of t d') ≡ Found p
+    reaches : d'.shape.typ ≡ TYPE_MESSAGE → (p : LookupScope) → (walking t).message (path_of t d') ≡ Ok p
         → Names (walking s) s d (λ k. One k (reached_by t d' p))
     reaches h p f =
         let x = path-message s clear m.name d older (like-typ d d' like ∙ h) in

@@ -7,7 +7,7 @@
 -- `after` it. `Bytes s` says that every element of s is below 256, as those of a slice of bytes are.
 --
 -- Assumes nothing.
-use Rattle.std.specs.Prelude.{◌≡◌, Bool, true, false, List, [], ◌∷◌, ◌++◌, map, ℕ, ◌+◌, ◌≤◌, ◌<◌, ◌^◌, length, take, drop, None, Some}
+use Rattle.std.specs.Prelude.{◌≡◌, Bool, true, false, List, [], ◌∷◌, ◌++◌, map, ℕ, ◌+◌, ◌≤◌, ◌<◌, ◌^◌, length, take, drop, None, Some, Err, Ok}
 use Rattle.basis.specs.Kit.{ap, ◌∙◌}
 use Rattle.basis.specs.Among.{Among, Ordered}
 use Rattle.basis.proofs.Kit.{lt-ltb, le-ltb}
@@ -17,7 +17,6 @@ use Rattle.limits.specs.Figures.{most_levels, most_option_bytes}
 use Rattle.octets.proofs.Bytes.{Bytes}
 use Rattle.reply.specs.declared.Cause.{Cause}
 use Rattle.reply.specs.declared.Refusal.TheVariants.{ExtensionNotFound, WrongExtensionType, BadRequest, BeyondLimit, NoRoom}
-use Rattle.reply.specs.declared.Verdict.TheVariants.{Fine}
 use Rattle.reply.specs.declared.Answer.{Answer}
 use Rattle.reply.specs.Reply.{refused_for, refused_by, done_with, absent_answer, decided}
 use Rattle.reply.specs.Outcome.{Outcome, nothing, give, within, answer_of, left_of, Answered}
@@ -34,11 +33,9 @@ use Rattle.sheetform.specs.Form.{judge_sheet}
 use Rattle.requestform.specs.Form.{judge_request}
 use Rattle.scope.specs.declared.lookup.LookupScope.{LookupScope}
 use Rattle.scope.specs.Scope.{Scope, extends}
-use Rattle.fullname.specs.declared.LookedUp.TheVariants.{Message as Found}
 use Rattle.fullname.specs.FullName.{messages_at, enums_at}
 use Rattle.search.specs.declared.extension.Candidate.{Candidate}
-use Rattle.search.specs.declared.extension.Tried.TheVariants.{Answers}
-use Rattle.search.specs.declared.extension.Found.{Found as FoundExtension}
+use Rattle.search.specs.declared.extension.Found.{Ok as FoundExtension}
 use Rattle.search.specs.Lookup.{found_at, tried}
 use Rattle.search.specs.Answers.{Undeclared}
 use Rattle.request.specs.declared.name.Part.{Part}
@@ -51,7 +48,6 @@ use Rattle.known.specs.Known.{Known}
 use Rattle.faults.specs.declared.Fault.{Fault}
 use Rattle.steps.specs.declared.Lack.{Lack}
 use Rattle.steps.specs.declared.Lack.TheVariants.{NoExtension, OtherMessage}
-use Rattle.steps.specs.declared.Step.TheVariants.{NotFound}
 use Rattle.steps.specs.Steps.{why_of, step_of}
 use Rattle.options.specs.Settle.{fails, settle}
 use Rattle.faults.specs.Faults.{cause_at}
@@ -160,7 +156,7 @@ module _ (o : Outcome ℕ) (before : List ℕ) where
     absent-answer e = k.answer ∙ ap (λ x. answer_of (within (length before) x)) e
 
 -- A sheet that was tested once may be asked a thousand times: on it a call without that test comes to the same.
-module _ (s : List ℕ) (fine : judge_sheet s ≡ Fine) where
+module _ (s : List ℕ) (fine : judge_sheet s ≡ Ok tt) where
   pub resolve-once : (r : List ℕ) → resolve_bytes s r ≡ resolve_tested s r
   resolve-once r = resolves.resolve-tested s r fine
 
@@ -204,21 +200,21 @@ resolved-reads-back = back.resolved-reads-back
 
 -- An extension part that is reached gets ExtensionNotFound exactly when none of 01's scopes at its candidate paths declares that name.
 module _ (s r scope : List ℕ) (m : Message) (p : Part) (x : p.extension ≡ true) where
-  pub not-found-only : is_path (text r p.name) ≡ true → (l : Lack) → step_of (walking s) s r scope m p ≡ NotFound l
+  pub not-found-only : is_path (text r p.name) ≡ true → (l : Lack) → step_of (walking s) s r scope m p ≡ Err l
       → why_of l ≡ ExtensionNotFound → (q : Path) → Among q (candidates scope (text r p.name)) → Undeclared s q
   not-found-only = theorems.part-not-found s r scope m p x
 
   pub not-found-whenever : ((q : Path) → Among q (candidates scope (text r p.name)) → Undeclared s q)
-      → step_of (walking s) s r scope m p ≡ NotFound (NoExtension ExtensionNotFound)
+      → step_of (walking s) s r scope m p ≡ Err (NoExtension ExtensionNotFound)
   not-found-whenever = theorems.part-undeclared s r scope m p x
 
   -- Found first, tested second: WrongExtensionType exactly when the one found extends another message. The part then says which it is, and
   -- at which candidate it stands.
-  pub wrong-whenever : (c : Candidate) → tried s scope (text r p.name) ≡ Answers c
-      → extends s m.name c.found.declaration ≡ false → step_of (walking s) s r scope m p ≡ NotFound (OtherMessage c)
+  pub wrong-whenever : (c : Candidate) → tried s scope (text r p.name) ≡ Ok c
+      → extends s m.name c.found.declaration ≡ false → step_of (walking s) s r scope m p ≡ Err (OtherMessage c)
   wrong-whenever = theorems.part-other-extendee s r scope m p x
 
-  pub wrong-only : (l : Lack) → step_of (walking s) s r scope m p ≡ NotFound l → why_of l ≡ WrongExtensionType
+  pub wrong-only : (l : Lack) → step_of (walking s) s r scope m p ≡ Err l → why_of l ≡ WrongExtensionType
       → theorems.Mismatch s scope m (text r p.name) l
   wrong-only = theorems.part-wrong s r scope m p x
 
@@ -254,7 +250,7 @@ module _ (s r before after : List ℕ) (a : Answer) (k : Answered (resolve_bytes
 
 -- A request of its own: `alone r i` is the heading of r and the field of its i-th option. It is a fine request, of the same scope and options
 -- type, and has that option alone, with the fault that it has in r, or none.
-pub option-own : (r : List ℕ) → judge_request r ≡ Fine → (i : ℕ) (o : Option) → get_elem? (request_of r).options i ≡ Some o → Own r i o
+pub option-own : (r : List ℕ) → judge_request r ≡ Ok tt → (i : ℕ) (o : Option) → get_elem? (request_of r).options i ≡ Some o → Own r i o
 option-own = apart.own-request
 
 -- Of `query` the option is 65,535, and the part is a position exactly when its name is refused by its steps: that of the part at fault.
@@ -317,7 +313,7 @@ module _ {rs : Recs} (p : Proper rs) (small : length (encode rs) < 2 ^ 64) where
     any-sheet m place d y k = rereads.reading-of-records L s p m place d y small k
 
     -- So it is under an options type, of every call.
-    pub any-type : (type : List ℕ) (x : LookupScope) → L.message type ≡ Found x → Readable L s (record { name = type; place = x }) rs
+    pub any-type : (type : List ℕ) (x : LookupScope) → L.message type ≡ Ok x → Readable L s (record { name = type; place = x }) rs
         → nested rs < most_levels
         → records_of L s type (encode rs) ≡ under (record { name = type; place = x }) (seen L s (record { name = type; place = x }) rs 0)
     any-type type x g y k = reading-under L s type (encode rs) x g _ (any-sheet (record { name = type; place = x }) 0 most_levels y k)
@@ -388,7 +384,7 @@ module _ (s type q bs : List ℕ) where
 
   -- What follows holds of it, its look-ups being those that walk over the sheet, and no records being joined: where its inputs are fine, so
   -- where it gives words or Absent.
-  pub query-fine : judge_inputs (judge_sheet s) type q bs ≡ Fine → query s type q bs ≡ query_of never (walking s) s type q bs
+  pub query-fine : judge_inputs (judge_sheet s) type q bs ≡ Ok tt → query s type q bs ≡ query_of never (walking s) s type q bs
   query-fine = calls.query-fine s type bs q
 
   pub query-of : (ws : List ℕ) → query s type q bs ≡ give ws → query_of never (walking s) s type q bs ≡ give ws

@@ -1,6 +1,6 @@
 -- Closed cases of what one part of a name comes to, with the fact behind a lack, which the checker computes.
 -- Assumes nothing.
-use Rattle.std.specs.Prelude.{◌≡◌, refl, Bool, true, false, List, [], ◌∷◌, ◌++◌, map, ℕ, length}
+use Rattle.std.specs.Prelude.{◌≡◌, refl, Bool, true, false, List, [], ◌∷◌, ◌++◌, map, ℕ, length, Err, Ok, Result}
 use Prim.Native.String.{String}
 use Rattle.octets.specs.Octets.{same_bytes, big_at}
 use Rattle.octets.specs.Ascii.{ascii}
@@ -14,16 +14,16 @@ use Rattle.sheet.specs.Declaration.{has_type_path, type_path_at, shape_at, exten
 use Rattle.sheet.specs.Tree.{value_in, item_in, items_in, file_in, tree_of}
 use Rattle.scopes.specs.Scopes.{scopes}
 use Rattle.sheet.proofs.Sheets.{file, message, extension, field}
-use Rattle.fullname.specs.declared.LookedUp.{LookedUp}
-use Rattle.fullname.specs.declared.LookedUp.TheVariants.{Message as Is, NoMessage}
 use Rattle.fullname.specs.FullName.{messages_at}
 use Rattle.search.specs.Lookup.{found_at, tried, ext_resolve_field}
 use Rattle.request.specs.declared.name.Part.{Part}
 use Rattle.lookups.specs.Lookups.{walking}
 use Rattle.steps.specs.declared.Lack.TheVariants.{NoField, NoExtension, OtherMessage}
-use Rattle.steps.specs.declared.Step.{Step}
-use Rattle.steps.specs.declared.Step.TheVariants.{Found, NotFound}
 use Rattle.steps.specs.Steps.{step_of}
+use Rattle.reply.specs.declared.Refusal.{Refusal}
+use Rattle.scope.specs.declared.lookup.LookupScope.{LookupScope}
+use Rattle.sheet.specs.declared.declaration.Declaration.{Declaration}
+use Rattle.steps.specs.declared.Lack.{Lack}
 
 -- ---- what a part comes to: the number of its declaration; no field; the reply's number; or the position of the candidate that answers and
 -- the number of its extension, of another message. `nowhere` is for a sheet without the message of options
@@ -34,11 +34,11 @@ data Comes : Type 0 where
   other : (position number : ℕ) → Comes
   nowhere : Comes
 
-abbrev comes_to : Step → Comes
-comes_to (Found d) = found d.shape.number
-comes_to (NotFound NoField) = no_field
-comes_to (NotFound (NoExtension w)) = no_extension (number w)
-comes_to (NotFound (OtherMessage c)) = other c.position c.found.declaration.shape.number
+abbrev comes_to : Result Declaration Lack → Comes
+comes_to (Ok d) = found d.shape.number
+comes_to (Err NoField) = no_field
+comes_to (Err (NoExtension w)) = no_extension (number w)
+comes_to (Err (OtherMessage c)) = other c.position c.found.declaration.shape.number
 
 -- ---- the parts, in the message o.F and from its scope
 abbrev sheet : List ℕ
@@ -58,9 +58,9 @@ ext name says = record { searched = true; name = name; says = says }
 abbrev part : Case → Part
 part x = record { extension = x.searched; name = record { from = 0; to = length (ascii x.name) } }
 
-abbrev in_message : LookedUp → Case → Comes
-in_message (NoMessage w) x = nowhere
-in_message (Is p) x =
+abbrev in_message : Result LookupScope Refusal → Case → Comes
+in_message (Err w) x = nowhere
+in_message (Ok p) x =
     comes_to (step_of (walking sheet) sheet (ascii x.name) (ascii "o.F") (record { name = ascii "o.F"; place = p }) (part x))
 
 answer : Case → Comes

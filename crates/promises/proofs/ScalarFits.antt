@@ -4,7 +4,7 @@
 --     BodyFits t b <-> the body b is a value of the type t, by its wire type
 --
 -- Assumes nothing.
-use Rattle.std.specs.Prelude.{◌≡◌, refl, Bool, true, false, ◌||◌, List, [], ◌∷◌, ℕ, zero, suc, ◌+◌, ◌-◌, ◌*◌, ◌%◌, ◌^◌, ◌≤◌, ◌<◌, eqb, ltb, leb, Option, None, Some}
+use Rattle.std.specs.Prelude.{◌≡◌, refl, Bool, true, false, ◌||◌, List, [], ◌∷◌, ℕ, zero, suc, ◌+◌, ◌-◌, ◌*◌, ◌%◌, ◌^◌, ◌≤◌, ◌<◌, eqb, ltb, leb, Option, None, Some, Err, Ok, Result}
 use Rattle.basis.proofs.Kit.{arith}
 use mathlib.Core.Logic.{inl, inr}
 use borrow.Author.Tests.{eqb-true, leb-true, ltb-true, ltb-false}
@@ -28,13 +28,9 @@ use Rattle.sheet.specs.declared.declaration.Value.{Value}
 use Rattle.request.specs.declared.constant.Constant.{Constant}
 use Rattle.request.specs.declared.constant.Constant.TheVariants.{Bool as BoolOf, Integer, Float as FloatOf, NotANumber}
 use Rattle.request.specs.declared.constant.Constant.TheVariants.{Text, Ident, Message as MessageOf, List as ListOf}
-use Rattle.fullname.specs.declared.LookedUpEnum.{LookedUpEnum}
-use Rattle.fullname.specs.declared.LookedUpEnum.TheVariants.{Values, NoEnum}
 use Rattle.records.specs.declared.Body.{Body}
 use Rattle.records.specs.declared.Body.TheVariants.{Bits, Bytes}
 use Rattle.lookups.specs.Lookups.{Lookups, value_in}
-use Rattle.scalars.specs.declared.Scalar.{Scalar}
-use Rattle.scalars.specs.declared.Scalar.TheVariants.{Fits, Misfit}
 use Rattle.scalars.specs.Scalars.{unsupported, is_small, is_signed, is_integer, most_of, pattern_of, listed, among}
 use Rattle.scalars.specs.Scalars.{integer_on, float_on, string_on, bool_on, ident_on, scalar_on}
 
@@ -60,9 +56,9 @@ abbrev pub BodyFits : (typ : ℕ) → Body → Type 0
 BodyFits t (Bits v) = Number t v
 BodyFits t (Bytes p) = Sized t
 
-abbrev pub ScalarFits : (typ : ℕ) → Scalar → Type 0
-ScalarFits t (Fits b) = BodyFits t b
-ScalarFits t (Misfit w) = Unit {0}
+abbrev pub ScalarFits : (typ : ℕ) → Result Body Refusal → Type 0
+ScalarFits t (Ok b) = BodyFits t b
+ScalarFits t (Err w) = Unit {0}
 
 -- ---- a type by a test that holds of it
 or_elim : {C : Type 0} (a b : Bool) → (a ≡ true → C) → (b ≡ true → C) → (a || b) ≡ true → C
@@ -182,7 +178,7 @@ module _ (t : ℕ) where
   bool-fits b = go (eqb t TYPE_BOOL) b refl
     where
       go : (x b : Bool) → eqb t TYPE_BOOL ≡ x
-          → ScalarFits t (elim x [ true ↦ elim b [ true ↦ Fits (Bits 1) | false ↦ Fits (Bits 0) ] | false ↦ unsupported ])
+          → ScalarFits t (elim x [ true ↦ elim b [ true ↦ Ok (Bits 1) | false ↦ Ok (Bits 0) ] | false ↦ unsupported ])
       go true true e = bool-number t 1 (omega arith) e
       go true false e = bool-number t 0 (omega arith) e
       go false b e = tt
@@ -193,10 +189,10 @@ module _ (t : ℕ) where
     where
       go : (x y z u : Bool) → is_integer t ≡ x → leb n (most_of m t) ≡ y → eqb t TYPE_FLOAT ≡ z → eqb t TYPE_DOUBLE ≡ u
           → ScalarFits t (elim x [
-            | true ↦ elim y [ true ↦ Fits (Bits (pattern_of m n)) | false ↦ Misfit ValueRange ]
+            | true ↦ elim y [ true ↦ Ok (Bits (pattern_of m n)) | false ↦ Err ValueRange ]
             | false ↦ elim z [
-              | true ↦ Fits (Bits (int_bits binary32 (signed_of m n)))
-              | false ↦ elim u [ true ↦ Fits (Bits (int_bits binary64 (signed_of m n))) | false ↦ unsupported ]
+              | true ↦ Ok (Bits (int_bits binary32 (signed_of m n)))
+              | false ↦ elim u [ true ↦ Ok (Bits (int_bits binary64 (signed_of m n))) | false ↦ unsupported ]
             ]
           ])
       go true true z u e l f d = integer-number n t e m (leb-true n (most_of m t) l)
@@ -210,7 +206,7 @@ module _ (t : ℕ) where
   float_fits b h = go (eqb t TYPE_DOUBLE) (eqb t TYPE_FLOAT) refl refl
     where
       go : (x y : Bool) → eqb t TYPE_DOUBLE ≡ x → eqb t TYPE_FLOAT ≡ y
-          → ScalarFits t (elim x [ true ↦ Fits (Bits b) | false ↦ elim y [ true ↦ Fits (Bits (narrow_bits b)) | false ↦ unsupported ] ])
+          → ScalarFits t (elim x [ true ↦ Ok (Bits b) | false ↦ elim y [ true ↦ Ok (Bits (narrow_bits b)) | false ↦ unsupported ] ])
       go true y d f = double-number t b h d
       go false true d f = float-number t _ (narrow-lt b) f
       go false false d f = tt
@@ -221,8 +217,8 @@ module _ (t : ℕ) where
     where
       go : (x y z : Bool) → eqb t TYPE_STRING ≡ x → eqb t TYPE_BYTES ≡ z
           → ScalarFits t (elim x [
-            | true ↦ elim y [ true ↦ Fits (Bytes p) | false ↦ Misfit StrLitDecodeError ]
-            | false ↦ elim z [ true ↦ Fits (Bytes p) | false ↦ unsupported ]
+            | true ↦ elim y [ true ↦ Ok (Bytes p) | false ↦ Err StrLitDecodeError ]
+            | false ↦ elim z [ true ↦ Ok (Bytes p) | false ↦ unsupported ]
           ])
       go true true z e f = string-sized t e
       go true false z e f = tt
@@ -241,10 +237,10 @@ module _ (L : Lookups) (s r : List ℕ) (small : (n : List ℕ) (vs : Span) (v :
       named e vs None q = tt
       named e vs (Some v) q = enum-number h.typ v.number (small (text r p) vs v q) e
 
-      go : (x : Bool) → eqb h.typ TYPE_ENUM ≡ x → (v : LookedUpEnum)
+      go : (x : Bool) → eqb h.typ TYPE_ENUM ≡ x → (v : Result Span Refusal)
           → ScalarFits h.typ (elim x [ true ↦ among u s (text r p) v | false ↦ unsupported ])
-      go true e (NoEnum w) = tt
-      go true e (Values vs) = named e vs (value_in s (text r p) vs) refl
+      go true e (Err w) = tt
+      go true e (Ok vs) = named e vs (value_in s (text r p) vs) refl
       go false e v = tt
 
   pub scalar_fits : (c : Constant) → SizedBits c → ScalarFits h.typ (scalar_on L s r u h c)

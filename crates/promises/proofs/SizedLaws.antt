@@ -4,7 +4,7 @@
 --   SizedOptions os <-> and among the constants of the options os
 --
 -- Assumes nothing.
-use Rattle.std.specs.Prelude.{◌≡◌, Bool, true, false, List, [], ◌∷◌, ℕ, zero, suc, ◌+◌, ◌-◌, ◌^◌, ◌<◌, eqb, ltb, get_or, length, Some}
+use Rattle.std.specs.Prelude.{◌≡◌, Bool, true, false, List, [], ◌∷◌, ℕ, zero, suc, ◌+◌, ◌-◌, ◌^◌, ◌<◌, eqb, ltb, get_or, length, Some, None, Option}
 use Rattle.basis.proofs.Kit.{arith}
 use Rattle.basis.proofs.FirstLaws.{Every, none_of, one_of, first_holds}
 use native.Mathlib.Nat.{pow-suc, pow-zero}
@@ -13,26 +13,16 @@ use lib.Ieee.Bits.{to_bits-lt, of_bits-fits}
 use Rattle.limits.specs.Figures.{most_constants}
 use Rattle.octets.specs.Octets.{big_at}
 use Rattle.octets.proofs.Bytes.{Bytes}
-use Rattle.field.specs.declared.Field.{Field}
-use Rattle.field.specs.declared.Field.TheVariants.{Whole, Cut}
-use Rattle.field.specs.declared.Leaf.{Leaf}
-use Rattle.field.specs.declared.Leaf.TheVariants.{At, Not}
 use Rattle.field.specs.declared.Span.{Span}
 use Rattle.field.specs.Field.{field_at}
 use Rattle.field.specs.Leaf.{span, any_bytes, of_size, on_leaf, leaf_at}
 use Rattle.field.specs.Walk.{Walk, done, cut, step, walk}
 use Rattle.sheet.specs.declared.declaration.Value.{Value}
-use Rattle.sheet.specs.declared.declaration.Valued.{Valued}
-use Rattle.sheet.specs.declared.declaration.Valued.TheVariants.{Values, NoValue}
 use Rattle.sheet.specs.Table.{name_tag, value_tag, signed_number_tag}
 use Rattle.sheet.specs.Declaration.{last_at, value_at}
 use Rattle.sheet.specs.Tree.{value_onto, value_in as value_from, values_in}
 use Rattle.request.specs.declared.constant.Constant.TheVariants.{Bool as BoolOf, Integer, Float as FloatOf, NotANumber}
 use Rattle.request.specs.declared.constant.Constant.TheVariants.{Text, Ident, Message as MessageOf, List as ListOf}
-use Rattle.request.specs.declared.constant.Held.{Held}
-use Rattle.request.specs.declared.constant.Held.TheVariants.{Holds, NoConstant}
-use Rattle.request.specs.declared.heading.Headed.{Headed}
-use Rattle.request.specs.declared.heading.Headed.TheVariants.{Heads, NoHeading}
 use Rattle.request.specs.Table.{bool_tag, unsigned_tag, signed_tag, float_tag, string_tag, ident_tag, message_constant_tag, list_tag, option_tag}
 use Rattle.request.specs.Constant.{integer_of, float_of, bool_of, numeric_of, constant_of, is_pair_name}
 use Rattle.request.specs.Tree.{PairName, unnamed, Constants, none, scalar, message, list, ConstantReader, pair_name_of, elements_in, pairs_in}
@@ -41,6 +31,9 @@ use Rattle.request.specs.Name.{after_parts}
 use Rattle.request.specs.Request.{Option as Setting, heading_of, constant_of_field, option_of, option_in, options_in, request_with, request_of}
 use Rattle.lookups.specs.Lookups.{value_in}
 use Rattle.promises.proofs.ScalarFits.{SizedBits}
+use Rattle.field.specs.declared.Field.{Field}
+use Rattle.request.specs.declared.constant.Constant.{Constant}
+use Rattle.request.specs.declared.heading.Heading.{Heading}
 
 big_lt : (s : List ℕ) → Bytes s → (k at : ℕ) → big_at k s at < 256 ^ k
 unfolding big_at
@@ -48,9 +41,9 @@ big_lt s b zero at = rw pow-zero (omega arith)
 big_lt s b (suc k) at = rw pow-suc (omega (arith, big_lt s b k at, b (at + k)))
 
 -- ---- one constant
-abbrev SizedHeld : Held → Type 0
-SizedHeld NoConstant = Unit {0}
-SizedHeld (Holds c) = SizedBits c
+abbrev SizedHeld : Option Constant → Type 0
+SizedHeld None = Unit {0}
+SizedHeld (Some c) = SizedBits c
 
 float-sized : (b : ℕ) → b < 2 ^ 64 → SizedBits (float_of b)
 unfolding float_of
@@ -75,13 +68,13 @@ module _ (r : List ℕ) (bytes : Bytes r) where
     where
       go : (w x y z : Bool) → SizedHeld (elim w [
         | true ↦ elim x [
-          | true ↦ Holds (Integer false (big_at 8 r a))
+          | true ↦ Some (Integer false (big_at 8 r a))
           | false ↦ elim y [
-            | true ↦ Holds (integer_of (big_at 8 r a))
-            | false ↦ elim z [ true ↦ Holds (float_of (big_at 8 r a)) | false ↦ NoConstant ]
+            | true ↦ Some (integer_of (big_at 8 r a))
+            | false ↦ elim z [ true ↦ Some (float_of (big_at 8 r a)) | false ↦ None ]
           ]
         ]
-        | false ↦ NoConstant
+        | false ↦ None
       ])
       go true true y z = tt
       go true false true z = integer-sized (big_at 8 r a)
@@ -94,8 +87,8 @@ module _ (r : List ℕ) (bytes : Bytes r) where
   bool-sized a e = go (eqb (e - a) 1) (ltb 1 (get_or r a 0))
     where
       go : (x y : Bool) → SizedHeld (elim x [
-        | true ↦ elim y [ true ↦ NoConstant | false ↦ Holds (BoolOf (eqb (get_or r a 0) 1)) ]
-        | false ↦ NoConstant
+        | true ↦ elim y [ true ↦ None | false ↦ Some (BoolOf (eqb (get_or r a 0) 1)) ]
+        | false ↦ None
       ])
       go true true = tt
       go true false = tt
@@ -108,12 +101,12 @@ module _ (r : List ℕ) (bytes : Bytes r) where
       go : (v w x y z : Bool) → SizedHeld (elim v [
         | true ↦ bool_of r a e
         | false ↦ elim w [
-          | true ↦ Holds (Text (span a e))
+          | true ↦ Some (Text (span a e))
           | false ↦ elim x [
-            | true ↦ Holds (Ident (span a e))
+            | true ↦ Some (Ident (span a e))
             | false ↦ elim y [
-              | true ↦ Holds (MessageOf (span a e))
-              | false ↦ elim z [ true ↦ Holds (ListOf (span a e)) | false ↦ numeric_of r t a e ]
+              | true ↦ Some (MessageOf (span a e))
+              | false ↦ elim z [ true ↦ Some (ListOf (span a e)) | false ↦ numeric_of r t a e ]
             ]
           ]
         ]
@@ -151,17 +144,17 @@ module _ (inner : ConstantReader)
       go true u = ih (pair_name_of t (span a e)) k b f (pairs_in inner w) u
       go false u = tt
 
-  held-sized : (r : List ℕ) (n : PairName) (rest : Constants) → SizedAll rest → (h : Held) → SizedHeld h
+  held-sized : (r : List ℕ) (n : PairName) (rest : Constants) → SizedAll rest → (h : Option Constant) → SizedHeld h
       → SizedAll (if_held inner r n rest h)
-  held-sized r n rest u NoConstant k = u
-  held-sized r n rest u (Holds (BoolOf b)) k = (k, u)
-  held-sized r n rest u (Holds (Integer m x)) k = (k, u)
-  held-sized r n rest u (Holds (FloatOf x)) k = (k, u)
-  held-sized r n rest u (Holds (NotANumber b)) k = (k, u)
-  held-sized r n rest u (Holds (Text p)) k = (k, u)
-  held-sized r n rest u (Holds (Ident p)) k = (k, u)
-  held-sized r n rest u (Holds (MessageOf p)) k = (pairs-sized (walk r p.from p.to), u)
-  held-sized r n rest u (Holds (ListOf p)) k = (elements-sized (walk r p.from p.to), u)
+  held-sized r n rest u None k = u
+  held-sized r n rest u (Some (BoolOf b)) k = (k, u)
+  held-sized r n rest u (Some (Integer m x)) k = (k, u)
+  held-sized r n rest u (Some (FloatOf x)) k = (k, u)
+  held-sized r n rest u (Some (NotANumber b)) k = (k, u)
+  held-sized r n rest u (Some (Text p)) k = (k, u)
+  held-sized r n rest u (Some (Ident p)) k = (k, u)
+  held-sized r n rest u (Some (MessageOf p)) k = (pairs-sized (walk r p.from p.to), u)
+  held-sized r n rest u (Some (ListOf p)) k = (elements-sized (walk r p.from p.to), u)
 
 module _ (r : List ℕ) (bytes : Bytes r) where
   constants-sized : (d : ℕ) (n : PairName) (t a e : ℕ) (rest : Constants) → SizedAll rest → SizedAll (constant_in d r n t a e rest)
@@ -169,9 +162,9 @@ module _ (r : List ℕ) (bytes : Bytes r) where
   constants-sized (suc d) n t a e rest u =
       held-sized (constant_in d r) (constants-sized d) r n rest u (constant_of r t a e) (constant-sized r bytes t a e)
 
-  field-sized : (f : Field) → SizedAll (constant_of_field r f)
-  field-sized Cut = tt
-  field-sized (Whole t a e) = constants-sized most_constants unnamed t a e none tt
+  field-sized : (f : Option Field) → SizedAll (constant_of_field r f)
+  field-sized None = tt
+  field-sized (Some found) = constants-sized most_constants unnamed found.tag found.from found.to none tt
 
   option-sized : (a e : ℕ) → SizedAll (option_of r a e).constant
   unfolding option_of
@@ -198,33 +191,33 @@ module _ (r : List ℕ) (bytes : Bytes r) where
   unfolding request_of
   request-sized = go (heading_of r)
     where
-      go : (h : Headed) → SizedOptions (request_with r h).options
-      go NoHeading = tt
-      go (Heads h) = options-sized (walk r h.options (length r))
+      go : (h : Option Heading) → SizedOptions (request_with r h).options
+      go None = tt
+      go (Some h) = options-sized (walk r h.options (length r))
 
 -- ---- enum values
 abbrev SizedValue : Value → Type 0
 SizedValue v = v.number < 2 ^ 32
 
-abbrev SizedValued : Valued → Type 0
-SizedValued NoValue = Unit {0}
-SizedValued (Values v) = SizedValue v
+abbrev SizedValued : Option Value → Type 0
+SizedValued None = Unit {0}
+SizedValued (Some v) = SizedValue v
 
 module _ (s : List ℕ) (bytes : Bytes s) where
   value-sized : (a e : ℕ) → SizedValued (value_at s a e)
   unfolding value_at
   value-sized a e = go (leaf_at name_tag any_bytes s a e)
     where
-      inner : (n numbers : ℕ) (l : Leaf)
-          → SizedValued (on_leaf NoValue l λ k end. Values (record { name = span n numbers; number = big_at 4 s k }))
-      inner n numbers Not = tt
-      inner n numbers (At k end) = big_lt s bytes 4 k
+      inner : (n numbers : ℕ) (l : Option Span)
+          → SizedValued (on_leaf None l λ k end. Some (record { name = span n numbers; number = big_at 4 s k }))
+      inner n numbers None = tt
+      inner n numbers (Some place) = big_lt s bytes 4 place.from
 
-      go : (l : Leaf) → SizedValued (on_leaf NoValue l λ n numbers.
-          on_leaf NoValue (last_at e (leaf_at signed_number_tag (of_size 4) s numbers e)) λ k end.
-          Values (record { name = span n numbers; number = big_at 4 s k }))
-      go Not = tt
-      go (At n numbers) = inner n numbers (last_at e (leaf_at signed_number_tag (of_size 4) s numbers e))
+      go : (l : Option Span) → SizedValued (on_leaf None l λ n numbers.
+          on_leaf None (last_at e (leaf_at signed_number_tag (of_size 4) s numbers e)) λ k end.
+          Some (record { name = span n numbers; number = big_at 4 s k }))
+      go None = tt
+      go (Some it) = inner it.from it.to (last_at e (leaf_at signed_number_tag (of_size 4) s it.to e))
 
   values-sized : (w : Walk) → Every SizedValue (values_in s w)
   unfolding value_from
@@ -232,10 +225,10 @@ module _ (s : List ℕ) (bytes : Bytes s) where
   values-sized cut = none_of
   values-sized (step t a e w) = go (eqb t value_tag) (value_at s a e) (value-sized a e) (values-sized w)
     where
-      go : (b : Bool) (v : Valued) → SizedValued v → Every SizedValue (values_in s w)
+      go : (b : Bool) (v : Option Value) → SizedValued v → Every SizedValue (values_in s w)
           → Every SizedValue (elim b [ true ↦ value_onto v (values_in s w) | false ↦ values_in s w ])
-      go true NoValue k u = u
-      go true (Values v) k u = one_of k u
+      go true None k u = u
+      go true (Some v) k u = one_of k u
       go false v k u = u
 
   pub value-small : (n : List ℕ) (vs : Span) (v : Value) → value_in s n vs ≡ Some v → v.number < 2 ^ 32

@@ -1,7 +1,7 @@
 -- What the option steps promise, each statement below its sentence: found first, tested second, of the resolver itself, and the first refused
 -- option ends the work. `s` is the sheet, `r` the request, `scope` the request's scope, `m` the message reached, `p` a part of a name.
 -- Assumes nothing.
-use Rattle.std.specs.Prelude.{◌≡◌, refl, true, false, List, [], ◌∷◌, ◌++◌, ℕ, ◌+◌}
+use Rattle.std.specs.Prelude.{◌≡◌, refl, true, false, List, [], ◌∷◌, ◌++◌, ℕ, ◌+◌, Err, Ok}
 use Rattle.basis.specs.Kit.{sym, ap, ◌∙◌}
 use Rattle.basis.specs.Among.{Among}
 use Rattle.basis.proofs.Never.{never}
@@ -12,7 +12,6 @@ use Rattle.candidates.specs.Candidates.{candidates}
 use Rattle.field.specs.Leaf.{text}
 use Rattle.scope.specs.Scope.{extends}
 use Rattle.search.specs.declared.extension.Candidate.{Candidate}
-use Rattle.search.specs.declared.extension.Tried.TheVariants as attempt
 use Rattle.search.specs.declared.extension.Compared.{Compared}
 use Rattle.search.specs.declared.extension.Compared.TheVariants.{Extends, ExtendsOther, Refused}
 use Rattle.search.specs.Lookup.{tried, ext_resolve_field}
@@ -28,7 +27,6 @@ use Rattle.lookups.specs.Lookups.{Lookups, Message, walking}
 use Rattle.known.specs.Known.{Known}
 use Rattle.steps.specs.declared.Lack.{Lack}
 use Rattle.steps.specs.declared.Lack.TheVariants.{NoField, NoExtension, OtherMessage}
-use Rattle.steps.specs.declared.Step.TheVariants.{NotFound}
 use Rattle.faults.specs.declared.Fault.{Fault}
 use Rattle.steps.specs.Steps.{why_of, step_extension, step_of}
 use Rattle.options.specs.Named.{option_from}
@@ -42,16 +40,16 @@ use Rattle.options.specs.Options.{stopped, next, gather}
 pub record Mismatch (s scope : List ℕ) (m : Message) (name : List ℕ) (l : Lack) : Type 0 where
   pub first : Candidate
   pub is : l ≡ OtherMessage first
-  pub answers : tried s scope name ≡ attempt.Answers first
+  pub answers : tried s scope name ≡ Ok first
   pub declares : AnswersAt s scope name first
   pub other : extends s m.name first.found.declaration ≡ false
 
-extension-inv : (u : Compared) (w : Refusal) → step_extension u ≡ NotFound (NoExtension w) → u ≡ Refused w
+extension-inv : (u : Compared) (w : Refusal) → step_extension u ≡ Err (NoExtension w) → u ≡ Refused w
 extension-inv (Extends c) w e = never cc
 extension-inv (ExtendsOther c) w e = never cc
 extension-inv (Refused v) w e = let y : v ≡ w = cc in ap Refused y
 
-other-inv : (u : Compared) (c : Candidate) → step_extension u ≡ NotFound (OtherMessage c) → u ≡ ExtendsOther c
+other-inv : (u : Compared) (c : Candidate) → step_extension u ≡ Err (OtherMessage c) → u ≡ ExtendsOther c
 other-inv (Extends d) c e = never cc
 other-inv (ExtendsOther d) c e = let y : d ≡ c = cc in ap ExtendsOther y
 other-inv (Refused v) c e = never cc
@@ -68,7 +66,7 @@ module _ (s r scope : List ℕ) (m : Message) (p : Part) (x : p.extension ≡ tr
   step_is = rw x refl
 
   -- It gets ExtensionNotFound only where no scope at a candidate path declares that name,
-  pub part-not-found : is_path (text r p.name) ≡ true → (l : Lack) → step_of (walking s) s r scope m p ≡ NotFound l
+  pub part-not-found : is_path (text r p.name) ≡ true → (l : Lack) → step_of (walking s) s r scope m p ≡ Err l
       → why_of l ≡ ExtensionNotFound → (q : Path) → Among q (candidates scope (text r p.name)) → Undeclared s q
   part-not-found h NoField e g = never cc
   part-not-found h (OtherMessage c) e g = never cc
@@ -77,16 +75,16 @@ module _ (s r scope : List ℕ) (m : Message) (p : Part) (x : p.extension ≡ tr
 
   -- and wherever none does.
   pub part-undeclared : ((q : Path) → Among q (candidates scope (text r p.name)) → Undeclared s q)
-      → step_of (walking s) s r scope m p ≡ NotFound (NoExtension ExtensionNotFound)
+      → step_of (walking s) s r scope m p ≡ Err (NoExtension ExtensionNotFound)
   part-undeclared k = step_is ∙ ap step_extension (none-not-found s scope m.name name k)
 
   -- It gets WrongExtensionType where the candidate that answers, the first, has an extension of another message,
-  pub part-other-extendee : (c : Candidate) → tried s scope (text r p.name) ≡ attempt.Answers c
-      → extends s m.name c.found.declaration ≡ false → step_of (walking s) s r scope m p ≡ NotFound (OtherMessage c)
+  pub part-other-extendee : (c : Candidate) → tried s scope (text r p.name) ≡ Ok c
+      → extends s m.name c.found.declaration ≡ false → step_of (walking s) s r scope m p ≡ Err (OtherMessage c)
   part-other-extendee c e g = step_is ∙ ap step_extension (extendee-other s scope m.name name c e g)
 
   -- and only there, with that candidate: the search does not go on.
-  pub part-wrong : (l : Lack) → step_of (walking s) s r scope m p ≡ NotFound l → why_of l ≡ WrongExtensionType
+  pub part-wrong : (l : Lack) → step_of (walking s) s r scope m p ≡ Err l → why_of l ≡ WrongExtensionType
       → Mismatch s scope m (text r p.name) l
   part-wrong NoField e g = never cc
   part-wrong (NoExtension w) e g =
@@ -106,7 +104,7 @@ module _ (s r scope : List ℕ) (m : Message) (p : Part) (x : p.extension ≡ tr
 -- ---- whatever the look-ups are
 module _ (L : Lookups) (s r scope : List ℕ) (m : Message) where
   -- A part that comes to nothing refuses its option, at its own position, whatever stands behind it.
-  pub part-refused : (i : ℕ) (p : Part) (ps : List Part) (c : Constants) (l : Lack) → step_of L s r scope m p ≡ NotFound l
+  pub part-refused : (i : ℕ) (p : Part) (ps : List Part) (c : Constants) (l : Lack) → step_of L s r scope m p ≡ Err l
       → option_from L s r scope i m (p ∷ ps) c ≡ wrong (fault_at i (why_of l))
   part-refused i p [] c l e = rw e refl
   part-refused i p (q ∷ ps) c l e = rw e refl

@@ -3,16 +3,14 @@
 --   width w == the bytes of the fields w, with their headers
 --
 -- Assumes nothing.
-use Rattle.std.specs.Prelude.{◌≡◌, refl, Bool, true, false, List, ℕ, zero, suc, ◌+◌, ◌-◌, ◌*◌, ◌≤◌, ltb, length}
+use Rattle.std.specs.Prelude.{◌≡◌, refl, Bool, true, false, List, ℕ, zero, suc, ◌+◌, ◌-◌, ◌*◌, ◌≤◌, ltb, length, None, Some, Option}
 use Rattle.basis.proofs.Kit.{arith}
-use Rattle.field.specs.declared.Field.{Field}
-use Rattle.field.specs.declared.Field.TheVariants.{Whole, Cut}
-use Rattle.field.specs.Field.{header, field_at}
+use Rattle.field.specs.Field.{header, field_at, field}
 use Rattle.field.specs.Walk.{Walk, done, cut, step, walk_on, walk_for, walk_by, walk}
 use Rattle.field.proofs.FieldLaws.{Bounds, field-bounds}
-use Rattle.request.specs.declared.name.Parted.{Parted}
-use Rattle.request.specs.declared.name.Parted.TheVariants.{Is, NoPart}
 use Rattle.request.specs.Name.{part_of, leading, further, parts_in, after_parts}
+use Rattle.field.specs.declared.Field.{Field}
+use Rattle.request.specs.declared.name.Part.{Part}
 
 abbrev pub width : Walk → ℕ
 width done = 0
@@ -26,12 +24,12 @@ module _ (s : List ℕ) (end : ℕ) (P : ℕ → Walk → Type 0) (on_done : (at
   fuel-bounded zero at = on_done at
   fuel-bounded (suc n) at = go (ltb at end) (field_at s at end) refl (fuel-bounded n)
     where
-      go : (b : Bool) (f : Field) → f ≡ field_at s at end → ((e : ℕ) → P e (walk_for field_at n s e end))
+      go : (b : Bool) (f : Option Field) → f ≡ field_at s at end → ((e : ℕ) → P e (walk_for field_at n s e end))
           → P at (elim b [ true ↦ walk_on f (λ e. walk_for field_at n s e end) | false ↦ done ])
       go false f q ih = on_done at
-      go true Cut q ih = on_cut at
-      go true (Whole t a e) q ih =
-          on_step at t a e (walk_for field_at n s e end) (field-bounds s at end (Whole t a e) q t a e refl) (ih e)
+      go true None q ih = on_cut at
+      go true (Some found) q ih =
+          on_step at found.tag found.from found.to (walk_for field_at n s found.to end) (field-bounds s at end (Some found) q found refl) (ih found.to)
 
   walk-bounded : (at : ℕ) → P at (walk s at end)
   unfolding walk_by
@@ -46,10 +44,10 @@ module _ (s : List ℕ) (end : ℕ) where
   abbrev PartsFit : ℕ → Walk → Type 0
   PartsFit at w = header * length (parts_in w) + (end - after_parts at w) ≤ end - at
 
-  parts_next : (at a e : ℕ) (w : Walk) → Bounds at end a e → PartsFit e w → (r : Parted)
+  parts_next : (at a e : ℕ) (w : Walk) → Bounds at end a e → PartsFit e w → (r : Option Part)
       → header * length (leading r (parts_in w)) + (end - further r at (after_parts e w)) ≤ end - at
-  parts_next at a e w b h NoPart = omega arith
-  parts_next at a e w b h (Is p) = omega arith
+  parts_next at a e w b h None = omega arith
+  parts_next at a e w b h (Some p) = omega arith
 
   pub parts-width : (at : ℕ) → PartsFit at (walk s at end)
   parts-width =

@@ -9,7 +9,7 @@
 --            On L s m k <-> what holds constants at the message m: a field of it, or the message itself
 --
 -- Assumes nothing.
-use Rattle.std.specs.Prelude.{◌≡◌, refl, Bool, true, false, List, [], ◌∷◌, ℕ, ◌+◌, eqb, ltb, Option}
+use Rattle.std.specs.Prelude.{◌≡◌, refl, Bool, true, false, List, [], ◌∷◌, ℕ, ◌+◌, eqb, ltb, Option, Err, Ok, Result}
 use Rattle.basis.specs.First.{told}
 use Rattle.basis.proofs.Never.{never}
 use mathlib.Core.Option as option
@@ -23,8 +23,6 @@ use Rattle.payloads.proofs.ValueFacts.{fits-small}
 use Rattle.sheet.specs.declared.declaration.Shape.{Shape}
 use Rattle.sheet.specs.declared.declaration.Declaration.{Declaration}
 use Rattle.scope.specs.declared.lookup.LookupScope.{LookupScope}
-use Rattle.fullname.specs.declared.LookedUp.{LookedUp}
-use Rattle.fullname.specs.declared.LookedUp.TheVariants.{Message as Found, NoMessage}
 use Rattle.search.specs.declared.extension.Compared.{Compared}
 use Rattle.search.specs.declared.extension.Compared.TheVariants as comparison
 use Rattle.request.specs.declared.name.Part.{Part}
@@ -38,15 +36,11 @@ use Rattle.records.specs.Records as recs
 use Rattle.records.specs.Raw.{Proper, proper-nil, proper-number, proper-bytes, proper-message}
 use Rattle.records.specs.Made.{Made, made, wrong, both, holding}
 use Rattle.lookups.specs.Lookups.{Lookups, Message, field_named}
-use Rattle.scalars.specs.declared.Scalar.{Scalar}
-use Rattle.scalars.specs.declared.Scalar.TheVariants.{Fits, Misfit}
 use Rattle.scalars.specs.Scalars.{scalar_on, unsupported}
 use Rattle.values.specs.Values.{made_of, Holder, on, within, asked, on_asked, reached, in_message, scalar_made, records}
 use Rattle.values.specs.Values as values
 use Rattle.known.specs.Known.{Known, set_known, known_recs}
 use Rattle.reply.specs.declared.Cause.{Cause}
-use Rattle.steps.specs.declared.Step.{Step}
-use Rattle.steps.specs.declared.Step.TheVariants.{Found as Is, NotFound}
 use Rattle.steps.specs.declared.Lack.TheVariants.{NoField}
 use Rattle.steps.specs.Steps.{step_extension, step_of}
 use Rattle.faults.specs.declared.Fault.{Fault}
@@ -65,6 +59,7 @@ use Rattle.readback.specs.Once.{Once}
 use Rattle.promises.proofs.ScalarFits.{BodyFits, ScalarFits, SizedBits, scalar_fits}
 use Rattle.promises.proofs.SizedLaws.{SizedAll, SizedOptions}
 use Rattle.promises.proofs.Declarations.{Usable, Steady}
+use Rattle.steps.specs.declared.Lack.{Lack}
 
 pub record Written (L : Lookups) (s : List ℕ) (m : Message) (x : Recs) : Type 0 where
   pub proper : Proper x
@@ -72,7 +67,7 @@ pub record Written (L : Lookups) (s : List ℕ) (m : Message) (x : Recs) : Type 
 
 -- the message m was found by its name
 abbrev Reached : Lookups → Message → Type 0
-Reached L m = L.message m.name ≡ Found m.place
+Reached L m = L.message m.name ≡ Ok m.place
 
 module _ (L : Lookups) (s : List ℕ) (m : Message) where
   data WrittenMade {W : Type 0} : Made W → Type 0 where
@@ -134,7 +129,7 @@ module _ (L : Lookups) (s : List ℕ) (m : Message) where
       typed = λ once. (declared-as once, f.plain, tt);
     }
 
-    message-written : d.shape.typ ≡ TYPE_MESSAGE → (p : LookupScope) → L.message (path_of s d) ≡ Found p → (i : Recs)
+    message-written : d.shape.typ ≡ TYPE_MESSAGE → (p : LookupScope) → L.message (path_of s d) ≡ Ok p → (i : Recs)
         → Written L s (reached_by s d p) i → Written L s m (recs.message d.shape.number i nil)
     message-written e p g i y = record {
       proper = proper-message u.range y.proper proper-nil;
@@ -151,7 +146,7 @@ module _ (L : Lookups) (s : List ℕ) (m : Message) where
   both-written refuses v = refuses
 
 module _ (L : Lookups) (s : List ℕ) (m : Message) {d : Declaration} (u : Usable L s m d) where
-  holding-written : {W : Type 0} → d.shape.typ ≡ TYPE_MESSAGE → (p : LookupScope) → L.message (path_of s d) ≡ Found p → {x : Made W}
+  holding-written : {W : Type 0} → d.shape.typ ≡ TYPE_MESSAGE → (p : LookupScope) → L.message (path_of s d) ≡ Ok p → {x : Made W}
       → WrittenMade L s (reached_by s d p) x → WrittenMade L s m (holding d.shape.number x)
   holding-written e p g (writes {x = i} y) = writes (message-written L s m u e p g i y)
   holding-written e p g refuses = refuses
@@ -177,22 +172,22 @@ module _ (L : Lookups) (s r : List ℕ) (steady : Steady L s) where
   scalar-written m {d} u c k =
       go (scalar_on L s r UnknownEnumValue d.shape c) (scalar_fits L s r steady.value UnknownEnumValue d.shape c k)
     where
-      go : (x : Scalar) → ScalarFits d.shape.typ x → WrittenMade L s m (made_of r d.shape x)
-      go (Fits b) f = writes (record-written L s m u r b f)
-      go (Misfit w) f = refuses
+      go : (x : Result Body Refusal) → ScalarFits d.shape.typ x → WrittenMade L s m (made_of r d.shape x)
+      go (Ok b) f = writes (record-written L s m u r b f)
+      go (Err w) f = refuses
 
   inside-written : (m : Message) {d : Declaration} → Usable L s m d → (f : LookupScope → Made Refusal)
       → ((p : LookupScope) → Reached L (reached_by s d p) → WrittenMade L s (reached_by s d p) (f p))
       → WrittenMade L s m (in_message L s d.shape f)
   inside-written m {d} u f g = go (eqb d.shape.typ TYPE_MESSAGE) refl (L.message (path_of s d)) refl
     where
-      go : (b : Bool) → eqb d.shape.typ TYPE_MESSAGE ≡ b → (v : LookedUp) → L.message (path_of s d) ≡ v
+      go : (b : Bool) → eqb d.shape.typ TYPE_MESSAGE ≡ b → (v : Result LookupScope Refusal) → L.message (path_of s d) ≡ v
           → WrittenMade L s m {W = Refusal} (elim b [
             | true ↦ reached d.shape.number v f
             | false ↦ wrong MessageFieldRequiresMessageConstant
           ])
-      go true e (NoMessage w) q = refuses
-      go true e (Found p) q = holding-written L s m u (eqb-true _ _ e) p q (g p q)
+      go true e (Err w) q = refuses
+      go true e (Ok p) q = holding-written L s m u (eqb-true _ _ e) p q (g p q)
       go false e v q = refuses
 
   constants-written : (cs : Constants) → SizedAll cs → (m : Message) (k : Holder) → On L s m k → WrittenMade L s m (records L s r k cs)
@@ -210,18 +205,18 @@ module _ (L : Lookups) (s r : List ℕ) (steady : Steady L s) where
 
   -- ---- the parts of a name
   module _ (scope : List ℕ) where
-    step-usable : (m : Message) → Reached L m → (p : Part) (d : Declaration) → step_of L s r scope m p ≡ Is d → Usable L s m d
+    step-usable : (m : Message) → Reached L m → (p : Part) (d : Declaration) → step_of L s r scope m p ≡ Ok d → Usable L s m d
     unfolding step_of
     step-usable m h p d = go p.extension
       where
-        by-extension : (x : Compared) → L.extension scope m.name (text r p.name) ≡ x → step_extension x ≡ Is d → Usable L s m d
+        by-extension : (x : Compared) → L.extension scope m.name (text r p.name) ≡ x → step_extension x ≡ Ok d → Usable L s m d
         by-extension (comparison.Extends c) q e =
             let same : d ≡ c.found.declaration = cc in
             rw same (steady.extension m h scope (text r p.name) c q)
         by-extension (comparison.ExtendsOther c) q e = never cc
         by-extension (comparison.Refused w) q e = never cc
 
-        by-field : (x : Option Declaration) → field_named s (text r p.name) m.place ≡ x → told (NotFound NoField) Is x ≡ Is d
+        by-field : (x : Option Declaration) → field_named s (text r p.name) m.place ≡ x → told (Err NoField) Ok x ≡ Ok d
             → Usable L s m d
         by-field option.none q e = never cc
         by-field (option.some c) q e =
@@ -231,17 +226,17 @@ module _ (L : Lookups) (s r : List ℕ) (steady : Steady L s) where
         go : (b : Bool)
             → elim b [
               | true ↦ step_extension (L.extension scope m.name (text r p.name))
-              | false ↦ told (NotFound NoField) Is (field_named s (text r p.name) m.place)
+              | false ↦ told (Err NoField) Ok (field_named s (text r p.name) m.place)
             ]
-            ≡ Is d
+            ≡ Ok d
             → Usable L s m d
         go true = by-extension (L.extension scope m.name (text r p.name)) refl
         go false = by-field (field_named s (text r p.name) m.place) refl
 
-    onto-written : (m : Message) (i : ℕ) (x : Step) (f : Declaration → Made Fault)
-        → ((d : Declaration) → x ≡ Is d → WrittenMade L s m (f d)) → WrittenMade L s m (on_step i x f)
-    onto-written m i (NotFound l) f g = refuses
-    onto-written m i (Is d) f g = g d refl
+    onto-written : (m : Message) (i : ℕ) (x : Result Declaration Lack) (f : Declaration → Made Fault)
+        → ((d : Declaration) → x ≡ Ok d → WrittenMade L s m (f d)) → WrittenMade L s m (on_step i x f)
+    onto-written m i (Err l) f g = refuses
+    onto-written m i (Ok d) f g = g d refl
 
     at-written : (m : Message) (i : ℕ) {x : Made Refusal} → WrittenMade L s m x → WrittenMade L s m (at i x)
     at-written m i (writes y) = writes y
@@ -252,13 +247,13 @@ module _ (L : Lookups) (s r : List ℕ) (steady : Steady L s) where
     left-written m i {d} u f g =
         go (eqb d.shape.typ TYPE_MESSAGE) refl (eqb d.shape.typ TYPE_GROUP) (L.message (path_of s d)) refl
       where
-        go : (a : Bool) → eqb d.shape.typ TYPE_MESSAGE ≡ a → (b : Bool) (v : LookedUp) → L.message (path_of s d) ≡ v
+        go : (a : Bool) → eqb d.shape.typ TYPE_MESSAGE ≡ a → (b : Bool) (v : Result LookupScope Refusal) → L.message (path_of s d) ≡ v
             → WrittenMade L s m {W = Fault} (elim a [
               | true ↦ named.reached i d.shape.number (path_of s d) v f
               | false ↦ elim b [ true ↦ made nil | false ↦ wrong (fault_at i ExtensionIsNotMessage) ]
             ])
-        go true e b (NoMessage w) q = refuses
-        go true e b (Found p) q = holding-written L s m u (eqb-true _ _ e) p q (g (reached_by s d p) q)
+        go true e b (Err w) q = refuses
+        go true e b (Ok p) q = holding-written L s m u (eqb-true _ _ e) p q (g (reached_by s d p) q)
         go false e true v q = writes (written-nil L s m)
         go false e false v q = refuses
 
@@ -292,13 +287,13 @@ module _ (L : Lookups) (s r : List ℕ) (steady : Steady L s) where
           → WrittenSettled L s m (settled_built r (builtin_field L s r c (option.some d)))
       field-written c z d u = go (eqb d.shape.label repeated) (builtin_on L s r d.shape c) (builtin-fits d.shape c z)
         where
-          go : (x : Bool) (y : Scalar) → ScalarFits d.shape.typ y → WrittenSettled L s m (settled_built r (elim x [
+          go : (x : Bool) (y : Result Body Refusal) → ScalarFits d.shape.typ y → WrittenSettled L s m (settled_built r (elim x [
             | true ↦ Wrong BuiltinOptionPointsToNonSingularField
             | false ↦ built_of d.shape y
           ]))
           go true y f = faulty
-          go false (Fits b) f = sets (record-written L s m u r b f)
-          go false (Misfit w) f = faulty
+          go false (Ok b) f = sets (record-written L s m u r b f)
+          go false (Err w) f = faulty
 
       builtin-written : (n : List ℕ) (c : Constants) → SizedAll c → WrittenSettled L s m (settled_built r (builtin_of L s r m n c))
       unfolding builtin_of
@@ -352,7 +347,7 @@ module _ (L : Lookups) (s r : List ℕ) (steady : Steady L s) where
 -- the options message of a request, with records that it writes
 pub record WrittenAt (L : Lookups) (s type : List ℕ) (x : Recs) : Type 0 where
   pub place : LookupScope
-  pub found : L.message type ≡ Found place
+  pub found : L.message type ≡ Ok place
   pub written : Written L s (record { name = type; place = place }) x
 
 module _ (L : Lookups) (s r : List ℕ) (steady : Steady L s) where
@@ -364,7 +359,7 @@ module _ (L : Lookups) (s r : List ℕ) (steady : Steady L s) where
     nothing : WrittenSteps q absent
     stops : {e : Cause} → WrittenSteps q (refused e)
 
-  gathered-written : (q : request.Request) (p : LookupScope) → L.message (type_of q) ≡ Found p → {g : Gathered}
+  gathered-written : (q : request.Request) (p : LookupScope) → L.message (type_of q) ≡ Ok p → {g : Gathered}
       → WrittenGathered L s (record { name = type_of q; place = p }) g → WrittenSteps q (steps_in g)
   gathered-written q p h (together w) = come (record { place = p; found = h; written = w })
   gathered-written q p h halted = stops
@@ -373,9 +368,9 @@ module _ (L : Lookups) (s r : List ℕ) (steady : Steady L s) where
   some_written q z [] = nothing
   some_written q z (o ∷ os) = go (L.message (type_of q)) refl
     where
-      go : (v : LookedUp) → L.message (type_of q) ≡ v → WrittenSteps q (on_type L s r q v)
-      go (NoMessage w) h = stops
-      go (Found p) h =
+      go : (v : Result LookupScope Refusal) → L.message (type_of q) ≡ v → WrittenSteps q (on_type L s r q v)
+      go (Err w) h = stops
+      go (Ok p) h =
           let m : Message = record { name = type_of q; place = p } in
           gathered-written q p h
           (gather-written L s r steady (text r q.scope) m h q.options z 0 [] nil tt (written-nil L s m))

@@ -4,10 +4,9 @@
 --   ListedBack s type x <-> the bytes of the records x are listed as rows that hold what these records hold, in order
 --
 -- Assumes nothing.
-use Rattle.std.specs.Prelude.{◌≡◌, List, map, ℕ}
+use Rattle.std.specs.Prelude.{◌≡◌, List, map, ℕ, Ok}
 use Rattle.reply.specs.Outcome.{give}
 use Rattle.scope.specs.declared.lookup.LookupScope.{LookupScope}
-use Rattle.fullname.specs.declared.LookedUp.TheVariants.{Message as Found}
 use Rattle.lookups.specs.Lookups.{Lookups}
 use Rattle.records.specs.Records.{Recs, encode}
 use Rattle.entries.specs.declared.Row.{Row}
@@ -17,7 +16,7 @@ use Rattle.readback.specs.Typed.{Typed, contents, content_of}
 
 pub record TypedAt (L : Lookups) (s type : List ℕ) (x : Recs) : Type 0 where
   pub place : LookupScope
-  pub found : L.message type ≡ Found place
+  pub found : L.message type ≡ Ok place
   pub typed : Typed L s (record { name = type; place = place }) x
 
 pub record ListedBack (s type : List ℕ) (x : Recs) : Type 0 where

@@ -6,7 +6,7 @@
 --                                  found, and where a request or a query's name is refused, are Encoding's, 01's and 02's
 --
 -- Assumes nothing.
-use Rattle.std.specs.Prelude.{◌≡◌, true, List, ◌++◌, ℕ, ◌≤◌, ◌<◌, length, drop, Some}
+use Rattle.std.specs.Prelude.{◌≡◌, true, List, ◌++◌, ℕ, ◌≤◌, ◌<◌, length, drop, Some, Err, Ok}
 use Rattle.basis.specs.Among.{Among}
 use Rattle.octets.proofs.Bytes.{Bytes}
 use Rattle.reply.specs.declared.Refusal.TheVariants.{ExtensionNotFound, NoRoom}
@@ -19,7 +19,6 @@ use Rattle.path.specs.Path.{Path, is_path}
 use Rattle.candidates.specs.Candidates.{candidates}
 use Rattle.field.specs.Leaf.{text}
 use Rattle.search.specs.declared.extension.Candidate.{Candidate}
-use Rattle.search.specs.declared.extension.Tried.TheVariants.{Answers}
 use Rattle.search.specs.Lookup.{tried}
 use Rattle.search.specs.Answers.{Undeclared, AnswersAt}
 use Rattle.request.specs.declared.name.Part.{Part}
@@ -28,7 +27,6 @@ use Rattle.records.specs.Raw.{raw_of, raws_of}
 use Rattle.lookups.specs.Lookups.{Message, walking}
 use Rattle.steps.specs.declared.Lack.{Lack}
 use Rattle.steps.specs.declared.Lack.TheVariants.{NoExtension}
-use Rattle.steps.specs.declared.Step.TheVariants.{NotFound}
 use Rattle.steps.specs.Steps.{why_of, step_of}
 use Rattle.options.specs.Steps.{records}
 use Rattle.options.specs.Resolve.{resolving, resolve_bytes}
@@ -51,18 +49,18 @@ pub data FromTable {A : Type 0} (o : Outcome A) (before after : List A) (a : Ans
 -- "2. Lookup, bytes, .. and the listing are proved against definitions from the protobuf encoding document and 01's search rule. An
 -- extension part that is reached gets ExtensionNotFound exactly when none of 01's scopes at its candidate paths declares that name."
 pub record ByRule (s : List ℕ) : Type 0 where
-  pub looked-up-only : (scope name : List ℕ) (c : Candidate) → tried s scope name ≡ Answers c → AnswersAt s scope name c
+  pub looked-up-only : (scope name : List ℕ) (c : Candidate) → tried s scope name ≡ Ok c → AnswersAt s scope name c
   pub looked-up-whenever : (scope name : List ℕ) → is_path name ≡ true → (c : Candidate) → AnswersAt s scope name c
-      → tried s scope name ≡ Answers c
+      → tried s scope name ≡ Ok c
   pub written : (r : List ℕ) → Bytes s → Bytes r → (x : Recs) → resolving s r ≡ records x → raw_of (encode x) ≡ Some (raws_of x)
   pub listed : (type bs : List ℕ) (m : Message) (t : Tree) → records_of (walking s) s type bs ≡ under m t
       → Encoded bs bs t × Knows (walking s) s m t
   pub not-found-only : (r scope : List ℕ) (m : Message) (p : Part) → p.extension ≡ true → is_path (text r p.name) ≡ true
-      → (l : Lack) → step_of (walking s) s r scope m p ≡ NotFound l → why_of l ≡ ExtensionNotFound
+      → (l : Lack) → step_of (walking s) s r scope m p ≡ Err l → why_of l ≡ ExtensionNotFound
       → (q : Path) → Among q (candidates scope (text r p.name)) → Undeclared s q
   pub not-found-whenever : (r scope : List ℕ) (m : Message) (p : Part) → p.extension ≡ true
       → ((q : Path) → Among q (candidates scope (text r p.name)) → Undeclared s q)
-      → step_of (walking s) s r scope m p ≡ NotFound (NoExtension ExtensionNotFound)
+      → step_of (walking s) s r scope m p ≡ Err (NoExtension ExtensionNotFound)
   -- 02, [9]: the two positions "belong to the promise in demands 1 and 2 from here on"
   pub positioned : (r before after : List ℕ) (a : Answer) → Answered (resolve_bytes s r) before after a → Positioned s r a
   pub first-refused : (r before after : List ℕ) (a : Answer) → Answered (resolve_bytes s r) before after a → OptionRefused s r

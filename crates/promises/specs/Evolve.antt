@@ -12,15 +12,12 @@
 --                         them under the older, answers 0 where its room is enough, and leaves these rows there
 --
 -- Assumes nothing.
-use Rattle.std.specs.Prelude.{◌≡◌, Bool, true, List, [], ◌++◌, map, ℕ, ◌≤◌, length, drop}
-use Rattle.reply.specs.declared.Verdict.TheVariants.{Fine}
+use Rattle.std.specs.Prelude.{◌≡◌, Bool, true, List, [], ◌++◌, map, ℕ, ◌≤◌, length, drop, Err, Ok, Result}
 use Rattle.reply.specs.declared.Answer.{Answer}
 use Rattle.reply.specs.Reply.{done_with}
 use Rattle.reply.specs.Outcome.{give}
 use Rattle.sheet.specs.Table.{message_tag}
 use Rattle.sheetform.specs.Form.{judge_sheet}
-use Rattle.fullname.specs.declared.LookedUp.{LookedUp}
-use Rattle.fullname.specs.declared.LookedUp.TheVariants.{Message as Found, NoMessage}
 use Rattle.lookups.specs.Lookups.{walking}
 use Rattle.names.specs.Clean.{clean}
 use Rattle.names.specs.Contained.{is_in}
@@ -33,17 +30,19 @@ use Rattle.options.specs.Resolve.{resolving}
 use Rattle.readback.specs.Typed.{Content, content_of}
 use Rattle.readback.specs.Older.{told}
 use Rattle.places.specs.Places.{options_type}
+use Rattle.reply.specs.declared.Refusal.{Refusal}
+use Rattle.scope.specs.declared.lookup.LookupScope.{LookupScope}
 
 pub record CleanSheet (s : List ℕ) : Type 0 where
-  pub fine : judge_sheet s ≡ Fine
+  pub fine : judge_sheet s ≡ Ok tt
   pub clear : clean s ≡ true
 
 abbrev pub declares : (s name : List ℕ) → Bool
 declares s t = is_in s message_tag t
 
-abbrev pub told_in : (s type : List ℕ) → Recs → LookedUp → List Content
-told_in s t x (Found p) = told (walking s) s (record { name = t; place = p }) 0 x
-told_in s t x (NoMessage w) = []
+abbrev pub told_in : (s type : List ℕ) → Recs → Result LookupScope Refusal → List Content
+told_in s t x (Ok p) = told (walking s) s (record { name = t; place = p }) 0 x
+told_in s t x (Err w) = []
 
 abbrev pub told_under : (s type : List ℕ) → Recs → List Content
 told_under s t x = told_in s t x ((walking s).message t)

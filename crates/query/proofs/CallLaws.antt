@@ -2,18 +2,16 @@
 -- options type is, and that what was seen of its rows is the query; and that of a sheet of the right form the whole test says no more than
 -- its length's.
 -- Assumes nothing.
-use Rattle.std.specs.Prelude.{◌≡◌, refl, List, ℕ, ◌≤◌, ◌<◌, length, Option, None, Some}
+use Rattle.std.specs.Prelude.{◌≡◌, refl, List, ℕ, ◌≤◌, ◌<◌, length, Option, None, Some, Err, Ok, Result}
 use Rattle.basis.specs.Kit.{sym, ap, ◌∙◌, sets}
 use borrow.Author.Tests.{leb-true}
 use Rattle.limits.specs.Figures.{most_option_bytes, most_levels}
 use Rattle.reply.specs.declared.Refusal.{Refusal}
 use Rattle.reply.specs.declared.Refusal.TheVariants.{BeyondLimit, NoRoom}
 use Rattle.reply.specs.declared.Cause.{Cause}
-use Rattle.reply.specs.declared.Verdict.{Verdict}
-use Rattle.reply.specs.declared.Verdict.TheVariants.{Fine, Refused as Bad}
 use Rattle.reply.specs.declared.Answer.{Answer}
 use Rattle.reply.specs.Reply.{bare, refused_for, refused_by as refused_answer, done_with, absent_answer}
-use Rattle.reply.specs.Verdicts.{first_fault}
+use Rattle.reply.specs.Verdicts.{first_fault, Verdict}
 use Rattle.reply.specs.Outcome.{refuse, unless, give, Answered}
 use Rattle.reply.proofs.Outcomes.{answered-refused, answered-absent, answered-no-room, answered-done}
 use Rattle.reply.proofs.VerdictLaws.{first-fine-front, first-fine-rest, judged-fine}
@@ -25,8 +23,6 @@ use Rattle.request.specs.Name.{parts_in}
 use Rattle.requestform.specs.Form.{judge_options_type, judge_name}
 use Rattle.scope.specs.declared.lookup.LookupScope.{LookupScope}
 use Rattle.scope.specs.inner.Answers.{InSheet}
-use Rattle.fullname.specs.declared.LookedUp.{LookedUp}
-use Rattle.fullname.specs.declared.LookedUp.TheVariants.{Message as Is, NoMessage}
 use Rattle.lookups.specs.Lookups.{Lookups, Message, walking}
 use Rattle.lookups.proofs.LookupLaws.{message-lies}
 use Rattle.lookups.proofs.AdmitLaws.{Admits, admits, admits-none}
@@ -35,10 +31,6 @@ use Rattle.entries.specs.Tree.{Tree, words}
 use Rattle.payload.specs.Payload.{judge_bytes}
 use Rattle.entries.specs.Reading.{Listed, listed, refused, reading, records_of, within, on_type}
 use Rattle.entries.specs.inner.Fronts.{message}
-use Rattle.following.specs.declared.Best.{Best}
-use Rattle.following.specs.declared.Best.TheVariants.{Found, NoneYet}
-use Rattle.query.specs.declared.Seen.{Seen}
-use Rattle.query.specs.declared.Seen.TheVariants.{All, Refused}
 use Rattle.naming.specs.Name.{Named, names, group, refused_at, declarations}
 use Rattle.following.specs.Reached.{never, reached}
 use Rattle.query.specs.Query.{answered, on_named, on_records, query_of, judge_inputs, query_by, query, query_tested}
@@ -56,48 +48,48 @@ module _ (x : Row) (l : List ℕ) (a : Answer) where
 pub ruleset give-row-laws = (row-no-room, row-given)
 
 -- ---- answer_of
-module _ (x : Seen) (l : List ℕ) (a : Answer) where
-  pub seen-refused : (c : Cause) → x ≡ Refused c → a ≡ refused_for c → Answered (outcome_of x) l l a
+module _ (x : Result (Option Row) Cause) (l : List ℕ) (a : Answer) where
+  pub seen-refused : (c : Cause) → x ≡ Err c → a ≡ refused_for c → Answered (outcome_of x) l l a
   seen-refused c g e = rw e (answered-refused (outcome_of x) l c (ap outcome_of g))
 
-  module _ (b : Best) (g : x ≡ All b) where
-    pub seen_none : b ≡ NoneYet → a ≡ absent_answer → Answered (outcome_of x) l l a
-    seen_none h e = rw e (answered-absent (outcome_of x) l (ap outcome_of g ∙ ap (λ (y : Best). outcome_of (All y)) h))
+  module _ (b : Option Row) (g : x ≡ Ok b) where
+    pub seen_none : b ≡ None → a ≡ absent_answer → Answered (outcome_of x) l l a
+    seen_none h e = rw e (answered-absent (outcome_of x) l (ap outcome_of g ∙ ap (λ (y : Option Row). outcome_of (Ok y)) h))
 
-    pub seen-row : (y : Row) → b ≡ Found y → (l' : List ℕ) → Answered (give (words y)) l l' a → Answered (outcome_of x) l l' a
-    seen-row y h l' k = rw (ap outcome_of g ∙ ap (λ (z : Best). outcome_of (All z)) h) k
+    pub seen-row : (y : Row) → b ≡ Some y → (l' : List ℕ) → Answered (give (words y)) l l' a → Answered (outcome_of x) l l' a
+    seen-row y h l' k = rw (ap outcome_of g ∙ ap (λ (z : Option Row). outcome_of (Ok z)) h) k
 
 pub ruleset seen-answer-laws = (seen-refused, seen_none, seen-row)
 
 -- ---- options_message
 module _ (s type q bs : List ℕ) (u : Verdict) (x : u ≡ judge_length s) where
-  pub message-long : (w : Refusal) → u ≡ Bad w → NoMessage w ≡ admitted (judge_length s) s type q bs
+  pub message-long : (w : Refusal) → u ≡ Err w → Err w ≡ admitted (judge_length s) s type q bs
   unfolding admitted judge_inputs
   message-long w h = rw (← x, h)
 
-  module _ (h : u ≡ Fine) (v : Verdict) (y : v ≡ judge_options_type type) where
-    pub message-bad-type : (w : Refusal) → v ≡ Bad w → NoMessage w ≡ admitted (judge_length s) s type q bs
+  module _ (h : u ≡ Ok tt) (v : Verdict) (y : v ≡ judge_options_type type) where
+    pub message-bad-type : (w : Refusal) → v ≡ Err w → Err w ≡ admitted (judge_length s) s type q bs
     unfolding admitted judge_inputs
     message-bad-type w g = rw (← x, h, ← y, g)
 
-    module _ (g : v ≡ Fine) (n : Verdict) (z : n ≡ judge_name q) where
-      pub message-bad-name : (w : Refusal) → n ≡ Bad w → NoMessage w ≡ admitted (judge_length s) s type q bs
+    module _ (g : v ≡ Ok tt) (n : Verdict) (z : n ≡ judge_name q) where
+      pub message-bad-name : (w : Refusal) → n ≡ Err w → Err w ≡ admitted (judge_length s) s type q bs
       unfolding admitted judge_inputs
       message-bad-name w k = rw (← x, h, ← y, g, ← z, k)
 
-      module _ (k : n ≡ Fine) (b : Verdict) (c : b ≡ judge_bytes bs) where
-        pub message-long-bytes : (w : Refusal) → b ≡ Bad w → NoMessage w ≡ admitted (judge_length s) s type q bs
+      module _ (k : n ≡ Ok tt) (b : Verdict) (c : b ≡ judge_bytes bs) where
+        pub message-long-bytes : (w : Refusal) → b ≡ Err w → Err w ≡ admitted (judge_length s) s type q bs
         unfolding admitted judge_inputs
         message-long-bytes w j = rw (← x, h, ← y, g, ← z, k, ← c, j)
 
-        pub message-is : b ≡ Fine → (r : LookedUp) → r ≡ (walking s).message type → r ≡ admitted (judge_length s) s type q bs
+        pub message-is : b ≡ Ok tt → (r : Result LookupScope Refusal) → r ≡ (walking s).message type → r ≡ admitted (judge_length s) s type q bs
         unfolding admitted judge_inputs
         message-is j r e = rw (← x, h, ← y, g, ← z, k, ← c, j) e
 
 pub ruleset query-message-laws = (message-long, message-bad-type, message-bad-name, message-long-bytes, message-is)
 
 -- ---- what was seen is the query
-answered-best : (o : Option Row) → answered o ≡ outcome_of (All (best_of o))
+answered-best : (o : Option Row) → answered o ≡ outcome_of (Ok (best_of o))
 answered-best None = refl
 answered-best (Some x) = refl
 
@@ -112,7 +104,7 @@ records-seen L s q m (listed t) = named-seen (declarations L s q 0 m (parts_in (
 records-seen L s q m (refused w) = refl
 
 module _ (v : Verdict) (s type q bs : List ℕ) where
-  query-seen : (p : LookupScope) → admitted v s type q bs ≡ Is p
+  query-seen : (p : LookupScope) → admitted v s type q bs ≡ Ok p
       → query_by v s type q bs ≡ outcome_of (queried (walking s) s q (message type p) bs)
   unfolding query_by query_of records_of admitted queried
   query-seen p h =
@@ -121,18 +113,18 @@ module _ (v : Verdict) (s type q bs : List ℕ) where
       ∙ ap (λ u. on_records never (walking s) s q (on_type (walking s) s type bs u)) k.is
       ∙ records-seen (walking s) s q (message type p) (reading (walking s) s most_levels (message type p) 0 bs)
 
-  query-none : (w : Refusal) → admitted v s type q bs ≡ NoMessage w → query_by v s type q bs ≡ refuse w
+  query-none : (w : Refusal) → admitted v s type q bs ≡ Err w → query_by v s type q bs ≡ refuse w
   unfolding query_by query_of records_of admitted
   query-none w h =
       admits-none s type (judge_inputs v type q bs) w h (λ u. on_records never (walking s) s q (on_type (walking s) s type bs u)) (λ x. refl)
 
 -- ---- query_tested
-module _ (s type q bs : List ℕ) (r : LookedUp) (e : r ≡ admitted (judge_length s) s type q bs) where
-  pub tested-refused : (w : Refusal) → r ≡ NoMessage w → (l : List ℕ) (a : Answer) → a ≡ refused_answer w
+module _ (s type q bs : List ℕ) (r : Result LookupScope Refusal) (e : r ≡ admitted (judge_length s) s type q bs) where
+  pub tested-refused : (w : Refusal) → r ≡ Err w → (l : List ℕ) (a : Answer) → a ≡ refused_answer w
       → Answered (query_tested s type q bs) l l a
   tested-refused w g l a d = rw d (answered-refused _ l (bare w) (query-none (judge_length s) s type q bs w (sym e ∙ g)))
 
-  module _ (p : LookupScope) (g : r ≡ Is p) where
+  module _ (p : LookupScope) (g : r ≡ Ok p) where
     admitting : Admits (judge_inputs (judge_length s) type q bs) s type p
     unfolding admitted
     admitting = admits s type (judge_inputs (judge_length s) type q bs) p (sym e ∙ g)
@@ -140,33 +132,33 @@ module _ (s type q bs : List ℕ) (r : LookedUp) (e : r ≡ admitted (judge_leng
     pub tested-inside : InSheet s p
     tested-inside = message-lies s type ((walking s).message type) refl p admitting.is
 
-    name-and-bytes : first_fault (judge_name q) (judge_bytes bs) ≡ Fine
+    name-and-bytes : first_fault (judge_name q) (judge_bytes bs) ≡ Ok tt
     unfolding judge_inputs
     name-and-bytes = first-fine-rest (judge_options_type type) _ (first-fine-rest (judge_length s) _ admitting.fine)
 
-    pub tested-name : judge_name q ≡ Fine
+    pub tested-name : judge_name q ≡ Ok tt
     tested-name = first-fine-front (judge_name q) (judge_bytes bs) name-and-bytes
 
     pub tested-short : length bs ≤ most_option_bytes
     unfolding judge_bytes
     tested-short = leb-true _ _ (judged-fine BeyondLimit _ (first-fine-rest (judge_name q) (judge_bytes bs) name-and-bytes))
 
-    pub tested-seen : (x : Seen) → x ≡ queried (walking s) s q (message type p) bs → (l l' : List ℕ) (a : Answer)
+    pub tested-seen : (x : Result (Option Row) Cause) → x ≡ queried (walking s) s q (message type p) bs → (l l' : List ℕ) (a : Answer)
         → Answered (outcome_of x) l l' a → Answered (query_tested s type q bs) l l' a
     tested-seen x y l l' a k = rw (query-seen (judge_length s) s type q bs p (sym e ∙ g), ← y) k
 
 pub ruleset query-tested-laws = (tested-refused, tested-inside, tested-name, tested-short, tested-seen)
 
 -- ---- `query` answers as `query_tested` does, of every sheet whose form is fine
-pub query-tested : (s type q bs : List ℕ) → judge_sheet s ≡ Fine → query s type q bs ≡ query_tested s type q bs
+pub query-tested : (s type q bs : List ℕ) → judge_sheet s ≡ Ok tt → query s type q bs ≡ query_tested s type q bs
 query-tested s type q bs h = ap (λ v. query_by v s type q bs) (h ∙ sym (sheet-length s h))
 
 module _ (s type q bs : List ℕ) (v : Verdict) (e : v ≡ judge_sheet s) (l : List ℕ) (a : Answer) where
-  pub query-refused : (w : Refusal) → v ≡ Bad w → a ≡ refused_answer w → Answered (query s type q bs) l l a
+  pub query-refused : (w : Refusal) → v ≡ Err w → a ≡ refused_answer w → Answered (query s type q bs) l l a
   unfolding query_by judge_inputs
   query-refused w g d = rw d (answered-refused _ l (bare w) (rw (← e, g)))
 
-  pub query-answered : v ≡ Fine → (l' : List ℕ) → Answered (query_tested s type q bs) l l' a → Answered (query s type q bs) l l' a
+  pub query-answered : v ≡ Ok tt → (l' : List ℕ) → Answered (query_tested s type q bs) l l' a → Answered (query s type q bs) l l' a
   query-answered g l' k = rw (query-tested s type q bs (sym e ∙ g)) k
 
 pub ruleset query-laws = (query-refused, query-answered)

@@ -1,7 +1,7 @@
 -- All rows followed, and what the name makes of the best one: the loop of `follow_rows`, and the ways through `count_of`, `settle`,
 -- `see_rows` and `query_over`.
 -- Assumes nothing.
-use Rattle.std.specs.Prelude.{◌≡◌, refl, Bool, true, false, List, [], ◌∷◌, map, ℕ, ◌+◌, ◌*◌, ◌≤◌, length}
+use Rattle.std.specs.Prelude.{◌≡◌, refl, Bool, true, false, List, [], ◌∷◌, map, ℕ, ◌+◌, ◌*◌, ◌≤◌, length, Err, None, Some, Ok, Option, Result}
 use Rattle.basis.specs.Kit.{sym, ap, ◌∙◌}
 use Rattle.basis.specs.First.{only_if}
 use Rattle.basis.proofs.Kit.{arith, not-true, not-false}
@@ -9,7 +9,6 @@ use Rattle.basis.proofs.Never.{never as nothing_left}
 use Rattle.limits.specs.Figures.{most_levels, most_parts}
 use Rattle.reply.specs.declared.Refusal.{Refusal}
 use Rattle.reply.specs.declared.Cause.{Cause}
-use Rattle.reply.specs.declared.Verdict.TheVariants.{Fine}
 use Rattle.reply.specs.Reply.{bare}
 use Rattle.reply.specs.Outcome.{Outcome, refused as refused_for, nothing, give, push}
 use Rattle.field.specs.Walk.{walk}
@@ -28,13 +27,9 @@ use Rattle.levels.specs.declared.Event.TheVariants.{Record, End, Wrong}
 use Rattle.levels.specs.inner.Left.{flat, left, Open, Starts, Moves}
 use Rattle.levels.proofs.StartLaws.{start-open, start_left}
 use Rattle.levels.proofs.MovesLaws.{moved_open, moved-rest, moved-less, moved-end, moved-wrong}
-use Rattle.following.specs.declared.Best.{Best}
-use Rattle.following.specs.declared.Best.TheVariants.{Found, NoneYet}
 use Rattle.following.specs.declared.Step.{Step}
 use Rattle.naming.specs.declared.Naming.{Naming}
-use Rattle.naming.specs.declared.Naming.TheVariants.{Parts, Group, Refused as RefusedName}
-use Rattle.query.specs.declared.Seen.{Seen}
-use Rattle.query.specs.declared.Seen.TheVariants.{All, Refused}
+use Rattle.naming.specs.declared.Naming.TheVariants.{Parts, Group, Err as RefusedName}
 use Rattle.naming.specs.Name.{Named, declarations}
 use Rattle.following.specs.Reached.{never}
 use Rattle.following.specs.inner.Keys.{key_of, key_words, keys_from}
@@ -53,38 +48,38 @@ seen-push ks n f x nothing = refl
 seen-push ks n f x (refused_for c) = refl
 
 -- of the row that was taken last, where it counts
-abbrev so_far : (matched : ℕ) (counts : Bool) (taken : Best) → Followed
-so_far k o b = record { matched = k; best = only_if o b NoneYet }
+abbrev so_far : (matched : ℕ) (counts : Bool) (taken : Option Row) → Followed
+so_far k o b = record { matched = k; best = only_if o b None }
 
-pub record Seeing (s type bs ks : List ℕ) (n : ℕ) (whole : Outcome Row) (st : List ℕ) (c : Cursor) (k : ℕ) (o : Bool) (b : Best) : Type 0 where
+pub record Seeing (s type bs ks : List ℕ) (n : ℕ) (whole : Outcome Row) (st : List ℕ) (c : Cursor) (k : ℕ) (o : Bool) (b : Option Row) : Type 0 where
   pub opens : Open s bs st c
   pub rest : seen_in ks n nothing_yet whole ≡ seen_in ks n (so_far k o b) (left (walking s) s type bs st c.depth c.at)
 
-pub seeing-start : (s type bs ks : List ℕ) (n : ℕ) (st : List ℕ) (c : Cursor) (b : Best) → Open s bs st c
+pub seeing-start : (s type bs ks : List ℕ) (n : ℕ) (st : List ℕ) (c : Cursor) (b : Option Row) → Open s bs st c
     → Seeing s type bs ks n (left (walking s) s type bs st c.depth c.at) st c 0 false b
 seeing-start s type bs ks n st c b o = record { opens = o; rest = refl }
 
-module _ (s type bs ks : List ℕ) (n : ℕ) (whole : Outcome Row) (st : List ℕ) (c : Cursor) (k : ℕ) (o : Bool) (b : Best)
+module _ (s type bs ks : List ℕ) (n : ℕ) (whole : Outcome Row) (st : List ℕ) (c : Cursor) (k : ℕ) (o : Bool) (b : Option Row)
     (u : Seeing s type bs ks n whole st c k o b) where
   pub seeing-open : Open s bs st c
   seeing-open = u.opens
 
   module _ (st' : List ℕ) (r : Event)
       (v : Moves s type bs (left (walking s) s type bs st c.depth c.at) c.at st' r) where
-    ended : r ≡ End → seen_in ks n nothing_yet whole ≡ All (so_far k o b).best
+    ended : r ≡ End → seen_in ks n nothing_yet whole ≡ Ok (so_far k o b).best
     ended g = u.rest ∙ ap (seen_in ks n (so_far k o b)) (moved-end s type bs _ c.at st' r v g)
 
-    pub seeing-found : r ≡ End → o ≡ true → All b ≡ seen_in ks n nothing_yet whole
-    seeing-found g h = sym (ended g ∙ ap (λ (x : Bool). All (only_if x b NoneYet)) h)
+    pub seeing-found : r ≡ End → o ≡ true → Ok b ≡ seen_in ks n nothing_yet whole
+    seeing-found g h = sym (ended g ∙ ap (λ (x : Bool). Ok (only_if x b None)) h)
 
-    pub seeing-none : r ≡ End → o ≡ false → All NoneYet ≡ seen_in ks n nothing_yet whole
-    seeing-none g h = sym (ended g ∙ ap (λ (x : Bool). All (only_if x b NoneYet)) h)
+    pub seeing-none : r ≡ End → o ≡ false → Ok None ≡ seen_in ks n nothing_yet whole
+    seeing-none g h = sym (ended g ∙ ap (λ (x : Bool). Ok (only_if x b None)) h)
 
-    pub seeing-wrong : (w : Refusal) → r ≡ Wrong w → (c' : Cause) → c' ≡ bare w → Refused c' ≡ seen_in ks n nothing_yet whole
-    seeing-wrong w g c' e = ap Refused e ∙ sym (u.rest ∙ ap (seen_in ks n (so_far k o b)) (moved-wrong s type bs _ c.at st' r v w g))
+    pub seeing-wrong : (w : Refusal) → r ≡ Wrong w → (c' : Cause) → c' ≡ bare w → Err c' ≡ seen_in ks n nothing_yet whole
+    seeing-wrong w g c' e = ap Err e ∙ sym (u.rest ∙ ap (seen_in ks n (so_far k o b)) (moved-wrong s type bs _ c.at st' r v w g))
 
     module _ (x : Row) (d : Cursor) (g : r ≡ Record x d) (y : Step) (e : y ≡ step_of ks n k o x.level x.entry.by) where
-      stepped : (b' : Best) → only_if y.takes (Found x) b ≡ b' → Seeing s type bs ks n whole st' d y.matched y.counts b'
+      stepped : (b' : Option Row) → only_if y.takes (Some x) b ≡ b' → Seeing s type bs ks n whole st' d y.matched y.counts b'
       stepped b' h =
           let f = so_far k o b in
           let next = left (walking s) s type bs st' d.depth d.at in
@@ -93,14 +88,14 @@ module _ (s type bs ks : List ℕ) (n : ℕ) (whole : Outcome Row) (st : List �
             rest =
                 u.rest ∙ ap (seen_in ks n f) (moved-rest s type bs _ c.at st' r v x d g) ∙ seen-push ks n f x next
                 ∙ ap (λ (p : Followed). seen_in ks n p next) (sym (step_after ks n k o b x) ∙ ap (λ (z : Step). after z b x) (sym e))
-                ∙ ap (λ (p : Best). seen_in ks n (so_far y.matched y.counts p) next) h;
+                ∙ ap (λ (p : Option Row). seen_in ks n (so_far y.matched y.counts p) next) h;
           }
 
-      pub seeing-taken : y.takes ≡ true → (b' : Best) → Found x ≡ b' → Seeing s type bs ks n whole st' d y.matched y.counts b'
-      seeing-taken h b' z = stepped b' (ap (λ (t : Bool). only_if t (Found x) b) h ∙ z)
+      pub seeing-taken : y.takes ≡ true → (b' : Option Row) → Some x ≡ b' → Seeing s type bs ks n whole st' d y.matched y.counts b'
+      seeing-taken h b' z = stepped b' (ap (λ (t : Bool). only_if t (Some x) b) h ∙ z)
 
       pub seeing-kept : y.takes ≡ false → Seeing s type bs ks n whole st' d y.matched y.counts b
-      seeing-kept h = stepped b (ap (λ (t : Bool). only_if t (Found x) b) h)
+      seeing-kept h = stepped b (ap (λ (t : Bool). only_if t (Some x) b) h)
 
 pub ruleset seeing-laws = (
   not-true,
@@ -126,28 +121,28 @@ module _ (r : Naming) where
   pub count-refused : (c : Cause) → r ≡ RefusedName c → 0 ≡ count_of r
   count-refused c e = rw e
 
-  module _ (b : Best) where
-    pub settle-parts : (n : ℕ) → r ≡ Parts n → All b ≡ settled r b
+  module _ (b : Option Row) where
+    pub settle-parts : (n : ℕ) → r ≡ Parts n → Ok b ≡ settled r b
     settle-parts n e = rw e
 
-    pub settle-group : r ≡ Group → All NoneYet ≡ settled r b
+    pub settle-group : r ≡ Group → Ok None ≡ settled r b
     settle-group e = rw e
 
-    pub settle-refused : (c : Cause) → r ≡ RefusedName c → Refused c ≡ settled r b
+    pub settle-refused : (c : Cause) → r ≡ RefusedName c → Err c ≡ settled r b
     settle-refused c e = rw e
 
 pub ruleset name-settle-laws = (count-parts, count-group, count-refused, settle-parts, settle-group, settle-refused)
 
 -- ---- see_rows
 module _ (p : LookupScope) (bs st : List ℕ) (c : Cursor) (k : Starts p bs st c) where
-  pub all_seen : (s type ks : List ℕ) (n : ℕ) (r : Seen) → r ≡ seen_in ks n nothing_yet (left (walking s) s type bs st c.depth c.at)
+  pub all_seen : (s type ks : List ℕ) (n : ℕ) (r : Result (Option Row) Cause) → r ≡ seen_in ks n nothing_yet (left (walking s) s type bs st c.depth c.at)
       → r ≡ seen_in ks n nothing_yet (flat 0 (reading (walking s) s most_levels (message type p) 0 bs))
   all_seen s type ks n r e = e ∙ ap (seen_in ks n nothing_yet) (start_left p bs st c k (walking s) s type)
 
 pub ruleset see-rows-laws = (start-open, all_seen)
 
 -- ---- query_over
-module _ (q : List ℕ) (fine : judge_name q ≡ Fine) (us : List ℕ) (size : length us ≡ most_parts * key_words) where
+module _ (q : List ℕ) (fine : judge_name q ≡ Ok tt) (us : List ℕ) (size : length us ≡ most_parts * key_words) where
   pub over-namable : (scope : List ℕ) → length scope ≡ 0 → Namable q scope 0 0 us
   over-namable scope e = record {
     within = omega arith;
@@ -177,20 +172,20 @@ module _ (q : List ℕ) (fine : judge_name q ≡ Fine) (us : List ℕ) (size : l
     over-room Group n e ws h k = omega arith
     over-room (RefusedName c) n e ws h k = omega arith
 
-module _ (L : Lookups) (s q : List ℕ) (m : Message) (bs ks : List ℕ) (n : ℕ) (v : Seen)
+module _ (L : Lookups) (s q : List ℕ) (m : Message) (bs ks : List ℕ) (n : ℕ) (v : Result (Option Row) Cause)
     (e : v ≡ seen_in ks n nothing_yet (flat 0 (reading L s most_levels m 0 bs))) where
-  pub over-wrong : (c : Cause) → v ≡ Refused c → Refused c ≡ queried L s q m bs
+  pub over-wrong : (c : Cause) → v ≡ Err c → Err c ≡ queried L s q m bs
   unfolding queried
   over-wrong c g = go (reading L s most_levels m 0 bs) (sym e ∙ g)
     where
-      go : (x : Listed) → seen_in ks n nothing_yet (flat 0 x) ≡ Refused c
-          → Refused c ≡ of_listed (declarations L s q 0 m (parts_in (walk q 0 (length q)))) x
+      go : (x : Listed) → seen_in ks n nothing_yet (flat 0 x) ≡ Err c
+          → Err c ≡ of_listed (declarations L s q 0 m (parts_in (walk q 0 (length q)))) x
       go (listed t) h = nothing_left cc
       go (refused w) h = sym h
 
-  pub over-settled : (b : Best) → v ≡ All b → (us : List ℕ) (r : Naming) → n ≡ count_of r
+  pub over-settled : (b : Option Row) → v ≡ Ok b → (us : List ℕ) (r : Naming) → n ≡ count_of r
       → Declares never (declarations L s q 0 m (parts_in (walk q 0 (length q)))) 0 us ks r
-      → (y : Seen) → y ≡ settled r b → y ≡ queried L s q m bs
+      → (y : Result (Option Row) Cause) → y ≡ settled r b → y ≡ queried L s q m bs
   unfolding queried
   over-settled b g us r c k y z = z ∙ go (reading L s most_levels m 0 bs) (sym e ∙ g)
     where
@@ -199,11 +194,11 @@ module _ (L : Lookups) (s q : List ℕ) (m : Message) (bs ks : List ℕ) (n : �
       by t (declares {ds} {k = i} {n = j} {ws} {ws'} h f o) z a d p =
           let count : n ≡ 0 + length ds = omega arith in
           let keys : keys_from ks 0 (length ds) ≡ map (key_of never) ds = rw (z, a) at f in
-          ap All (p ∙ followed-reached never ks ds n t count keys)
+          ap Ok (p ∙ followed-reached never ks ds n t count keys)
       by t leaves-group z a d p = refl
       by t refuses z a d p = refl
 
-      go : (x : Listed) → seen_in ks n nothing_yet (flat 0 x) ≡ All b
+      go : (x : Listed) → seen_in ks n nothing_yet (flat 0 x) ≡ Ok b
           → settled r b ≡ of_listed (declarations L s q 0 m (parts_in (walk q 0 (length q)))) x
       go (listed t) h = by t k refl refl c cc
       go (refused w) h = nothing_left cc

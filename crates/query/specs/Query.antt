@@ -11,8 +11,7 @@
 --
 -- Assumes nothing.
 use Rattle.std.specs.Prelude.{Bool, List, ℕ, length, Option, None, Some}
-use Rattle.reply.specs.declared.Verdict.{Verdict}
-use Rattle.reply.specs.Verdicts.{first_fault}
+use Rattle.reply.specs.Verdicts.{first_fault, Verdict}
 use Rattle.reply.specs.Outcome.{Outcome, refused, refuse, unless, nothing, give}
 use Rattle.field.specs.Walk.{walk}
 use Rattle.sheet.specs.declared.declaration.Declaration.{Declaration}

@@ -2,10 +2,9 @@
 // declarations first, no option byte being read; then the rows are followed by them in one pass.
 #![tactic(auto)]
 
-ghost use Rattle.std.specs.Prelude.{◌≡◌, ◌*◌, ◌≤◌, length};
+ghost use Rattle.std.specs.Prelude.{◌≡◌, ◌*◌, ◌≤◌, length, Ok};
 ghost use Rattle.limits.specs.Figures.{most_option_bytes, most_levels, most_parts};
 ghost use Rattle.reply.specs.Outcome.{Answered, give};
-ghost use Rattle.reply.specs.declared.Verdict.TheVariants.{Fine};
 ghost use Rattle.sheetform.specs.Form.{judge_length};
 ghost use Rattle.requestform.specs.Form.{judge_name};
 ghost use Rattle.scope.specs.inner.Answers.{InSheet};
@@ -22,25 +21,17 @@ ghost use Rattle.query.specs.inner.Answering.{seen_in, count_of, settled, querie
 
 use entries::Row;
 use following::{Best, follow};
-use fullname::LookedUp;
 use levels::{Cursor, Event, STACK_WORDS, next, start};
 use limits::MOST_PARTS;
 use naming::{Naming, declare};
 use payload::check_bytes;
-use reply::{Answer, Cause, Refusal, Verdict};
+use reply::{Answer, Cause, Refusal};
 use requestform::{check_name, check_options_type};
 use rows::put_row;
 use scope::lookup::LookupScope;
 
 // So many words are the keys of all parts.
 const KEY_WORDS: usize = MOST_PARTS * 2;
-
-// What following all rows comes to: the best one, or the first fault and where it is.
-#[derive(Clone, Copy)]
-pub enum Seen {
-    All(Best),
-    Refused(Cause),
-}
 
 // The rows that are left, followed.
 fn follow_rows(
@@ -51,7 +42,7 @@ fn follow_rows(
     from: Cursor,
     keys: &[usize],
     count: usize,
-) -> Seen
+) -> Result<Option<Row>, Cause>
     requires fact { Open sheet.now bytes.now stack.old from }
     requires key_words_in_bounds { count * key_words ≤ length keys.now }
     ensures { result ≡ seen_in keys.now count nothing_yet (left (walking sheet.now) sheet.now
@@ -60,23 +51,23 @@ fn follow_rows(
     let mut cursor = from;
     let mut matched = 0;
     let mut counts = false;
-    let mut best = Best::NoneYet;
+    let mut best = None;
     loop {
         match next(sheet, options_type, bytes, stack, cursor) {
             Event::End => {
                 if counts {
-                    return Seen::All(best);
+                    return Ok(best);
                 }
-                return Seen::All(Best::NoneYet);
+                return Ok(None);
             }
-            Event::Wrong(why) => return Seen::Refused(reply::bare(why)),
+            Event::Wrong(why) => return Err(reply::bare(why)),
             Event::Record { row, rest } => {
                 let level = row.level as usize;
                 let entry = row.entry;
                 let by = entry.by;
                 let step = follow(keys, count, matched, counts, level, by);
                 if step.takes {
-                    best = Best::Found(row);
+                    best = Some(row);
                 }
                 matched = step.matched;
                 counts = step.counts;
@@ -98,13 +89,13 @@ fn count_of(naming: Naming) -> usize
 }
 
 // The best row, where the name comes to its parts; or the name's refusal, at its part.
-fn settle(naming: Naming, best: Best) -> Seen
+fn settle(naming: Naming, best: Option<Row>) -> Result<Option<Row>, Cause>
     ensures { result ≡ settled naming best }
 {
     match naming {
-        Naming::Parts(_) => Seen::All(best),
-        Naming::Group => Seen::All(Best::NoneYet),
-        Naming::Refused(cause) => Seen::Refused(cause),
+        Naming::Parts(_) => Ok(best),
+        Naming::Group => Ok(None),
+        Naming::Refused(cause) => Err(cause),
     }
 }
 
@@ -117,7 +108,7 @@ fn see_rows(
     stack: &mut [usize],
     keys: &[usize],
     count: usize,
-) -> Seen
+) -> Result<Option<Row>, Cause>
     requires in_sheet { InSheet sheet.now place }
     requires bytes_len_bound { length bytes.now ≤ most_option_bytes }
     requires stack_len { length stack.old ≡ stack_words }
@@ -138,12 +129,12 @@ fn query_over(
     bytes: &[u8],
     stack: &mut [usize],
     keys: &mut [usize],
-) -> Seen
+) -> Result<Option<Row>, Cause>
     requires in_sheet { InSheet sheet.now place }
     requires bytes_len_bound { length bytes.now ≤ most_option_bytes }
     requires stack_len { length stack.old ≡ stack_words }
     requires keys_len { length keys.old ≡ most_parts * key_words }
-    requires name_value { judge_name name.now ≡ Fine }
+    requires name_value { judge_name name.now ≡ Ok tt }
     ensures { result ≡ queried (walking sheet.now) sheet.now name.now
         (message_of options_type.now place) bytes.now }
 {
@@ -157,8 +148,8 @@ fn query_over(
         keys,
         count_of(naming),
     ) {
-        Seen::Refused(cause) => Seen::Refused(cause),
-        Seen::All(best) => settle(naming, best),
+        Err(cause) => Err(cause),
+        Ok(best) => settle(naming, best),
     }
 }
 
@@ -169,10 +160,10 @@ fn query_in(
     place: LookupScope,
     name: &[u8],
     bytes: &[u8],
-) -> Seen
+) -> Result<Option<Row>, Cause>
     requires in_sheet { InSheet sheet.now place }
     requires bytes_len_bound { length bytes.now ≤ most_option_bytes }
-    requires name_value { judge_name name.now ≡ Fine }
+    requires name_value { judge_name name.now ≡ Ok tt }
     ensures { result ≡ queried (walking sheet.now) sheet.now name.now
         (message_of options_type.now place) bytes.now }
 {
@@ -201,35 +192,35 @@ fn give_row(row: Row, out: &mut [u32]) -> Answer
 }
 
 // The answer of what was seen.
-fn answer_of(seen: Seen, out: &mut [u32]) -> Answer
+fn answer_of(seen: Result<Option<Row>, Cause>, out: &mut [u32]) -> Answer
     ensures { Answered (outcome_of seen) out.old out.new result }
 {
     match seen {
-        Seen::Refused(cause) => reply::refused_for(cause),
-        Seen::All(best) => match best {
-            Best::NoneYet => reply::absent(),
-            Best::Found(row) => give_row(row, out),
+        Err(cause) => reply::refused_for(cause),
+        Ok(best) => match best {
+            None => reply::absent(),
+            Some(row) => give_row(row, out),
         },
     }
 }
 
 // The message that the options type is, or why there is none: that the sheet is too long, the first fault of the options type, the name
 // and the length of the option bytes, or its look-up. The form of the sheet was tested before.
-fn options_message(sheet: &[u8], options_type: &[u8], name: &[u8], bytes: &[u8]) -> LookedUp
+fn options_message(sheet: &[u8], options_type: &[u8], name: &[u8], bytes: &[u8]) -> Result<LookupScope, Refusal>
     ensures { result ≡ admitted (judge_length sheet.now) sheet.now options_type.now name.now
         bytes.now }
 {
-    if let Verdict::Refused(why) = sheetform::check_length(sheet) {
-        return LookedUp::NoMessage(why);
+    if let Err(why) = sheetform::check_length(sheet) {
+        return Err(why);
     }
-    if let Verdict::Refused(why) = check_options_type(options_type) {
-        return LookedUp::NoMessage(why);
+    if let Err(why) = check_options_type(options_type) {
+        return Err(why);
     }
-    if let Verdict::Refused(why) = check_name(name) {
-        return LookedUp::NoMessage(why);
+    if let Err(why) = check_name(name) {
+        return Err(why);
     }
-    if let Verdict::Refused(why) = check_bytes(bytes) {
-        return LookedUp::NoMessage(why);
+    if let Err(why) = check_bytes(bytes) {
+        return Err(why);
     }
     lookups::message(sheet, options_type)
 }
@@ -246,8 +237,8 @@ pub fn query_tested(
         out.old out.new result }
 {
     match options_message(sheet, options_type, name, bytes) {
-        LookedUp::NoMessage(why) => reply::refused(why),
-        LookedUp::Message(place) => {
+        Err(why) => reply::refused(why),
+        Ok(place) => {
             answer_of(query_in(sheet, options_type, place, name, bytes), out)
         }
     }
@@ -264,7 +255,7 @@ pub fn query(
     ensures { Answered (query_of sheet.now options_type.now name.now bytes.now)
         out.old out.new result }
 {
-    if let Verdict::Refused(why) = sheetform::check_sheet(sheet) {
+    if let Err(why) = sheetform::check_sheet(sheet) {
         return reply::refused(why);
     }
     query_tested(sheet, options_type, name, bytes, out)

@@ -1,6 +1,6 @@
 -- Ranges: the loop of `put_ranges`, and the ways through `lower_ranges`.
 -- Assumes nothing.
-use Rattle.std.specs.Prelude.{◌≡◌, refl, List, [], ◌∷◌, ℕ, suc, ◌+◌, ◌%◌, ◌≤◌, ◌<◌, length, get_or, drop}
+use Rattle.std.specs.Prelude.{◌≡◌, refl, List, [], ◌∷◌, ℕ, suc, ◌+◌, ◌%◌, ◌≤◌, ◌<◌, length, get_or, drop, Err, None, ℤ, Some, Ok, Option, Result}
 use Rattle.basis.specs.Kit.{sym, ap, ◌∙◌, sets}
 use Rattle.basis.proofs.Kit.{arith, add-one, eq-eqb, ne_eqb, lt-ltb, le-ltb, Fits}
 use lib.IntN.{ℤ, pos}
@@ -18,10 +18,6 @@ use Rattle.reply.specs.declared.Answer.{Answer}
 use Rattle.reply.specs.Reply.{bare, refused_by}
 use Rattle.reply.specs.Outcome.{Outcome, refused, nothing, give, push, Answered}
 use Rattle.reply.proofs.Outcomes.{answered-refused}
-use Rattle.emit.specs.declared.Put.{Put}
-use Rattle.emit.specs.declared.Put.TheVariants.{Wrote, Refused}
-use Rattle.ranges.specs.declared.End.{End}
-use Rattle.ranges.specs.declared.End.TheVariants.{At, NoNext}
 use Rattle.emit.specs.inner.Puts.{Puts}
 use Rattle.ranges.specs.Ranges.{enum_reserved, end_of, with_end, pairs, lower_ranges}
 use Rattle.emit.proofs.WriteLaws.{Front, front-start, front-put, front_length, front-refused, front-done}
@@ -55,7 +51,7 @@ module _ (k : ℕ) (ws l m : List ℤ) (i : ℕ) (u : Ranging k ws l m i) where
   pub ranging-length : length m ≡ length l
   ranging-length = front_length _ _ 0 l m i u.laid
 
-  pub ranging-done : length ws ≤ i → Puts (pairs k ws) 0 l m (Wrote i)
+  pub ranging-done : length ws ≤ i → Puts (pairs k ws) 0 l m (Ok i)
   unfolding pairs
   ranging-done h = front-done _ _ 0 l m i u.laid (rw (drop_of_length-le ws h))
 
@@ -67,19 +63,19 @@ module _ (k : ℕ) (ws l m : List ℤ) (i : ℕ) (u : Ranging k ws l m i) where
         let two : suc (suc i) ≡ i + 2 = omega arith in
         rw (drop-cons ws i (pos 0) h, drop-cons ws (suc i) (pos 0) h', two, ← (add-one i))
 
-    rest-here : (x : End) → x ≡ end_of k (get_or ws (i + 1) (pos 0))
+    rest-here : (x : Option ℤ) → x ≡ end_of k (get_or ws (i + 1) (pos 0))
         → pairs k (drop i ws) ≡ with_end (get_or ws i (pos 0)) x (pairs k (drop (i + 2) ws))
     unfolding pairs
     rest-here x q = ap (pairs k) range-here ∙ ap (λ y. with_end (get_or ws i (pos 0)) y (pairs k (drop (i + 2) ws))) (sym q)
 
-    module _ (fe : mag (get_or ws (i + 1) (pos 0)) < 2147483648) (x : End) (q : x ≡ end_of k (word (get_or ws (i + 1) (pos 0)))) where
+    module _ (fe : mag (get_or ws (i + 1) (pos 0)) < 2147483648) (x : Option ℤ) (q : x ≡ end_of k (word (get_or ws (i + 1) (pos 0)))) where
       end-here : x ≡ end_of k (get_or ws (i + 1) (pos 0))
       end-here = q ∙ ap (end_of k) (word_back _ fe)
 
-      pub ranging-none : x ≡ NoNext → (c : Cause) → c ≡ bare RangeEnd → Puts (pairs k ws) 0 l m (Refused c)
+      pub ranging-none : x ≡ None → (c : Cause) → c ≡ bare RangeEnd → Puts (pairs k ws) 0 l m (Err c)
       ranging-none g c e = front-refused _ _ 0 l m i u.laid c (rest-here x end-here ∙ rw (g, e))
 
-      module _ (fs : mag (get_or ws i (pos 0)) < 2147483648) (e : ℤ) (fx : mag e < 2147483648) (g : x ≡ At e) where
+      module _ (fs : mag (get_or ws i (pos 0)) < 2147483648) (e : ℤ) (fx : mag e < 2147483648) (g : x ≡ Some e) where
         pub ranging-next : (l' : List ℤ) → l' ≡ sets m i (word (get_or ws i (pos 0)) ∷ word e ∷ []) → Ranging k ws l l' (i + 2)
         ranging-next l' a =
             let range = get_or ws i (pos 0) ∷ e ∷ [] in
@@ -99,12 +95,12 @@ pairs-length k [] words q = sym (ap length (give-inv q))
 pairs-length k (s ∷ []) words q = never cc
 pairs-length k (s ∷ e ∷ ws) words q = go (end_of k e) (pairs k ws) (pairs-length k ws) q
   where
-    go : (x : End) (o : Outcome ℤ) → ((m : List ℤ) → o ≡ give m → length m ≡ length ws) → with_end s x o ≡ give words
+    go : (x : Option ℤ) (o : Outcome ℤ) → ((m : List ℤ) → o ≡ give m → length m ≡ length ws) → with_end s x o ≡ give words
         → length words ≡ suc (suc (length ws))
-    go NoNext o p r = never cc
-    go (At x) (refused c) p r = never cc
-    go (At x) nothing p r = never cc
-    go (At x) (give m) p r = sym (ap length (give-inv r)) ∙ ap (λ n. suc (suc n)) (p m refl)
+    go None o p r = never cc
+    go (Some x) (refused c) p r = never cc
+    go (Some x) nothing p r = never cc
+    go (Some x) (give m) p r = sym (ap length (give-inv r)) ∙ ap (λ n. suc (suc n)) (p m refl)
 
 module _ (k : ℕ) (ws l : List ℤ) (r : Answer) where
   pub ranges-kind : enum_reserved < k → r ≡ refused_by BadRequest → Answered (lower_ranges k ws) l l r
@@ -128,8 +124,8 @@ module _ (k : ℕ) (ws : List ℤ) (o : length ws % 2 ≡ 1 → ⊥) where
   unfolding lower_ranges
   ranges-left g h = simp (lower_ranges, le-ltb _ _ g, le-ltb _ _ h, ne_eqb _ _ o)
 
-pub ranges-fit : (k : ℕ) (ws z z' : List ℤ) (p : Put) (n : ℕ)
-    → Puts (pairs k ws) 0 z z' p → p ≡ Wrote n → length ws ≤ most_words → Fits w32 n
+pub ranges-fit : (k : ℕ) (ws z z' : List ℤ) (p : Result ℕ Cause) (n : ℕ)
+    → Puts (pairs k ws) 0 z z' p → p ≡ Ok n → length ws ≤ most_words → Fits w32 n
 ranges-fit k ws z z' p n u e h =
     let g = put-wrote n u e in
     record { fits = omega (arith, pairs-length k ws g.elements g.is, g.laid.next) }

@@ -9,12 +9,10 @@
 --   lower_ranges k ws ==  what lowering ranges comes to
 --
 -- Assumes nothing.
-use Rattle.std.specs.Prelude.{Bool, true, false, List, [], ◌∷◌, ℕ, ◌%◌, eqb, ltb, length, ℤ, pos, negsuc, ◌+ℤ◌}
+use Rattle.std.specs.Prelude.{Bool, true, false, List, [], ◌∷◌, ℕ, ◌%◌, eqb, ltb, length, ℤ, pos, negsuc, ◌+ℤ◌, None, Some, Option}
 use Rattle.limits.specs.Figures.{most_words}
 use Rattle.reply.specs.declared.Refusal.TheVariants.{BadRequest, BeyondLimit, RangeEnd}
 use Rattle.reply.specs.Outcome.{Outcome, refuse, give, push}
-use Rattle.ranges.specs.declared.End.{End}
-use Rattle.ranges.specs.declared.End.TheVariants.{At, NoNext}
 
 -- "a kind (0 extension, 1 message-reserved, 2 enum-reserved)" [LOWER-2]
 abbrev pub enum_reserved : ℕ
@@ -28,12 +26,12 @@ is_last (pos n) = eqb n last_end
 is_last (negsuc n) = false
 
 -- "kinds 0 and 1 give end + 1, kind 2 keeps end"; 01, example 10: "end 2147483647: 16, but kept for an enum" [LOWER-3, LOWER-4]
-unfoldable pub end_of : ℕ → ℤ → End
-end_of k e = elim (eqb k enum_reserved) [ true ↦ At e | false ↦ elim (is_last e) [ true ↦ NoNext | false ↦ At (e +ℤ pos 1) ] ]
+unfoldable pub end_of : ℕ → ℤ → Option ℤ
+end_of k e = elim (eqb k enum_reserved) [ true ↦ Some e | false ↦ elim (is_last e) [ true ↦ None | false ↦ Some (e +ℤ pos 1) ] ]
 
-abbrev pub with_end : ℤ → End → Outcome ℤ → Outcome ℤ
-with_end s (At e) rest = push (s ∷ e ∷ []) rest
-with_end s NoNext rest = refuse RangeEnd
+abbrev pub with_end : ℤ → Option ℤ → Outcome ℤ → Outcome ℤ
+with_end s (Some e) rest = push (s ∷ e ∷ []) rest
+with_end s None rest = refuse RangeEnd
 
 -- a range whose start is above its end is kept; a start with no end is no range
 unfoldable pub pairs : ℕ → List ℤ → Outcome ℤ

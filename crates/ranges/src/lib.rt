@@ -9,32 +9,24 @@ ghost use Rattle.reply.specs.Outcome.{Answered};
 ghost use Rattle.ranges.specs.Ranges.{end_of, pairs, lower_ranges};
 ghost use Rattle.emit.specs.inner.Puts.{Puts};
 
-use emit::Put;
 use limits::MOST_WORDS;
 use reply::{Answer, Refusal};
-
-// What an end becomes.
-#[derive(Clone, Copy)]
-pub enum End {
-    At(i32),
-    NoNext,
-}
 
 // The kind whose ends stay: an enum's reserved ranges include them.
 const ENUM_RESERVED: u32 = 2;
 
 // A range of a descriptor ends before its end, but for an enum's; the largest word has no successor.
 #[tactic(auto, using(crate::proofs::EndLaws::end_laws))]
-fn end_of(kind: u32, end: i32) -> End
+fn end_of(kind: u32, end: i32) -> Option<i32>
     ensures { result ≡ end_of kind end }
 {
     if kind == ENUM_RESERVED {
-        return End::At(end);
+        return Some(end);
     }
     if end == i32::MAX {
-        return End::NoNext;
+        return None;
     }
-    End::At(end + 1)
+    Some(end + 1)
 }
 
 // One word at a place; past the end nothing is written.
@@ -56,7 +48,7 @@ fn put_range(out: &mut [i32], at: usize, start: i32, end: i32)
 }
 
 // The lowered ranges from the front on, as far as there is room.
-fn put_ranges(kind: u32, words: &[i32], out: &mut [i32]) -> Put
+fn put_ranges(kind: u32, words: &[i32], out: &mut [i32]) -> Result<usize, Cause>
     requires { length words.now % 2 ≡ 0 }
     ensures { Puts (pairs kind words.now) 0 out.old out.new result }
 {
@@ -64,13 +56,13 @@ fn put_ranges(kind: u32, words: &[i32], out: &mut [i32]) -> Put
     while i < words.len() {
         let start = words[i];
         let end = words[i + 1];
-        let End::At(next) = end_of(kind, end) else {
-            return Put::Refused(reply::bare(Refusal::RangeEnd));
+        let Some(next) = end_of(kind, end) else {
+            return Err(reply::bare(Refusal::RangeEnd));
         };
         put_range(out, i, start, next);
         i += 2;
     }
-    Put::Wrote(i)
+    Ok(i)
 }
 
 // The ranges of a kind, as 01's lowering has them.
@@ -87,8 +79,8 @@ pub fn lower_ranges(kind: u32, words: &[i32], out: &mut [i32]) -> Answer
         return reply::refused(Refusal::BadRequest);
     }
     match put_ranges(kind, words, &mut out[..0]) {
-        Put::Refused(cause) => reply::refused_for(cause),
-        Put::Wrote(n) => {
+        Err(cause) => reply::refused_for(cause),
+        Ok(n) => {
             if out.len() < n {
                 return reply::refused(Refusal::NoRoom);
             }

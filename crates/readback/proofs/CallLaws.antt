@@ -1,10 +1,8 @@
 -- What the calls `list` and `query` come to, in terms of the records of the option bytes: where they give words, their inputs are fine, the
 -- bytes are read, and the words are those of rows.
 -- Assumes nothing.
-use Rattle.std.specs.Prelude.{◌≡◌, refl, List, ℕ}
+use Rattle.std.specs.Prelude.{◌≡◌, refl, List, ℕ, Err, Ok}
 use Rattle.basis.proofs.Never.{never}
-use Rattle.reply.specs.declared.Verdict.{Verdict}
-use Rattle.reply.specs.declared.Verdict.TheVariants.{Fine, Refused}
 use Rattle.reply.specs.Outcome.{Outcome, unless, nothing, give}
 use Rattle.reply.proofs.VerdictLaws.{first-fine-front, first-fine-rest}
 use Rattle.sheetform.specs.Form.{judge_sheet}
@@ -19,15 +17,16 @@ use Rattle.query.specs.Query.{query_of, query_by, query}
 use Rattle.query.specs.Query as queries
 use Rattle.readback.specs.Follows.{OwnRow}
 use Rattle.readback.proofs.QueryLaws.{query-answers, leads-listed}
+use Rattle.reply.specs.Verdicts.{Verdict}
 
 -- ---- an outcome that is no refusal is not that of a fault
-given-fine : (v : Verdict) (o : Outcome ℕ) (ws : List ℕ) → unless v o ≡ give ws → (v ≡ Fine) × (o ≡ give ws)
-given-fine Fine o ws e = (refl, e)
-given-fine (Refused w) o ws e = never cc
+given-fine : (v : Verdict) (o : Outcome ℕ) (ws : List ℕ) → unless v o ≡ give ws → (v ≡ Ok tt) × (o ≡ give ws)
+given-fine (Ok _) o ws e = (refl, e)
+given-fine (Err w) o ws e = never cc
 
-nothing-fine : (v : Verdict) (o : Outcome ℕ) → unless v o ≡ nothing → (v ≡ Fine) × (o ≡ nothing)
-nothing-fine Fine o e = (refl, e)
-nothing-fine (Refused w) o e = never cc
+nothing-fine : (v : Verdict) (o : Outcome ℕ) → unless v o ≡ nothing → (v ≡ Ok tt) × (o ≡ nothing)
+nothing-fine (Ok _) o e = (refl, e)
+nothing-fine (Err w) o e = never cc
 
 -- ---- list
 module _ (s type bs ws : List ℕ) where
@@ -51,7 +50,7 @@ module _ (s type bs : List ℕ) where
   module _ (q : List ℕ) where
     -- `query` comes to what its definition over any look-ups does, of those that walk over the sheet, no records being joined: where its
     -- inputs are fine, so where it gives words or Absent.
-    pub query-fine : queries.judge_inputs (judge_sheet s) type q bs ≡ Fine
+    pub query-fine : queries.judge_inputs (judge_sheet s) type q bs ≡ Ok tt
         → query s type q bs ≡ query_of none_joins (walking s) s type q bs
     unfolding query_by
     query-fine e = rw e
@@ -65,7 +64,7 @@ module _ (s type bs : List ℕ) where
     query-of-none e = (nothing-fine (queries.judge_inputs (judge_sheet s) type q bs) _ e).1
 
     -- where its inputs are fine, so are those of `list`
-    inputs-fine : queries.judge_inputs (judge_sheet s) type q bs ≡ Fine → judge_inputs (judge_sheet s) type bs ≡ Fine
+    inputs-fine : queries.judge_inputs (judge_sheet s) type q bs ≡ Ok tt → judge_inputs (judge_sheet s) type bs ≡ Ok tt
     unfolding judge_inputs queries.judge_inputs
     inputs-fine e =
         let sheet = first-fine-front (judge_sheet s) _ e in

@@ -1,7 +1,7 @@
 -- Closed cases, which the checker computes: records that one sheet types, as that sheet, an older and a still older one see them. Bytes and
 -- words are those of compare/options_reader.py, a second implementation of 01.
 -- Assumes nothing.
-use Rattle.std.specs.Prelude.{◌≡◌, refl, true, List, [], ◌∷◌, ◌++◌, map, ℕ, ◌-◌, ◌^◌, ◌≤◌, length, Option, None, Some}
+use Rattle.std.specs.Prelude.{◌≡◌, refl, true, List, [], ◌∷◌, ◌++◌, map, ℕ, ◌-◌, ◌^◌, ◌≤◌, length, Option, None, Some, Ok}
 use Rattle.basis.specs.Kit.{sym, ap, ◌∙◌}
 use Rattle.basis.proofs.Kit.{arith}
 use mathlib.Core.Logic.{inl, inr}
@@ -22,11 +22,9 @@ use Rattle.sheet.specs.Table.{file_tag, message_tag, field_tag, package_tag, num
 use Rattle.sheet.specs.Declaration.{has_type_path, type_path_at, shape_at, extension_at, message_field_at, value_at}
 use Rattle.sheet.specs.Tree.{value_in, item_in, items_in, file_in, tree_of}
 use Rattle.sheet.specs.declared.declaration.Declaration.{Declaration}
-use Rattle.sheet.specs.declared.declaration.Declared.TheVariants.{NoDeclaration}
 use Rattle.scope.specs.declared.lookup.LookupScope.{LookupScope}
 use Rattle.scope.proofs.Sample.{a_field, of_name, name_m}
 use Rattle.numbers.specs.Number.{declaration_of}
-use Rattle.fullname.specs.declared.LookedUp.TheVariants.{Message as Found}
 use Rattle.lookups.specs.Lookups.{Lookups, Message, walking}
 use Rattle.records.specs.Records.{Recs, nil, number, bytes, message, payload, head_of, encode}
 use Rattle.records.specs.Raw.{Raw}
@@ -64,7 +62,7 @@ place s = record { file = 0; message = true; body = span 14 (length s); left = 1
 
 abbrev knowing : List ℕ → Lookups
 knowing s = record {
-  message = λ p. Found (place s);
+  message = λ p. Ok (place s);
   enumeration = (walking s).enumeration;
   extension = (walking s).extension;
 }
@@ -210,7 +208,7 @@ outermost = refl
 -- ---- rows that do not stand as those of a listing: a row a level deeper behind one that is no message
 abbrev at : (level typ place size : ℕ) → Row
 at l t p k =
-    record { level = l; entry = record { number = 1; typ = t; wire = 2; place = p; size = k; value = 0; by = NoDeclaration } }
+    record { level = l; entry = record { number = 1; typ = t; wire = 2; place = p; size = k; value = 0; by = None } }
 
 head-of : (P : Row → Type 0) (x : Row) (xs ys : List Row) → xs ≡ [] → x ∷ [] ≡ xs ++ ys → First P ys → P x
 head-of P x xs ys e q f = let same : ys ≡ x ∷ [] = sym (ap (λ zs. zs ++ ys) e) ∙ sym q in rw same at f

@@ -1,7 +1,7 @@
 -- Closed cases of the records of option bytes, which the checker computes: of each rule cases that hold, cases at its border, and cases
 -- that are refused. The expected words and replies come from a second implementation of 01, and of a few cases from a reading by hand.
 -- Assumes nothing.
-use Rattle.std.specs.Prelude.{◌≡◌, refl, true, false, List, [], ◌∷◌, ◌++◌, map, ℕ, zero, suc, ◌+◌, ◌-◌, ◌*◌, ltb, length}
+use Rattle.std.specs.Prelude.{◌≡◌, refl, true, false, List, [], ◌∷◌, ◌++◌, map, ℕ, zero, suc, ◌+◌, ◌-◌, ◌*◌, ltb, length, Err, Ok, Result}
 use Rattle.basis.specs.First.{told, only_if}
 use Prim.Native.String.{String}
 use Rattle.limits.specs.Figures.{most_messages}
@@ -26,12 +26,12 @@ use Rattle.sheet.specs.Tree.{value_in, item_in, items_in, file_in, tree_of}
 use Rattle.scope.specs.Scope.{Scope, holding, down}
 use Rattle.scope.proofs.Sample.{a_field, of_name}
 use Rattle.numbers.specs.Number.{declaration_of}
-use Rattle.fullname.specs.declared.LookedUp.{LookedUp}
-use Rattle.fullname.specs.declared.LookedUp.TheVariants.{Message, NoMessage}
 use Rattle.lookups.specs.Lookups.{Lookups, walking}
 use Rattle.entries.specs.Tree.{rows, words_of}
 use Rattle.entries.specs.Item.{item}
 use Rattle.entries.specs.Reading.{records_from, reading, Under, under, refused_by, records_of}
+use Rattle.reply.specs.declared.Refusal.{Refusal}
+use Rattle.scope.specs.declared.lookup.LookupScope.{LookupScope}
 
 -- ---- one sheet for all, of names of one letter: a message F of options, a message M of values, and the extensions of F
 abbrev typed : (number typ : ℕ) → List ℕ
@@ -67,15 +67,15 @@ sheet =
 abbrev first : Scope
 first = holding sheet (record { file = 0; message = false; body = span 7 (length messages); left = most_messages })
 
-abbrev named : (letter : ℕ) → LookedUp
-named x = told (NoMessage MessageNotFound) (λ c. Message c.place) (down sheet (x ∷ []) first)
+abbrev named : (letter : ℕ) → Result LookupScope Refusal
+named x = told (Err MessageNotFound) (λ c. Ok c.place) (down sheet (x ∷ []) first)
 
 abbrev knowing : Lookups
 knowing = record {
   message = λ p.
       only_if (same_bytes p (ascii "o.F")) (named 70)
       (only_if (same_bytes p (ascii "o.M")) (named 77)
-      (only_if (same_bytes p (ascii "o.T")) (NoMessage MessageFoundMoreThanOnce) (NoMessage MessageNotFound)));
+      (only_if (same_bytes p (ascii "o.T")) (Err MessageFoundMoreThanOnce) (Err MessageNotFound)));
   enumeration = (walking sheet).enumeration;
   extension = (walking sheet).extension;
 }

@@ -1,7 +1,7 @@
 -- A record at the front of bytes, as it is written: its tag, the bytes of a length, its payload. What one reading step makes of it, by what
 -- declares its number.
 -- Assumes nothing.
-use Rattle.std.specs.Prelude.{◌≡◌, refl, true, List, [], ◌∷◌, ◌++◌, ℕ, ◌+◌, ◌^◌, ◌≤◌, ◌<◌, length, take, drop, None}
+use Rattle.std.specs.Prelude.{◌≡◌, refl, true, List, [], ◌∷◌, ◌++◌, ℕ, ◌+◌, ◌^◌, ◌≤◌, ◌<◌, length, take, drop, None, Ok, Some}
 use Rattle.basis.specs.Kit.{sym, ap, ◌∙◌, some as is}
 use Rattle.basis.proofs.Kit.{arith, eq-eqb, ne_eqb}
 use mathlib.Core.Path.{ap₂}
@@ -10,15 +10,13 @@ use lib.ListN.{length-append}
 use lib.Seq.{take-append_seam, drop-append_seam, drop-append-add}
 use Rattle.limits.specs.Figures.{most_number}
 use Rattle.types.specs.Types.{wire_of, TYPE_MESSAGE}
-use Rattle.varint.specs.declared.Read.TheVariants.{Varint}
-use Rattle.varint.specs.Varint.{varint, read_varint}
+use Rattle.varint.specs.Varint.{varint, read_varint, read}
 use Rattle.varint.proofs.VarintLaws.{varint-some, read-varint}
 use Rattle.wire.specs.Tag.{tag_of, wire_type_of, wire_read}
 use Rattle.wire.proofs.TagLaws.{number-of-tag-of, wire-type-of-tag-of, wire-read-lt, tag-of-good}
 use Rattle.payloads.specs.Extent.{Extent, payload_at}
 use Rattle.sheet.specs.declared.declaration.Declaration.{Declaration}
 use Rattle.scope.specs.declared.lookup.LookupScope.{LookupScope}
-use Rattle.fullname.specs.declared.LookedUp.TheVariants.{Message as Found}
 use Rattle.lookups.specs.Lookups.{Lookups, Message}
 use Rattle.entries.specs.declared.Entry.{Entry}
 use Rattle.entries.specs.Tree.{one}
@@ -57,7 +55,7 @@ module _ {n w : ℕ} {lead body ys : List ℕ} (f : Front n w lead body ys) wher
   joined : all ≡ v ++ (lead ++ (body ++ ys))
   joined = simp append_assoc
 
-  tag_read : read_varint all ≡ Varint (tag_of n w) (length v)
+  tag_read : read_varint all ≡ Some (read (tag_of n w) (length v))
   tag_read = ap read_varint joined ∙ read-varint (tag_of n w) _ small
 
   behind-tag : drop (length v) all ≡ lead ++ (body ++ ys)
@@ -108,7 +106,7 @@ module _ {n w : ℕ} {lead body ys : List ℕ} (f : Front n w lead body ys) wher
       item-plain h =
           item-is ∙ rw q (plain-is d e ∙ rw (plain, ne_eqb _ _ h, entry-is d, size_is))
 
-      item-message : d.shape.typ ≡ TYPE_MESSAGE → (p : LookupScope) → L.message (path_of s d) ≡ Found p
+      item-message : d.shape.typ ≡ TYPE_MESSAGE → (p : LookupScope) → L.message (path_of s d) ≡ Ok p
           → item L s m place all ≡ into (entry_by (is d) n w at body) (reached_by s d p) (head_size n w lead) (length body)
       item-message h p g = item-is ∙ rw q (plain-is d e ∙ rw (plain, eq-eqb _ _ h, entry-is d, g))
 
@@ -143,7 +141,7 @@ module _ {n w : ℕ} {lead body ys : List ℕ} (f : Front n w lead body ys) wher
             (records_from L s inner m (place + length (record_bytes n w lead body)) 0 ys)
         declared-read h = leaf-read (entry_by (is d) n w at body) (item-plain d q e h)
 
-        pub message-read : d.shape.typ ≡ TYPE_MESSAGE → (p : LookupScope) → L.message (path_of s d) ≡ Found p
+        pub message-read : d.shape.typ ≡ TYPE_MESSAGE → (p : LookupScope) → L.message (path_of s d) ≡ Ok p
             → records_from L s inner m place 0 (record_bytes n w lead body ++ ys)
             ≡ enclosed (entry_by (is d) n w (place + head_size n w lead) body) (inner (reached_by s d p) (place + head_size n w lead) body)
             (records_from L s inner m (place + length (record_bytes n w lead body)) 0 ys)

@@ -1,15 +1,13 @@
 -- Which records of every listed reading are known, by what, and which are entered. The statement stands at the end.
 -- Assumes nothing.
-use Rattle.std.specs.Prelude.{◌≡◌, refl, List, [], ◌∷◌, ℕ, None}
+use Rattle.std.specs.Prelude.{◌≡◌, refl, List, [], ◌∷◌, ℕ, None, Some, Ok}
 use Rattle.basis.specs.Kit.{some as is}
 use Rattle.basis.proofs.Kit.{arith}
 use Rattle.basis.proofs.Never.{never}
 use mathlib.Core.Path.{subst}
 use Rattle.types.specs.Types.{wire_of, TYPE_MESSAGE}
 use Rattle.sheet.specs.declared.declaration.Declaration.{Declaration}
-use Rattle.sheet.specs.declared.declaration.Declared.TheVariants.{Declares, NoDeclaration}
 use Rattle.scope.specs.declared.lookup.LookupScope.{LookupScope}
-use Rattle.fullname.specs.declared.LookedUp.TheVariants.{Message as Found}
 use Rattle.lookups.specs.Lookups.{Lookups, Message}
 use Rattle.entries.specs.declared.Entry.{Entry}
 use Rattle.entries.specs.Tree.{Tree, end, leaves}
@@ -23,10 +21,10 @@ use Rattle.readback.proofs.ItemLaws.{Made, made-wrong, made-unknown, made_plain,
 
 -- ---- one record
 module _ (s : List ℕ) (m : Message) (e : Entry) where
-  known-none : declared s m e.number ≡ None → e.by ≡ NoDeclaration → e.typ ≡ 0 → KnownBy s m e
+  known-none : declared s m e.number ≡ None → e.by ≡ None → e.typ ≡ 0 → KnownBy s m e
   known-none q b t = record { by = rw q b; typ = rw q t; wire = λ d g. never cc }
 
-  known_some : (d : Declaration) → declared s m e.number ≡ is d → e.by ≡ Declares d → e.typ ≡ d.shape.typ
+  known_some : (d : Declaration) → declared s m e.number ≡ is d → e.by ≡ Some d → e.typ ≡ d.shape.typ
       → wire_of d.shape.typ ≡ e.wire → KnownBy s m e
   known_some d q b t w = record {
     by = rw q b;
@@ -39,7 +37,7 @@ module _ (L : Lookups) (s : List ℕ) where
     pub known : KnownBy s m e
     pub declares : DeclaredAs s m e.number TYPE_MESSAGE
     pub place : LookupScope
-    pub found : L.message (path_of s declares.by) ≡ Found place
+    pub found : L.message (path_of s declares.by) ≡ Ok place
     pub is : n ≡ reached_by s declares.by place
 
   abbrev ItemKnown : Message → Item → Type 0

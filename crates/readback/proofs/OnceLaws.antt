@@ -1,7 +1,7 @@
 -- What declares a number at a message: a field of the message or an extension of it, and, where each number is declared once, whichever
 -- was found by its name. The statements stand at the end.
 -- Assumes nothing.
-use Rattle.std.specs.Prelude.{◌≡◌, refl, List, ℕ, Option, None, Some}
+use Rattle.std.specs.Prelude.{◌≡◌, refl, List, ℕ, Option, None, Some, Ok}
 use Rattle.basis.specs.Kit.{ap}
 use Rattle.basis.specs.First.{or_else}
 use Rattle.basis.proofs.Kit.{eq-eqb}
@@ -15,7 +15,6 @@ use Rattle.sheet.specs.Tree.{tree_of}
 use Rattle.sheet.specs.Members.{fields_of, every_extension}
 use Rattle.scope.specs.Scope.{holding, extends}
 use Rattle.numbers.specs.Number.{has_number, is_extension_of, field_numbered, extension_numbered, declaration_of}
-use Rattle.fullname.specs.declared.LookedUp.TheVariants.{Message as Found}
 use Rattle.lookups.specs.Lookups.{Lookups, Message}
 use Rattle.entries.specs.Item.{declared}
 use Rattle.readback.specs.Once.{DeclaredAt, as-field, as-extension, Once}
@@ -55,7 +54,7 @@ module _ (s : List ℕ) (m : Message) (n : ℕ) where
       go (Some x) f q k e = never cc
 
 -- Where each number is declared once, that is the declaration itself.
-pub declared-once : (L : Lookups) (s : List ℕ) → Once L s → (m : Message) → L.message m.name ≡ Found m.place
+pub declared-once : (L : Lookups) (s : List ℕ) → Once L s → (m : Message) → L.message m.name ≡ Ok m.place
     → (d : Declaration) → DeclaredAt s m d → declared s m d.shape.number ≡ Some d
 declared-once L s once m at d k = go (declared s m d.shape.number) refl
   where

@@ -1,13 +1,11 @@
 -- What the call `payload` hands back: of a place and a length inside the option bytes that part, of others none.
 -- Assumes nothing.
-use Rattle.std.specs.Prelude.{◌≡◌, List, ℕ, ◌+◌, ◌≤◌, ◌<◌, length}
+use Rattle.std.specs.Prelude.{◌≡◌, List, ℕ, ◌+◌, ◌≤◌, ◌<◌, length, Err, Ok}
 use Rattle.basis.specs.Kit.{sym, ap, ◌∙◌}
 use borrow.Author.Tests.{le-leb, lt-leb}
 use Rattle.limits.specs.Figures.{most_option_bytes}
 use Rattle.reply.specs.declared.Refusal.TheVariants.{BadRequest, BeyondLimit}
-use Rattle.reply.specs.declared.Verdict.{Verdict}
-use Rattle.reply.specs.declared.Verdict.TheVariants.{Fine, Refused}
-use Rattle.reply.specs.Verdicts.{answer_for}
+use Rattle.reply.specs.Verdicts.{answer_for, Verdict}
 use Rattle.reply.specs.Reply.{refused_by, done_with}
 use Rattle.field.specs.declared.Span.{Span}
 use Rattle.field.specs.Leaf.{span}
@@ -15,15 +13,15 @@ use Rattle.field.specs.Part.{PartOf, no_bytes}
 use Rattle.payload.specs.Payload.{judge_bytes, judge_payload, span_for, payload_span, payload_answer}
 
 module _ (bs : List ℕ) (at n : ℕ) where
-  judged-inside : length bs ≤ most_option_bytes → at + n ≤ length bs → judge_payload bs at n ≡ Fine
+  judged-inside : length bs ≤ most_option_bytes → at + n ≤ length bs → judge_payload bs at n ≡ Ok tt
   unfolding judge_payload judge_bytes
   judged-inside few h = rw (le-leb (length bs) most_option_bytes few, le-leb (at + n) (length bs) h)
 
-  judged-outside : length bs ≤ most_option_bytes → length bs < at + n → judge_payload bs at n ≡ Refused BadRequest
+  judged-outside : length bs ≤ most_option_bytes → length bs < at + n → judge_payload bs at n ≡ Err BadRequest
   unfolding judge_payload judge_bytes
   judged-outside few h = rw (le-leb (length bs) most_option_bytes few, lt-leb (at + n) (length bs) h)
 
-  judged-long : most_option_bytes < length bs → judge_payload bs at n ≡ Refused BeyondLimit
+  judged-long : most_option_bytes < length bs → judge_payload bs at n ≡ Err BeyondLimit
   unfolding judge_payload judge_bytes
   judged-long h = rw (lt-leb (length bs) most_option_bytes h)
 
@@ -36,16 +34,16 @@ module _ (bs : List ℕ) (at n : ℕ) where
   -- A place and a length inside give that part, and 0 with its length,
   pub payload-inside : length bs ≤ most_option_bytes → at + n ≤ length bs
       → (payload_span bs at n ≡ span at (at + n)) × (payload_answer bs at n ≡ done_with n)
-  payload-inside few h = handed Fine (judged-inside few h)
+  payload-inside few h = handed (Ok tt) (judged-inside few h)
 
   -- others an empty part, and 2,
   pub payload-outside : length bs ≤ most_option_bytes → length bs < at + n
       → (payload_span bs at n ≡ no_bytes) × (payload_answer bs at n ≡ refused_by BadRequest)
-  payload-outside few h = handed (Refused BadRequest) (judged-outside few h)
+  payload-outside few h = handed (Err BadRequest) (judged-outside few h)
 
   -- over-long bytes an empty part, and 3.
   pub payload-long : most_option_bytes < length bs → (payload_span bs at n ≡ no_bytes) × (payload_answer bs at n ≡ refused_by BeyondLimit)
-  payload-long h = handed (Refused BeyondLimit) (judged-long h)
+  payload-long h = handed (Err BeyondLimit) (judged-long h)
 
 -- Any two parts that the contract allows are the same bytes in the same place.
 pub part-unique : (p : Span) (s : List ℕ) (b o : ℕ) (t t' : List ℕ) (b' b'' o' o'' : ℕ) → PartOf p s b o t b' o' → PartOf p s b o t' b'' o''

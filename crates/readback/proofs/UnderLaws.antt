@@ -1,17 +1,16 @@
 -- The records of option bytes under an options type are the reading of the bytes inside the message that the options type is.
 -- Assumes nothing.
-use Rattle.std.specs.Prelude.{◌≡◌, refl, List, ℕ}
+use Rattle.std.specs.Prelude.{◌≡◌, refl, List, ℕ, Err, Ok, Result}
 use Rattle.basis.proofs.Never.{never}
 use Rattle.limits.specs.Figures.{most_levels}
 use Rattle.scope.specs.declared.lookup.LookupScope.{LookupScope}
-use Rattle.fullname.specs.declared.LookedUp.{LookedUp}
-use Rattle.fullname.specs.declared.LookedUp.TheVariants.{Message as Found, NoMessage}
 use Rattle.lookups.specs.Lookups.{Lookups, Message}
 use Rattle.entries.specs.Tree.{Tree}
 use Rattle.entries.specs.Reading.{Listed, listed, refused, reading, under, within, on_type, records_of}
+use Rattle.reply.specs.declared.Refusal.{Refusal}
 
 module _ (L : Lookups) (s type bs : List ℕ) where
-  pub reading-under : (p : LookupScope) → L.message type ≡ Found p → (t : Tree)
+  pub reading-under : (p : LookupScope) → L.message type ≡ Ok p → (t : Tree)
       → reading L s most_levels (record { name = type; place = p }) 0 bs ≡ listed t
       → records_of L s type bs ≡ under (record { name = type; place = p }) t
   unfolding records_of
@@ -29,8 +28,8 @@ module _ (L : Lookups) (s type bs : List ℕ) where
   unfolding records_of
   under-reading m t = go (L.message type)
     where
-      go : (u : LookedUp) → on_type L s type bs u ≡ under m t → reading L s most_levels m 0 bs ≡ listed t
-      go (NoMessage w) e = never cc
-      go (Found p) e =
+      go : (u : Result LookupScope Refusal) → on_type L s type bs u ≡ under m t → reading L s most_levels m 0 bs ≡ listed t
+      go (Err w) e = never cc
+      go (Ok p) e =
           let n : Message = record { name = type; place = p } in
           within-reading n m t (reading L s most_levels n 0 bs) refl e

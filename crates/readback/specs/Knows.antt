@@ -9,8 +9,6 @@
 use Rattle.std.specs.Prelude.{◌≡◌, List, ℕ, Option, None, Some}
 use Rattle.types.specs.Types.{wire_of, TYPE_MESSAGE}
 use Rattle.sheet.specs.declared.declaration.Declaration.{Declaration}
-use Rattle.sheet.specs.declared.declaration.Declared.{Declared}
-use Rattle.sheet.specs.declared.declaration.Declared.TheVariants.{Declares, NoDeclaration}
 use Rattle.lookups.specs.Lookups.{Lookups, Message}
 use Rattle.entries.specs.declared.Entry.{Entry}
 use Rattle.entries.specs.Tree.{Tree, end, one, held}
@@ -18,9 +16,9 @@ use Rattle.entries.specs.Item.{declared}
 use Rattle.readback.specs.Seen.{Names}
 use Rattle.readback.specs.Typed.{DeclaredAs}
 
-abbrev pub by_of : Option Declaration → Declared
-by_of None = NoDeclaration
-by_of (Some d) = Declares d
+abbrev pub by_of : Option Declaration → Option Declaration
+by_of None = None
+by_of (Some d) = Some d
 
 abbrev pub type_of : Option Declaration → ℕ
 type_of None = 0
@@ -31,7 +29,7 @@ type_of (Some d) = d.shape.typ
 pub record KnownBy (s : List ℕ) (m : Message) (e : Entry) : Type 0 where
   pub by : e.by ≡ by_of (declared s m e.number)
   pub typ : e.typ ≡ type_of (declared s m e.number)
-  pub wire : (d : Declaration) → e.by ≡ Declares d → wire_of d.shape.typ ≡ e.wire
+  pub wire : (d : Declaration) → e.by ≡ Some d → wire_of d.shape.typ ≡ e.wire
 
 -- 01, Listing: "a known message's inside directly after it; unknown ones are not entered" [LIST-2]
 module _ (L : Lookups) (s : List ℕ) where

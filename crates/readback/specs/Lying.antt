@@ -7,22 +7,21 @@
 --        Lying bs a b t <-> so do all records of t, each behind the end of the one before it, and what a message holds inside its payload
 --
 -- Assumes nothing.
-use Rattle.std.specs.Prelude.{◌≡◌, List, ℕ, ◌+◌, ◌≤◌}
+use Rattle.std.specs.Prelude.{◌≡◌, List, ℕ, ◌+◌, ◌≤◌, Some, None, Option}
 use Rattle.octets.specs.Octets.{part}
 use Rattle.payloads.specs.Value.{said, value_of}
-use Rattle.sheet.specs.declared.declaration.Declared.{Declared}
-use Rattle.sheet.specs.declared.declaration.Declared.TheVariants.{Declares, NoDeclaration}
 use Rattle.entries.specs.declared.Entry.{Entry}
 use Rattle.entries.specs.Tree.{Tree, end, one, held}
+use Rattle.sheet.specs.declared.declaration.Declaration.{Declaration}
 
 -- 01, Listing: "place and length of the payload" [LIST-5]
 abbrev pub payload_of : List ℕ → Entry → List ℕ
 payload_of bs e = part bs e.place (e.place + e.size)
 
 -- 01, Listing: "Length-delimited and unknown records have value 0" [LIST-6, LIST-7]
-abbrev pub said_by : Declared → (typ wire : ℕ) (payload : List ℕ) → ℕ
-said_by NoDeclaration t w p = 0
-said_by (Declares d) t w p = value_of t (said w p)
+abbrev pub said_by : Option Declaration → (typ wire : ℕ) (payload : List ℕ) → ℕ
+said_by None t w p = 0
+said_by (Some d) t w p = value_of t (said w p)
 
 pub record RecordLies (bs : List ℕ) (from to : ℕ) (e : Entry) : Type 0 where
   pub behind : from ≤ e.place

@@ -12,23 +12,22 @@
 --   told L s m l rs ==  what the records rs, at the level l inside the message m, hold as the older has it
 --
 -- Assumes nothing.
-use Rattle.std.specs.Prelude.{◌≡◌, List, [], ◌∷◌, ◌++◌, ℕ, suc, Option, None, Some}
+use Rattle.std.specs.Prelude.{◌≡◌, List, [], ◌∷◌, ◌++◌, ℕ, suc, Option, None, Some, Err, Ok, Result}
 use Rattle.types.specs.Types.{TYPE_MESSAGE}
 use Rattle.sheet.specs.declared.declaration.Declaration.{Declaration}
 use Rattle.scope.specs.declared.lookup.LookupScope.{LookupScope}
-use Rattle.fullname.specs.declared.LookedUp.{LookedUp}
-use Rattle.fullname.specs.declared.LookedUp.TheVariants.{Message as Found, NoMessage}
 use Rattle.lookups.specs.Lookups.{Lookups, Message}
 use Rattle.records.specs.Records.{Recs, nil, number, bytes, message, payload, encode}
 use Rattle.entries.specs.Item.{declared}
 use Rattle.readback.specs.Seen.{path_of, reached_by, Names}
 use Rattle.readback.specs.Typed.{Content, content_at}
+use Rattle.reply.specs.declared.Refusal.{Refusal}
 
 module _ (L : Lookups) (s : List ℕ) (L' : Lookups) (s' : List ℕ) (Same : Message → Message → Type 0) where
   -- 01, "Contained: .. each number declared for a message there has the same name, type and type path" [CONTAIN-1]
   pub record Kept (d d' : Declaration) : Type 0 where
     pub typ : d.shape.typ ≡ d'.shape.typ
-    pub path : d'.shape.typ ≡ TYPE_MESSAGE → (p : LookupScope) → L'.message (path_of s' d') ≡ Found p
+    pub path : d'.shape.typ ≡ TYPE_MESSAGE → (p : LookupScope) → L'.message (path_of s' d') ≡ Ok p
         → Names L s d (λ m. Same m (reached_by s' d' p))
 
   abbrev pub Keeps : Type 0
@@ -40,9 +39,9 @@ abbrev pub told_as : Option Declaration → Content → Content
 told_as None x = record { level = x.level; number = x.number; typ = 0; value = 0; payload = x.payload }
 told_as (Some d) x = x
 
-abbrev pub within : (s : List ℕ) → Declaration → LookedUp → (Message → List Content) → List Content
-within s d (Found p) f = f (reached_by s d p)
-within s d (NoMessage w) f = []
+abbrev pub within : (s : List ℕ) → Declaration → Result LookupScope Refusal → (Message → List Content) → List Content
+within s d (Ok p) f = f (reached_by s d p)
+within s d (Err w) f = []
 
 module _ (L : Lookups) (s : List ℕ) where
   -- "and what lies inside it is left out"

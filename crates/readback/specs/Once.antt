@@ -4,13 +4,12 @@
 --           Once L s <-> no number is declared twice for one message that is looked up
 --
 -- Assumes nothing.
-use Rattle.std.specs.Prelude.{◌≡◌, true, List, ℕ}
+use Rattle.std.specs.Prelude.{◌≡◌, true, List, ℕ, Ok}
 use Rattle.basis.specs.Among.{Among}
 use Rattle.sheet.specs.declared.declaration.Declaration.{Declaration}
 use Rattle.sheet.specs.Tree.{tree_of}
 use Rattle.sheet.specs.Members.{fields_of, every_extension}
 use Rattle.scope.specs.Scope.{holding, extends}
-use Rattle.fullname.specs.declared.LookedUp.TheVariants.{Message as Found}
 use Rattle.lookups.specs.Lookups.{Lookups, Message}
 
 -- 01, Listing: "A number is known if the message, or an extension of it, declares it" [LIST-3]
@@ -21,5 +20,5 @@ pub data DeclaredAt (s : List ℕ) (m : Message) (d : Declaration) : Type 0 wher
 -- 01, "Clean: .. no number is declared twice for one message, extensions counted" [CLEAN-4]
 abbrev pub Once : Lookups → (s : List ℕ) → Type 0
 Once L s =
-    (m : Message) → L.message m.name ≡ Found m.place → (d e : Declaration) → DeclaredAt s m d → DeclaredAt s m e
+    (m : Message) → L.message m.name ≡ Ok m.place → (d e : Declaration) → DeclaredAt s m d → DeclaredAt s m e
     → d.shape.number ≡ e.shape.number → d ≡ e

@@ -15,24 +15,22 @@
 --                           names one, inside which it is so again. Of a number that is not declared nothing is asked
 --
 -- Assumes nothing.
-use Rattle.std.specs.Prelude.{◌≡◌, List, ◌++◌, ℕ, suc, ◌+◌, length, max, Option, None, Some}
+use Rattle.std.specs.Prelude.{◌≡◌, List, ◌++◌, ℕ, suc, ◌+◌, length, max, Option, None, Some, Err, Ok, Result}
 use Rattle.field.specs.Leaf.{text}
 use Rattle.types.specs.Types.{wire_of, LEN, TYPE_MESSAGE}
 use Rattle.payloads.specs.Value.{said, value_of}
 use Rattle.sheet.specs.declared.declaration.Declaration.{Declaration}
-use Rattle.sheet.specs.declared.declaration.Declared.TheVariants.{Declares, NoDeclaration}
 use Rattle.scope.specs.declared.lookup.LookupScope.{LookupScope}
-use Rattle.fullname.specs.declared.LookedUp.{LookedUp}
-use Rattle.fullname.specs.declared.LookedUp.TheVariants.{Message as Found, NoMessage}
 use Rattle.lookups.specs.Lookups.{Lookups, Message}
 use Rattle.records.specs.Records.{Recs, nil, number, bytes, message, payload, headed, head_of, sized, encode}
 use Rattle.entries.specs.declared.Entry.{Entry}
 use Rattle.entries.specs.Tree.{Tree, end, one, held}
 use Rattle.entries.specs.Item.{declared}
+use Rattle.reply.specs.declared.Refusal.{Refusal}
 
 -- 01, Listing: "type (0 unknown)"; "Length-delimited and unknown records have value 0" [LIST-1, LIST-7]
 abbrev pub entry_by : Option Declaration → (number wire place : ℕ) (payload : List ℕ) → Entry
-entry_by None n w at bs = record { number = n; typ = 0; wire = w; place = at; size = length bs; value = 0; by = NoDeclaration }
+entry_by None n w at bs = record { number = n; typ = 0; wire = w; place = at; size = length bs; value = 0; by = None }
 entry_by (Some d) n w at bs = record {
   number = n;
   typ = d.shape.typ;
@@ -40,7 +38,7 @@ entry_by (Some d) n w at bs = record {
   place = at;
   size = length bs;
   value = value_of d.shape.typ (said w bs);
-  by = Declares d;
+  by = Some d;
 }
 
 abbrev pub path_of : (s : List ℕ) → Declaration → List ℕ
@@ -49,9 +47,9 @@ path_of s d = text s d.shape.path
 abbrev pub reached_by : (s : List ℕ) → Declaration → LookupScope → Message
 reached_by s d p = record { name = path_of s d; place = p }
 
-abbrev pub on_path : (s : List ℕ) → Declaration → LookedUp → (Message → Tree) → Tree → Tree
-on_path s d (Found p) f t = f (reached_by s d p)
-on_path s d (NoMessage w) f t = t
+abbrev pub on_path : (s : List ℕ) → Declaration → Result LookupScope Refusal → (Message → Tree) → Tree → Tree
+on_path s d (Ok p) f t = f (reached_by s d p)
+on_path s d (Err w) f t = t
 
 module _ (L : Lookups) (s : List ℕ) where
   -- 01, Listing: "a known message's inside directly after it; unknown ones are not entered" [LIST-2]
@@ -85,7 +83,7 @@ Plain s m n = (d : Declaration) → declared s m n ≡ Some d → d.shape.typ �
 
 pub record Names (L : Lookups) (s : List ℕ) (d : Declaration) (P : Message → Type 0) : Type 0 where
   pub place : LookupScope
-  pub found : L.message (path_of s d) ≡ Found place
+  pub found : L.message (path_of s d) ≡ Ok place
   pub inside : P (reached_by s d place)
 
 module _ (L : Lookups) (s : List ℕ) where

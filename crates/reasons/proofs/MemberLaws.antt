@@ -1,7 +1,7 @@
 -- The laws of members: the ways through the functions that look at one field, the loops over them, and that they are the fields of a
 -- message or the values of an enum.
 -- Assumes nothing.
-use Rattle.std.specs.Prelude.{◌≡◌, refl, Bool, true, false, List, [], ◌++◌, map, ℕ, ◌+◌, ◌-◌, ◌≤◌, eqb, length}
+use Rattle.std.specs.Prelude.{◌≡◌, refl, Bool, true, false, List, [], ◌++◌, map, ℕ, ◌+◌, ◌-◌, ◌≤◌, eqb, length, None, Some, Option}
 use Rattle.basis.specs.Kit.{sym, ap, ◌∙◌}
 use Rattle.basis.specs.First.{only_if}
 use Rattle.basis.specs.Count.{count, once}
@@ -9,19 +9,13 @@ use Rattle.basis.proofs.Kit.{arith, eq-eqb, ne_eqb}
 use Rattle.basis.proofs.Never.{never}
 use Rattle.basis.proofs.CountLaws.{count-append}
 use Rattle.octets.specs.Octets.{same_bytes}
-use Rattle.field.specs.declared.Leaf.{Leaf}
-use Rattle.field.specs.declared.Leaf.TheVariants.{At, Not}
 use Rattle.field.specs.declared.Span.{Span}
 use Rattle.field.specs.Leaf.{span, text, is_text}
 use Rattle.field.specs.Walk.{Walk, done, cut, step, walk}
 use Rattle.field.proofs.Seek.{seek, seek_is, seek-laws}
 use Rattle.field.proofs.Tally.{Tally, total, tally-start, tally-laws}
 use Rattle.sheet.specs.declared.declaration.Declaration.{Declaration}
-use Rattle.sheet.specs.declared.declaration.Declared.{Declared}
-use Rattle.sheet.specs.declared.declaration.Declared.TheVariants.{Declares, NoDeclaration}
 use Rattle.sheet.specs.declared.declaration.Value.{Value}
-use Rattle.sheet.specs.declared.declaration.Valued.{Valued}
-use Rattle.sheet.specs.declared.declaration.Valued.TheVariants.{Values, NoValue}
 use Rattle.sheet.specs.Table.{field_tag, value_tag}
 use Rattle.sheet.specs.Declaration.{message_field_at, value_at}
 use Rattle.sheet.specs.Tree.{value_onto, value_in, values_in, items_in}
@@ -37,31 +31,31 @@ use Rattle.reasons.proofs.ReasonLaws.{also-no}
 
 -- ---- member_at
 module _ (k : ℕ) (s : List ℕ) (t a e : ℕ) where
-  pub member-other : (t ≡ k → ⊥) → Not ≡ member_at k s t a e
+  pub member-other : (t ≡ k → ⊥) → None ≡ member_at k s t a e
   unfolding member_at
   member-other h = rw (member_at, ne_eqb t k h) refl
 
   module _ (h : t ≡ k) where
-    module _ (g : k ≡ field_tag) (r : Declared) (q : r ≡ message_field_at s a e) where
+    module _ (g : k ≡ field_tag) (r : Option Declaration) (q : r ≡ message_field_at s a e) where
       field-member : field_name r ≡ member_at k s t a e
       unfolding member_at
       field-member = rw (member_at, eq-eqb t k h, eq-eqb k field_tag g, ← q) refl
 
-      pub member-no-field : r ≡ NoDeclaration → Not ≡ member_at k s t a e
+      pub member-no-field : r ≡ None → None ≡ member_at k s t a e
       member-no-field u = ap field_name (sym u) ∙ field-member
 
-      pub member-field : (d : Declaration) → r ≡ Declares d → At d.name.from d.name.to ≡ member_at k s t a e
+      pub member-field : (d : Declaration) → r ≡ Some d → Some (span d.name.from d.name.to) ≡ member_at k s t a e
       member-field d u = ap field_name (sym u) ∙ field-member
 
-    module _ (g : k ≡ field_tag → ⊥) (r : Valued) (q : r ≡ value_at s a e) where
+    module _ (g : k ≡ field_tag → ⊥) (r : Option Value) (q : r ≡ value_at s a e) where
       value-member : value_name r ≡ member_at k s t a e
       unfolding member_at
       value-member = rw (member_at, eq-eqb t k h, ne_eqb k field_tag g, ← q) refl
 
-      pub member-no-value : r ≡ NoValue → Not ≡ member_at k s t a e
+      pub member-no-value : r ≡ None → None ≡ member_at k s t a e
       member-no-value u = ap value_name (sym u) ∙ value-member
 
-      pub member-value : (v : Value) → r ≡ Values v → At v.name.from v.name.to ≡ member_at k s t a e
+      pub member-value : (v : Value) → r ≡ Some v → Some (span v.name.from v.name.to) ≡ member_at k s t a e
       member-value v u = ap value_name (sym u) ∙ value-member
 
 pub ruleset member-at-laws = (member-other, member-no-field, member-field, member-no-value, member-value)
@@ -72,37 +66,35 @@ record Lies (end n m : ℕ) : Type 0 where
   inside : m ≤ end
 
 module _ (s : List ℕ) (a e : ℕ) (h : e ≤ length s) where
-  field-lies : (r : Declared) → r ≡ message_field_at s a e → (n m : ℕ) → field_name r ≡ At n m → Lies (length s) n m
-  field-lies NoDeclaration q n m g = never cc
-  field-lies (Declares d) q n m g =
-      let u : n ≡ d.name.from = cc in
-      let v : m ≡ d.name.to = cc in
-      rw (u, v) (record { ordered = field-name-ordered s a e (Declares d) q d refl; inside = field-name-within s a e (Declares d) q d refl h })
+  field-lies : (r : Option Declaration) → r ≡ message_field_at s a e → (p : Span) → field_name r ≡ Some p → Lies (length s) p.from p.to
+  field-lies None q p g = never cc
+  field-lies (Some d) q p g =
+      let u : p ≡ span d.name.from d.name.to = cc in
+      rw u (record { ordered = field-name-ordered s a e (Some d) q d refl; inside = field-name-within s a e (Some d) q d refl h })
 
-  value-lies : (r : Valued) → r ≡ value_at s a e → (n m : ℕ) → value_name r ≡ At n m → Lies (length s) n m
-  value-lies NoValue q n m g = never cc
-  value-lies (Values x) q n m g =
-      let u : n ≡ x.name.from = cc in
-      let v : m ≡ x.name.to = cc in
-      rw (u, v) (record { ordered = value-name-ordered s a e (Values x) q x refl; inside = value-name-within s a e (Values x) q x refl h })
+  value-lies : (r : Option Value) → r ≡ value_at s a e → (p : Span) → value_name r ≡ Some p → Lies (length s) p.from p.to
+  value-lies None q p g = never cc
+  value-lies (Some x) q p g =
+      let u : p ≡ span x.name.from x.name.to = cc in
+      rw u (record { ordered = value-name-ordered s a e (Some x) q x refl; inside = value-name-within s a e (Some x) q x refl h })
 
-  member-lies : (k t n m : ℕ) → member_at k s t a e ≡ At n m → Lies (length s) n m
+  member-lies : (k t : ℕ) (p : Span) → member_at k s t a e ≡ Some p → Lies (length s) p.from p.to
   unfolding member_at
-  member-lies k t n m = go (eqb t k) (eqb k field_tag)
+  member-lies k t p = go (eqb t k) (eqb k field_tag)
     where
       go : (b c : Bool)
-          → elim b [ true ↦ only_if c (field_name (message_field_at s a e)) (value_name (value_at s a e)) | false ↦ Not ] ≡ At n m
-          → Lies (length s) n m
-      go true true g = field-lies (message_field_at s a e) refl n m g
-      go true false g = value-lies (value_at s a e) refl n m g
+          → elim b [ true ↦ only_if c (field_name (message_field_at s a e)) (value_name (value_at s a e)) | false ↦ None ] ≡ Some p
+          → Lies (length s) p.from p.to
+      go true true g = field-lies (message_field_at s a e) refl p.from p.to g
+      go true false g = value-lies (value_at s a e) refl p.from p.to g
       go false c g = never cc
 
-module _ (k : ℕ) (s : List ℕ) (t a e : ℕ) (r : Leaf) (q : r ≡ member_at k s t a e) (n m : ℕ) (g : r ≡ At n m) (h : e ≤ length s) where
-  pub member-ordered : n ≤ m
-  member-ordered = (member-lies s a e h k t n m (sym q ∙ g)).ordered
+module _ (k : ℕ) (s : List ℕ) (t a e : ℕ) (r : Option Span) (q : r ≡ member_at k s t a e) (p : Span) (g : r ≡ Some p) (h : e ≤ length s) where
+  pub member-ordered : p.from ≤ p.to
+  member-ordered = (member-lies s a e h k t p.from p.to (sym q ∙ g)).ordered
 
-  pub member-within : m ≤ length s
-  member-within = (member-lies s a e h k t n m (sym q ∙ g)).inside
+  pub member-within : p.to ≤ length s
+  member-within = (member-lies s a e h k t p.from p.to (sym q ∙ g)).inside
 
 pub ruleset member-place-laws = (member-ordered, member-within)
 
@@ -110,11 +102,11 @@ pub ruleset member-place-laws = (member-ordered, member-within)
 abbrev pub one_named : (want : ℕ) (s name : List ℕ) (tag from to : ℕ) → ℕ
 one_named k s x t a e = count (is_text s x) (leaf_onto (member_at k s t a e) [])
 
-module _ (k : ℕ) (s x : List ℕ) (t a e : ℕ) (r : Leaf) (q : r ≡ member_at k s t a e) where
-  pub one-named-not : r ≡ Not → 0 ≡ one_named k s x t a e
+module _ (k : ℕ) (s x : List ℕ) (t a e : ℕ) (r : Option Span) (q : r ≡ member_at k s t a e) where
+  pub one-named-not : r ≡ None → 0 ≡ one_named k s x t a e
   one-named-not g = rw (← q, g) refl
 
-  module _ (n m : ℕ) (g : r ≡ At n m) (b : Bool) (u : b ≡ same_bytes x (text s (span n m))) where
+  module _ (p : Span) (g : r ≡ Some p) (b : Bool) (u : b ≡ same_bytes x (text s p)) where
     pub one-named-same : b ≡ true → 1 ≡ one_named k s x t a e
     one-named-same h = rw (← q, g, ← u, h) refl
 
@@ -124,9 +116,9 @@ module _ (k : ℕ) (s x : List ℕ) (t a e : ℕ) (r : Leaf) (q : r ≡ member_a
 pub ruleset one-named-laws = (one-named-not, one-named-same, one-named-other, member-place-laws)
 
 -- ---- count_named
-onto-append : (l : Leaf) (ns : List Span) → leaf_onto l ns ≡ leaf_onto l [] ++ ns
-onto-append Not ns = refl
-onto-append (At a e) ns = refl
+onto-append : (l : Option Span) (ns : List Span) → leaf_onto l ns ≡ leaf_onto l [] ++ ns
+onto-append None ns = refl
+onto-append (Some place) ns = refl
 
 named-total : (k : ℕ) (s x : List ℕ) (w : Walk) → count (is_text s x) (members_in k s w) ≡ total (one_named k s x) w
 named-total k s x done = refl
@@ -146,15 +138,15 @@ few-one u a e h = omega arith
 pub ruleset count-named-laws = (named_start, few-one, tally-laws)
 
 -- ---- flaw_of_member
-module _ (k : ℕ) (s : List ℕ) (w : Why) (i : ℕ) (ns : List Span) (t a e : ℕ) (r : Leaf) (q : r ≡ member_at k s t a e) where
-  pub member-flaw-not : r ≡ Not → Yes ≡ member_flaw s w i ns (member_at k s t a e)
+module _ (k : ℕ) (s : List ℕ) (w : Why) (i : ℕ) (ns : List Span) (t a e : ℕ) (r : Option Span) (q : r ≡ member_at k s t a e) where
+  pub member-flaw-not : r ≡ None → Yes ≡ member_flaw s w i ns (member_at k s t a e)
   unfolding member_flaw
   member-flaw-not g = rw (member_flaw, ← q, g) refl
 
-  pub member-flaw-at : (n m : ℕ) → r ≡ At n m → (u : ℕ) → u ≡ count (is_text s (text s (span n m))) ns → (x : Reason)
-      → x ≡ or_no (eqb u 1) w i (span n m) → x ≡ member_flaw s w i ns (member_at k s t a e)
+  pub member-flaw-at : (l : Span) → r ≡ Some l → (u : ℕ) → u ≡ count (is_text s (text s l)) ns → (x : Reason)
+      → x ≡ or_no (eqb u 1) w i l → x ≡ member_flaw s w i ns (member_at k s t a e)
   unfolding member_flaw
-  member-flaw-at n m g u p x y = y ∙ rw (member_flaw, ← q, g, p) refl
+  member-flaw-at l g u p x y = y ∙ rw (member_flaw, ← q, g, p) refl
 
 pub ruleset member-flaw-laws = (member-flaw-not, member-flaw-at, member-place-laws)
 
@@ -162,12 +154,12 @@ pub ruleset member-flaw-laws = (member-flaw-not, member-flaw-at, member-place-la
 abbrev pub flaw_at : (s : List ℕ) → Why → (index : ℕ) → List Span → (want tag from to : ℕ) → Reason
 flaw_at s w i ns k t a e = member_flaw s w i ns (member_at k s t a e)
 
-onto-flaw : (s : List ℕ) (w : Why) (i : ℕ) (all : List Span) (l : Leaf) (ns : List Span)
+onto-flaw : (s : List ℕ) (w : Why) (i : ℕ) (all : List Span) (l : Option Span) (ns : List Span)
     → reasons (λ n. or_no (once (is_text s (text s n)) all) w i n) (leaf_onto l ns)
     ≡ also (member_flaw s w i all l) (reasons (λ n. or_no (once (is_text s (text s n)) all) w i n) ns)
 unfolding member_flaw
-onto-flaw s w i all Not ns = refl
-onto-flaw s w i all (At a e) ns = refl
+onto-flaw s w i all None ns = refl
+onto-flaw s w i all (Some it) ns = refl
 
 pub member-flaws-is : (s : List ℕ) (w : Why) (i k from to : ℕ) (r : Reason)
     → r ≡ seek Yes also (flaw_at s w i (members_in k s (walk s from to)) k) (walk s from to)
@@ -187,11 +179,11 @@ members-fields d s cut = refl
 members-fields d s (step t a e w) =
     rw (members-fields d s w, fields-item d s t a e (items_in d s w)) (go (eqb t field_tag) (message_field_at s a e) (fields_of (items_in d s w)))
   where
-    go : (b : Bool) (x : Declared) (ds : List Declaration)
-        → leaf_onto (elim b [ true ↦ field_name x | false ↦ Not ]) (map (λ y. y.name) ds)
-        ≡ map (λ y. y.name) (listed (elim b [ true ↦ x | false ↦ NoDeclaration ]) ++ ds)
-    go true NoDeclaration ds = refl
-    go true (Declares x) ds = refl
+    go : (b : Bool) (x : Option Declaration) (ds : List Declaration)
+        → leaf_onto (elim b [ true ↦ field_name x | false ↦ None ]) (map (λ y. y.name) ds)
+        ≡ map (λ y. y.name) (listed (elim b [ true ↦ x | false ↦ None ]) ++ ds)
+    go true None ds = refl
+    go true (Some x) ds = refl
     go false x ds = refl
 
 -- and the values of an enum.
@@ -201,9 +193,9 @@ members-values s done = refl
 members-values s cut = refl
 members-values s (step t a e w) = rw (members-values s w) (go (eqb t value_tag) (value_at s a e) (values_in s w))
   where
-    go : (b : Bool) (x : Valued) (vs : List Value)
-        → leaf_onto (elim b [ true ↦ value_name x | false ↦ Not ]) (map (λ (v : Value). v.name) vs)
+    go : (b : Bool) (x : Option Value) (vs : List Value)
+        → leaf_onto (elim b [ true ↦ value_name x | false ↦ None ]) (map (λ (v : Value). v.name) vs)
         ≡ map (λ (v : Value). v.name) (elim b [ true ↦ value_onto x vs | false ↦ vs ])
-    go true NoValue vs = refl
-    go true (Values v) vs = refl
+    go true None vs = refl
+    go true (Some v) vs = refl
     go false x vs = refl

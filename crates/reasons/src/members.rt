@@ -7,35 +7,35 @@ ghost use Rattle.reasons.specs.Reasons.{member_flaws};
 ghost use Rattle.reasons.specs.inner.Members.{member_at, leaf_onto, members_in, member_flaw};
 
 use crate::{Reason, Why, or_no};
-use field::{Field, Leaf, Span, field_at};
+use field::{Field, Span, field_at};
 use octets::same;
-use sheet::declaration::{Declared, Valued, message_field_at, value_at};
+use sheet::declaration::{message_field_at, value_at};
 use sheet::table;
 
 // The name of the field or the value that a field is, where its tag is `want`, the one or the other.
-fn member_at(s: &[u8], tag: u8, item: Span, want: u8) -> Leaf
+fn member_at(s: &[u8], tag: u8, item: Span, want: u8) -> Option<Span>
     requires { Lies item s.now }
     ensures { result ≡ member_at want s.now tag item.from item.to }
 {
     if tag != want {
-        return Leaf::Not;
+        return None;
     }
     if want == table::FIELD {
-        let Declared::Declares(d) = message_field_at(s, item.from, item.to) else {
-            return Leaf::Not;
+        let Some(d) = message_field_at(s, item.from, item.to) else {
+            return None;
         };
-        return Leaf::At {
+        return Some(Span {
             from: d.name.from,
             to: d.name.to,
-        };
+        });
     }
-    let Valued::Values(v) = value_at(s, item.from, item.to) else {
-        return Leaf::Not;
+    let Some(v) = value_at(s, item.from, item.to) else {
+        return None;
     };
-    Leaf::At {
+    Some(Span {
         from: v.name.from,
         to: v.name.to,
-    }
+    })
 }
 
 // 1 where a field is such a member of this name.
@@ -44,7 +44,7 @@ fn one_named(s: &[u8], tag: u8, item: Span, want: u8, name: &[u8]) -> usize
     ensures { (result ≡ count (is_text s.now name.now)
         (leaf_onto (member_at want s.now tag item.from item.to) [])) × (result ≤ 1) }
 {
-    let Leaf::At { from, to } = member_at(s, tag, item, want) else {
+    let Some(Span { from, to }) = member_at(s, tag, item, want) else {
         return 0;
     };
     if same(name, &s[from..to]) { 1 } else { 0 }
@@ -60,7 +60,7 @@ fn count_named(s: &[u8], body: Span, want: u8, name: &[u8]) -> usize
     let mut n = 0;
     let mut p = body.from;
     while p < end {
-        let Field::Whole { tag, from, to } = field_at(s, p, end) else {
+        let Some(Field { tag, from, to }) = field_at(s, p, end) else {
             return n;
         };
         let item = Span { from: from, to: to };
@@ -85,7 +85,7 @@ fn flaw_of_member(
     ensures { result ≡ member_flaw s.now why index (members_in want s.now (walk s.now body.from body.to))
         (member_at want s.now tag item.from item.to) }
 {
-    let Leaf::At { from, to } = member_at(s, tag, item, want) else {
+    let Some(Span { from, to }) = member_at(s, tag, item, want) else {
         return Reason::Yes;
     };
     let n = count_named(s, body, want, &s[from..to]);
@@ -101,7 +101,7 @@ pub fn flaw_of_members(s: &[u8], body: Span, want: u8, why: Why, index: usize) -
     let end = body.to;
     let mut p = body.from;
     while p < end {
-        let Field::Whole { tag, from, to } = field_at(s, p, end) else {
+        let Some(Field { tag, from, to }) = field_at(s, p, end) else {
             return Reason::Yes;
         };
         let item = Span { from: from, to: to };

@@ -1,12 +1,11 @@
 -- What a writer of records answers and leaves: one set of laws for every enum that a writer answers.
 -- Assumes nothing.
-use Rattle.std.specs.Prelude.{◌≡◌, refl, List, ℕ, ◌+◌, ◌≤◌, length}
+use Rattle.std.specs.Prelude.{◌≡◌, refl, List, ℕ, ◌+◌, ◌≤◌, length, Err, Ok}
 use Rattle.basis.specs.Kit.{sym, ap, ◌∙◌}
 use Rattle.basis.proofs.Kit.{arith}
 use native.Mathlib.Nat.{add-zero, le_trans}
 use Rattle.basis.proofs.Never.{never}
 use Rattle.octets.specs.inner.Laid.{Laid}
-use Rattle.records.specs.declared.Wrote.TheVariants.{Next, Refused}
 use Rattle.records.specs.Records.{Recs, nil, encode}
 use Rattle.records.specs.Made.{Made, made, wrong}
 use Rattle.records.specs.inner.Emits.{wrote_of, Emits}
@@ -19,7 +18,7 @@ pub record Tells {W A : Type 0} (answers : ℕ → Made W → A) (next : ℕ →
   pub stop-inv : (v w : W) → stop v ≡ stop w → v ≡ w
   pub apart : (n : ℕ) (w : W) → next n ≡ stop w → ⊥
 
-pub wrote-tells : Tells wrote_of Next Refused
+pub wrote-tells : Tells wrote_of Ok Err
 unfolding wrote_of
 wrote-tells = record {
   makes = λ at x. refl;

@@ -1,14 +1,13 @@
 -- The payload of a number: its three forms, how many bytes it has, and that the number is read back from it.
 -- Assumes nothing.
-use Rattle.std.specs.Prelude.{◌≡◌, refl, Bool, true, false, [], ◌∷◌, ℕ, ◌%◌, ◌^◌, ◌≤◌, ◌<◌, eqb, ltb, length}
+use Rattle.std.specs.Prelude.{◌≡◌, refl, Bool, true, false, [], ◌∷◌, ℕ, ◌%◌, ◌^◌, ◌≤◌, ◌<◌, eqb, ltb, length, Some}
 use Rattle.basis.specs.Kit.{sym, ap, ◌∙◌}
 use Rattle.basis.proofs.Kit.{arith, ne_eqb}
 use mathlib.Core.List.{append-nil}
 use borrow.Author.Tests.{ltb-true, ltb-false}
 use Rattle.limits.specs.Figures.{most_varint}
 use Rattle.types.specs.Types.{is_any, wire_of, I32, I64, TYPE_SINT32, TYPE_SINT64}
-use Rattle.varint.specs.declared.Read.TheVariants.{Varint}
-use Rattle.varint.specs.Varint.{varint, read_varint}
+use Rattle.varint.specs.Varint.{varint, read_varint, read}
 use Rattle.varint.proofs.VarintLaws.{varint-few, read-varint}
 use Rattle.wire.specs.Fixed.{little_of, little}
 use Rattle.wire.specs.Numbers.{zigzag_of, low32_of}
@@ -75,7 +74,7 @@ module _ (t v : ℕ) where
     pub eight-back : wire_of t ≡ I64 → little (payload t v) ≡ v
     eight-back e = ap little (payload-eight e) ∙ little-little-of 8 v h
 
-    pub varint-back : (wire_of t ≡ I32 → ⊥) → (wire_of t ≡ I64 → ⊥) → read_varint (payload t v) ≡ Varint (on_type t v) (length (payload t v))
+    pub varint-back : (wire_of t ≡ I32 → ⊥) → (wire_of t ≡ I64 → ⊥) → read_varint (payload t v) ≡ Some (read (on_type t v) (length (payload t v)))
     varint-back c d =
         let x = on_type t v in
         rw (payload-varint c d) (ap read_varint (sym (append-nil (varint x))) ∙ read-varint x [] (on-type-lt h))

@@ -12,8 +12,7 @@ use lib.Seq.{take-append_seam, drop-append_seam}
 use borrow.Author.Tests.{eqb-true, le-leb}
 use Rattle.limits.specs.Figures.{most_number}
 use Rattle.types.specs.Types.{is_any, wire_of, VARINT, I64, I32, LEN}
-use Rattle.varint.specs.declared.Read.TheVariants.{Varint}
-use Rattle.varint.specs.Varint.{varint, read_varint}
+use Rattle.varint.specs.Varint.{varint, read_varint, read}
 use Rattle.varint.proofs.VarintLaws.{varint-some, read-varint, varint-shortest}
 use Rattle.wire.specs.Tag.{tag_of, wire_type_of, wire_read}
 use Rattle.wire.specs.Fixed.{little_of}
@@ -25,6 +24,7 @@ use Rattle.payloads.specs.Extent.{Extent, within, on_read, payload_at}
 use Rattle.records.specs.Raw.{Raw, behind_tag, front_of, raw_from, raw_of, raws_of, Proper}
 use Rattle.records.specs.Raw.{proper-nil, proper-number, proper-bytes, proper-message}
 use Rattle.records.proofs.PayloadLaws.{on_type, on-type-lt, payload-four, payload-eight, payload-varint}
+use Rattle.varint.specs.declared.Read.{Read}
 
 -- ---- one record after the other
 raw-skip : (xs ys : List ℕ) → raw_from (length xs) (xs ++ ys) ≡ raw_of ys
@@ -156,5 +156,5 @@ read-inside {n} {i} {r} (proper-message range q p) h =
     read_back q (omega (arith, length-append (sized n (encode i)) (encode r), length-append (head_of n (length (encode i))) (encode i)))
 
 -- and every tag, length and number is written by `varint`: it is the shortest of all that read as its value
-pub shortest : (bs : List ℕ) (v n : ℕ) → read_varint bs ≡ Varint v n → length (varint v) ≤ n
+pub shortest : (bs : List ℕ) (x : Read) → read_varint bs ≡ Some x → length (varint x.value) ≤ x.next
 shortest = varint-shortest

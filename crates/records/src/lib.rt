@@ -21,13 +21,6 @@ pub enum Body {
     Bytes(Span),
 }
 
-// What a writer of constants answers: the place after what it wrote, or why there is nothing to write.
-#[derive(Clone, Copy)]
-pub enum Wrote {
-    Next(usize),
-    Refused(Refusal),
-}
-
 // A number's bytes on a type.
 fn put_payload(out: &mut [u8], at: usize, typ: usize, bits: u64) -> usize
     requires { at < 2 ^ 63 }

@@ -1,28 +1,26 @@
 -- The laws of verdicts: the first fault is the answer, what `judge` returns, what a public call says, and what a verdict that is fine says
 -- of its parts.
 -- Assumes nothing.
-use Rattle.std.specs.Prelude.{◌≡◌, refl, Bool, true, false, ℕ}
+use Rattle.std.specs.Prelude.{◌≡◌, refl, Bool, true, false, ℕ, Err, Ok}
 use Rattle.basis.specs.Kit.{ap}
 use Rattle.basis.proofs.Never.{never}
 use Rattle.reply.specs.declared.Refusal.{Refusal}
-use Rattle.reply.specs.declared.Verdict.{Verdict}
-use Rattle.reply.specs.declared.Verdict.TheVariants.{Fine, Refused}
 use Rattle.reply.specs.declared.Answer.{Answer}
 use Rattle.reply.specs.Reply.{nowhere, refused_by, done_with, decided}
-use Rattle.reply.specs.Verdicts.{first_fault, judged, reply_of, second_of, answer_for, Says}
+use Rattle.reply.specs.Verdicts.{first_fault, judged, reply_of, second_of, answer_for, Says, Verdict}
 
 module _ (u v : Verdict) where
-  pub first-refused : (w : Refusal) → u ≡ Refused w → Refused w ≡ first_fault u v
+  pub first-refused : (w : Refusal) → u ≡ Err w → Err w ≡ first_fault u v
   first-refused w g = rw g
 
-  pub first_fine : u ≡ Fine → v ≡ first_fault u v
+  pub first_fine : u ≡ Ok tt → v ≡ first_fault u v
   first_fine g = rw g
 
 module _ (w : Refusal) (b : Bool) where
-  pub judged-true : b ≡ true → Fine ≡ judged w b
+  pub judged-true : b ≡ true → Ok tt ≡ judged w b
   judged-true g = rw g
 
-  pub judged-false : b ≡ false → Refused w ≡ judged w b
+  pub judged-false : b ≡ false → Err w ≡ judged w b
   judged-false g = rw g
 
 -- ---- an answer that is a verdict has its number and its second word
@@ -30,27 +28,27 @@ pub says : (v r : Verdict) → r ≡ v → Says v r
 says v r p = record { is = p; reply = ap reply_of p; second = ap second_of p }
 
 -- ---- what is fine
-pub refused-fine : (w : Refusal) → Refused w ≡ Fine → ⊥
+pub refused-fine : (w : Refusal) → Err w ≡ Ok tt → ⊥
 refused-fine w p = never cc
 
-pub first-fine-front : (u v : Verdict) → first_fault u v ≡ Fine → u ≡ Fine
-first-fine-front Fine v p = refl
-first-fine-front (Refused w) v p = p
+pub first-fine-front : (u v : Verdict) → first_fault u v ≡ Ok tt → u ≡ Ok tt
+first-fine-front (Ok _) v p = refl
+first-fine-front (Err w) v p = p
 
-pub first-fine-rest : (u v : Verdict) → first_fault u v ≡ Fine → v ≡ Fine
-first-fine-rest Fine v p = p
-first-fine-rest (Refused w) v p = absurd (refused-fine w p)
+pub first-fine-rest : (u v : Verdict) → first_fault u v ≡ Ok tt → v ≡ Ok tt
+first-fine-rest (Ok _) v p = p
+first-fine-rest (Err w) v p = absurd (refused-fine w p)
 
-pub judged-fine : (w : Refusal) (b : Bool) → judged w b ≡ Fine → b ≡ true
+pub judged-fine : (w : Refusal) (b : Bool) → judged w b ≡ Ok tt → b ≡ true
 judged-fine w true p = refl
 judged-fine w false p = absurd (refused-fine w p)
 
 -- ---- the answer of a call whose inputs are judged
 module _ (n : ℕ) (v : Verdict) (r : Answer) where
-  pub answer-fine : v ≡ Fine → r ≡ done_with n → r ≡ answer_for n v
+  pub answer-fine : v ≡ Ok tt → r ≡ done_with n → r ≡ answer_for n v
   answer-fine g e = rw g e
 
-  pub answer-refused : (w : Refusal) → v ≡ Refused w → r ≡ refused_by w → r ≡ answer_for n v
+  pub answer-refused : (w : Refusal) → v ≡ Err w → r ≡ refused_by w → r ≡ answer_for n v
   answer-refused w g e = rw g e
 
 pub ruleset answer-laws = (answer-fine, answer-refused)

@@ -10,14 +10,13 @@
 --   Answered o before after r <-> r is the answer of o, and the lent memory, `before` the call, is `after` it
 --
 -- Assumes nothing.
-use Rattle.std.specs.Prelude.{◌≡◌, true, false, List, ◌++◌, ℕ, ltb, length, drop}
+use Rattle.std.specs.Prelude.{◌≡◌, true, false, List, ◌++◌, ℕ, ltb, length, drop, Err, Ok}
 use Rattle.reply.specs.declared.Refusal.{Refusal}
 use Rattle.reply.specs.declared.Refusal.TheVariants.{NoRoom}
 use Rattle.reply.specs.declared.Cause.{Cause}
-use Rattle.reply.specs.declared.Verdict.{Verdict}
-use Rattle.reply.specs.declared.Verdict.TheVariants.{Fine, Refused}
 use Rattle.reply.specs.declared.Answer.{Answer}
 use Rattle.reply.specs.Reply.{bare, refused_for, done_with, absent_answer}
+use Rattle.reply.specs.Verdicts.{Verdict}
 
 pub data Outcome (A : Type 0) : Type 0 where
   refused : (cause : Cause) → Outcome A
@@ -28,8 +27,8 @@ abbrev pub refuse : {A : Type 0} → Refusal → Outcome A
 refuse w = refused (bare w)
 
 abbrev pub unless : {A : Type 0} → Verdict → Outcome A → Outcome A
-unless Fine o = o
-unless (Refused w) o = refuse w
+unless (Ok _) o = o
+unless (Err w) o = refuse w
 
 abbrev pub push : {A : Type 0} (front : List A) → Outcome A → Outcome A
 push front (refused c) = refused c

@@ -10,45 +10,46 @@
 --         Says v r <-> the answer r is the verdict v, and so has its number and its second word
 --
 -- Assumes nothing.
-use Rattle.std.specs.Prelude.{◌≡◌, Bool, true, false, ℕ}
+use Rattle.std.specs.Prelude.{◌≡◌, Bool, true, false, ℕ, Err, Ok}
 use Rattle.reply.specs.declared.Refusal.{Refusal}
 use Rattle.reply.specs.declared.Refusal.TheVariants.{BeyondLimit}
-use Rattle.reply.specs.declared.Verdict.{Verdict}
-use Rattle.reply.specs.declared.Verdict.TheVariants.{Fine, Refused}
 use Rattle.reply.specs.declared.Answer.{Answer}
 use Rattle.reply.specs.Reply.{number, second, refused_by, done_with, decided}
 
+abbrev pub Verdict : Type 0
+Verdict = Result Unit Refusal
+
 abbrev pub first_fault : (u v : Verdict) → Verdict
-first_fault Fine v = v
-first_fault (Refused w) v = Refused w
+first_fault (Ok _) v = v
+first_fault (Err w) v = Err w
 
 abbrev pub judged : Refusal → Bool → Verdict
-judged w true = Fine
-judged w false = Refused w
+judged w true = Ok tt
+judged w false = Err w
 
 -- 01, Replies: 3, "a figure of "Most allowed" .. passed" [LIMIT-1]
 abbrev pub beyond : Verdict
-beyond = Refused BeyondLimit
+beyond = Err BeyondLimit
 
 -- 01: "Where an answer is an enum, a definition gives this paper's number and values for each of its cases. The promises use that
 -- definition." [REPLY-9]
 abbrev pub reply_of : Verdict → ℕ
-reply_of Fine = 0
-reply_of (Refused w) = number w
+reply_of (Ok _) = 0
+reply_of (Err w) = number w
 
 abbrev pub second_of : Verdict → ℕ
-second_of Fine = 0
-second_of (Refused w) = second w
+second_of (Ok _) = 0
+second_of (Err w) = second w
 
 -- a call that comes to a length of inputs that are judged v [REPLY-4]
 abbrev pub answer_for : (size : ℕ) → Verdict → Answer
-answer_for n Fine = done_with n
-answer_for n (Refused w) = refused_by w
+answer_for n (Ok _) = done_with n
+answer_for n (Err w) = refused_by w
 
 -- a call that answers yes or no of inputs that are judged v [REPLY-2]
 abbrev pub asked : Verdict → (holds : Bool) → Answer
-asked Fine b = decided b
-asked (Refused w) b = refused_by w
+asked (Ok _) b = decided b
+asked (Err w) b = refused_by w
 
 pub record Says (v r : Verdict) : Type 0 where
   pub is : r ≡ v

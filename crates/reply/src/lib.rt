@@ -61,13 +61,6 @@ pub struct Positions {
     pub part: u32,
 }
 
-// What a test of form says of its bytes.
-#[derive(Clone, Copy)]
-pub enum Verdict {
-    Fine,
-    Refused(Refusal),
-}
-
 // What every public call returns: the reply's number, its second word, 1 for Absent, how much was written to the lent memory, and where it
 // was refused, the positions of an option and of a part of its name. C has the same record (include/opt.h).
 #[repr(C)]
@@ -90,13 +83,13 @@ impl Refusal {
 }
 
 // Fine where the test holds.
-pub fn judge(holds: bool, why: Refusal) -> Verdict
+pub fn judge(holds: bool, why: Refusal) -> Result<(), Refusal>
     ensures { result ≡ judged why holds }
 {
     if holds {
-        Verdict::Fine
+        Ok(())
     } else {
-        Verdict::Refused(why)
+        Err(why)
     }
 }
 
@@ -199,12 +192,12 @@ pub fn decided(holds: bool) -> Answer
 }
 
 // The answer of a call whose inputs are judged so, and that comes to this length where they are fine.
-pub fn answer_for(length: u32, verdict: Verdict) -> Answer
+pub fn answer_for(length: u32, verdict: Result<(), Refusal>) -> Answer
     ensures { result ≡ answer_for length verdict }
 {
     match verdict {
-        Verdict::Fine => done(length),
-        Verdict::Refused(why) => refused(why),
+        Ok(()) => done(length),
+        Err(why) => refused(why),
     }
 }
 

@@ -1,6 +1,6 @@
 -- The laws of constants: the ways through the readers of a number, a bool and a constant, and the places that a constant holds.
 -- Assumes nothing.
-use Rattle.std.specs.Prelude.{◌≡◌, refl, Bool, true, false, List, ℕ, ◌+◌, ◌-◌, ◌%◌, ◌^◌, ◌≤◌, ◌<◌, eqb, ltb, length, get_or}
+use Rattle.std.specs.Prelude.{◌≡◌, refl, Bool, true, false, List, ℕ, ◌+◌, ◌-◌, ◌%◌, ◌^◌, ◌≤◌, ◌<◌, eqb, ltb, length, get_or, Some, None, Option}
 use Rattle.basis.specs.Kit.{sym, ◌∙◌}
 use Rattle.basis.proofs.Kit.{arith, eq-eqb, ne_eqb, lt-ltb, le-ltb, w64, Fits}
 use mathlib.Core.Path.{subst}
@@ -14,8 +14,6 @@ use Rattle.field.specs.Leaf.{span}
 use Rattle.request.specs.declared.constant.Constant.{Constant}
 use Rattle.request.specs.declared.constant.Constant.TheVariants.{Bool as BoolOf, Integer, Float, NotANumber}
 use Rattle.request.specs.declared.constant.Constant.TheVariants.{Text, Ident, Message, List as ListOf}
-use Rattle.request.specs.declared.constant.Held.{Held}
-use Rattle.request.specs.declared.constant.Held.TheVariants.{Holds, NoConstant}
 use Rattle.request.specs.Table.{bool_tag, unsigned_tag, signed_tag, float_tag, string_tag, ident_tag, message_constant_tag, list_tag}
 use Rattle.request.specs.Constant.{integer_of, float_of, bool_of, number_with, numeric_of, constant_of}
 
@@ -54,16 +52,16 @@ pub ruleset float_laws = (float-nan, float-real, float_is)
 
 -- ---- a bool
 module _ (s : List ℕ) (a e : ℕ) where
-  pub bool-size : (e - a ≡ 1 → ⊥) → NoConstant ≡ bool_of s a e
+  pub bool-size : (e - a ≡ 1 → ⊥) → None ≡ bool_of s a e
   unfolding bool_of
   bool-size n = simp (bool_of, ne_eqb (e - a) 1 n)
 
   module _ (h : e - a ≡ 1) where
-    pub bool-other : 1 < get_or s a 0 → NoConstant ≡ bool_of s a e
+    pub bool-other : 1 < get_or s a 0 → None ≡ bool_of s a e
     unfolding bool_of
     bool-other k = simp (bool_of, eq-eqb (e - a) 1 h, lt-ltb 1 (get_or s a 0) k)
 
-    pub bool_is : get_or s a 0 ≤ 1 → Holds (BoolOf (eqb (get_or s a 0) 1)) ≡ bool_of s a e
+    pub bool_is : get_or s a 0 ≤ 1 → Some (BoolOf (eqb (get_or s a 0) 1)) ≡ bool_of s a e
     unfolding bool_of
     bool_is k = simp (bool_of, eq-eqb (e - a) 1 h, le-ltb 1 (get_or s a 0) k)
 
@@ -71,7 +69,7 @@ pub ruleset bool-laws = (bool-size, bool-other, bool_is)
 
 -- ---- a number
 module _ (s : List ℕ) (t a e : ℕ) where
-  pub number_size : (e - a ≡ 8 → ⊥) → NoConstant ≡ numeric_of s t a e
+  pub number_size : (e - a ≡ 8 → ⊥) → None ≡ numeric_of s t a e
   unfolding numeric_of
   number_size n = simp (numeric_of, ne_eqb (e - a) 8 n)
 
@@ -80,19 +78,19 @@ module _ (s : List ℕ) (t a e : ℕ) where
     unfolding numeric_of
     number-open = simp (numeric_of, eq-eqb (e - a) 8 h, ← q)
 
-    pub number-unsigned : t ≡ unsigned_tag → Holds (Integer false b) ≡ numeric_of s t a e
+    pub number-unsigned : t ≡ unsigned_tag → Some (Integer false b) ≡ numeric_of s t a e
     number-unsigned k = rw number-open (simp (number_with, eq-eqb t unsigned_tag k))
 
     module _ (n : t ≡ unsigned_tag → ⊥) where
-      pub number-signed : t ≡ signed_tag → (r : Constant) → r ≡ integer_of b → Holds r ≡ numeric_of s t a e
+      pub number-signed : t ≡ signed_tag → (r : Constant) → r ≡ integer_of b → Some r ≡ numeric_of s t a e
       number-signed k r p = rw (number-open, p) (simp (number_with, ne_eqb t unsigned_tag n, eq-eqb t signed_tag k))
 
       module _ (m : t ≡ signed_tag → ⊥) where
-        pub number-float : t ≡ float_tag → (r : Constant) → r ≡ float_of b → Holds r ≡ numeric_of s t a e
+        pub number-float : t ≡ float_tag → (r : Constant) → r ≡ float_of b → Some r ≡ numeric_of s t a e
         number-float k r p =
             rw (number-open, p) (simp (number_with, ne_eqb t unsigned_tag n, ne_eqb t signed_tag m, eq-eqb t float_tag k))
 
-        pub number-none : (t ≡ float_tag → ⊥) → NoConstant ≡ numeric_of s t a e
+        pub number-none : (t ≡ float_tag → ⊥) → None ≡ numeric_of s t a e
         number-none k =
             rw number-open (simp (number_with, ne_eqb t unsigned_tag n, ne_eqb t signed_tag m, ne_eqb t float_tag k))
 
@@ -100,34 +98,34 @@ pub ruleset number-laws = (number_size, number-unsigned, number-signed, number-f
 
 -- ---- a constant
 module _ (s : List ℕ) (t a e : ℕ) where
-  pub constant-bool : t ≡ bool_tag → (r : Held) → r ≡ bool_of s a e → r ≡ constant_of s t a e
+  pub constant-bool : t ≡ bool_tag → (r : Option Constant) → r ≡ bool_of s a e → r ≡ constant_of s t a e
   unfolding constant_of
   constant-bool k r q = q ∙ simp (constant_of, eq-eqb t bool_tag k)
 
   module _ (n : t ≡ bool_tag → ⊥) where
-    pub constant-text : t ≡ string_tag → Holds (Text (span a e)) ≡ constant_of s t a e
+    pub constant-text : t ≡ string_tag → Some (Text (span a e)) ≡ constant_of s t a e
     unfolding constant_of
     constant-text k = simp (constant_of, ne_eqb t bool_tag n, eq-eqb t string_tag k)
 
     module _ (m : t ≡ string_tag → ⊥) where
-      pub constant-ident : t ≡ ident_tag → Holds (Ident (span a e)) ≡ constant_of s t a e
+      pub constant-ident : t ≡ ident_tag → Some (Ident (span a e)) ≡ constant_of s t a e
       unfolding constant_of
       constant-ident k = simp (constant_of, ne_eqb t bool_tag n, ne_eqb t string_tag m, eq-eqb t ident_tag k)
 
       module _ (o : t ≡ ident_tag → ⊥) where
-        pub constant-message : t ≡ message_constant_tag → Holds (Message (span a e)) ≡ constant_of s t a e
+        pub constant-message : t ≡ message_constant_tag → Some (Message (span a e)) ≡ constant_of s t a e
         unfolding constant_of
         constant-message k =
             simp (constant_of, ne_eqb t bool_tag n, ne_eqb t string_tag m, ne_eqb t ident_tag o, eq-eqb t message_constant_tag k)
 
         module _ (p : t ≡ message_constant_tag → ⊥) where
-          pub constant-list : t ≡ list_tag → Holds (ListOf (span a e)) ≡ constant_of s t a e
+          pub constant-list : t ≡ list_tag → Some (ListOf (span a e)) ≡ constant_of s t a e
           unfolding constant_of
           constant-list k =
               simp
               (constant_of, ne_eqb t bool_tag n, ne_eqb t string_tag m, ne_eqb t ident_tag o, ne_eqb t message_constant_tag p, eq-eqb t list_tag k)
 
-          pub constant_number : (t ≡ list_tag → ⊥) → (r : Held) → r ≡ numeric_of s t a e → r ≡ constant_of s t a e
+          pub constant_number : (t ≡ list_tag → ⊥) → (r : Option Constant) → r ≡ numeric_of s t a e → r ≡ constant_of s t a e
           unfolding constant_of
           constant_number k r q =
               q
@@ -148,9 +146,9 @@ module _ (a e : ℕ) where
   Placed (Message p) = p ≡ span a e
   Placed (ListOf p) = p ≡ span a e
 
-  abbrev PlacedIn : Held → Type 0
-  PlacedIn NoConstant = Unit {0}
-  PlacedIn (Holds c) = Placed c
+  abbrev PlacedIn : Option Constant → Type 0
+  PlacedIn None = Unit {0}
+  PlacedIn (Some c) = Placed c
 
   signed-placed : (b : ℕ) → Placed (integer_of b)
   unfolding integer_of
@@ -173,7 +171,7 @@ module _ (a e : ℕ) where
   bool-placed s = go (eqb (e - a) 1) (ltb 1 (get_or s a 0))
     where
       go : (x y : Bool)
-          → PlacedIn (elim x [ true ↦ elim y [ true ↦ NoConstant | false ↦ Holds (BoolOf (eqb (get_or s a 0) 1)) ] | false ↦ NoConstant ])
+          → PlacedIn (elim x [ true ↦ elim y [ true ↦ None | false ↦ Some (BoolOf (eqb (get_or s a 0) 1)) ] | false ↦ None ])
       go true true = tt
       go true false = tt
       go false y = tt
@@ -187,10 +185,10 @@ module _ (a e : ℕ) where
 
       go : (w x y z : Bool) → PlacedIn (elim w [
         | true ↦ elim x [
-          | true ↦ Holds (Integer false b)
-          | false ↦ elim y [ true ↦ Holds (integer_of b) | false ↦ elim z [ true ↦ Holds (float_of b) | false ↦ NoConstant ] ]
+          | true ↦ Some (Integer false b)
+          | false ↦ elim y [ true ↦ Some (integer_of b) | false ↦ elim z [ true ↦ Some (float_of b) | false ↦ None ] ]
         ]
-        | false ↦ NoConstant
+        | false ↦ None
       ])
       go true true y z = tt
       go true false true z = signed-placed b
@@ -205,12 +203,12 @@ module _ (a e : ℕ) where
       go : (v w x y z : Bool) → PlacedIn (elim v [
         | true ↦ bool_of s a e
         | false ↦ elim w [
-          | true ↦ Holds (Text (span a e))
+          | true ↦ Some (Text (span a e))
           | false ↦ elim x [
-            | true ↦ Holds (Ident (span a e))
+            | true ↦ Some (Ident (span a e))
             | false ↦ elim y [
-              | true ↦ Holds (Message (span a e))
-              | false ↦ elim z [ true ↦ Holds (ListOf (span a e)) | false ↦ numeric_of s t a e ]
+              | true ↦ Some (Message (span a e))
+              | false ↦ elim z [ true ↦ Some (ListOf (span a e)) | false ↦ numeric_of s t a e ]
             ]
           ]
         ]
@@ -248,7 +246,7 @@ span-placed a e in-ident x = x
 span-placed a e in-message x = x
 span-placed a e in_list x = x
 
-module _ (s : List ℕ) (t a e : ℕ) (r : Held) (q : r ≡ constant_of s t a e) (c : Constant) (g : r ≡ Holds c) (p : Span) (o : SpanOf p c) where
+module _ (s : List ℕ) (t a e : ℕ) (r : Option Constant) (q : r ≡ constant_of s t a e) (c : Constant) (g : r ≡ Some c) (p : Span) (o : SpanOf p c) where
   pub span-place : p ≡ span a e
   span-place = span-placed a e o (subst (PlacedIn a e) (sym q ∙ g) (constant-placed a e s t))
 

@@ -1,12 +1,11 @@
 -- Closed cases of requests, which the checker computes: the request of P1 with its places, no options, no heading, and what is left out.
 -- Assumes nothing.
-use Rattle.std.specs.Prelude.{◌≡◌, refl, true, false, List, [], ◌∷◌, ◌++◌, ℕ}
+use Rattle.std.specs.Prelude.{◌≡◌, refl, true, false, List, [], ◌∷◌, ◌++◌, ℕ, None}
 use Rattle.octets.specs.Octets.{big_at}
 use Rattle.field.specs.Field.{field_at}
 use Rattle.field.specs.Leaf.{span, leaf_at}
 use Rattle.field.specs.Walk.{walk_by, walk}
 use Rattle.request.specs.declared.constant.Constant.TheVariants.{Integer}
-use Rattle.request.specs.declared.heading.Headed.TheVariants.{NoHeading}
 use Rattle.request.specs.Name.{part_with, part_of, after_parts}
 use Rattle.request.specs.Constant.{constant_of, numeric_of}
 use Rattle.request.specs.Tree.{none, scalar, unnamed}
@@ -41,7 +40,7 @@ unfolding request_of heading_of leaf_at field_at big_at walk_by
 bare = refl
 
 -- no heading: the options type is missing, or comes first
-headless : heading_of (0x18 ∷ 0 ∷ 1 ∷ 0x70 ∷ option) ∷ heading_of (0x19 ∷ 0 ∷ 1 ∷ 0x46 ∷ 0x18 ∷ 0 ∷ 0 ∷ []) ∷ [] ≡ NoHeading ∷ NoHeading ∷ []
+headless : heading_of (0x18 ∷ 0 ∷ 1 ∷ 0x70 ∷ option) ∷ heading_of (0x19 ∷ 0 ∷ 1 ∷ 0x46 ∷ 0x18 ∷ 0 ∷ 0 ∷ []) ∷ [] ≡ None ∷ None ∷ []
 unfolding heading_of leaf_at field_at big_at
 headless = refl
 

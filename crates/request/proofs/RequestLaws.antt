@@ -1,15 +1,11 @@
 -- The laws of a request: the ways through `heading_of`, where a heading lies, and where parts end.
 -- Assumes nothing.
-use Rattle.std.specs.Prelude.{◌≡◌, refl, Bool, true, false, List, ℕ, zero, suc, ◌-◌, ◌≤◌, ◌<◌, ltb, length}
+use Rattle.std.specs.Prelude.{◌≡◌, refl, Bool, true, false, List, ℕ, zero, suc, ◌-◌, ◌≤◌, ◌<◌, ltb, length, None, Some, Option}
 use Rattle.basis.specs.Kit.{sym, ◌∙◌}
 use Rattle.basis.proofs.Kit.{arith}
 use borrow.Author.Tests.{ltb-true, ltb-false}
 use Rattle.basis.proofs.Never.{never}
-use Rattle.field.specs.declared.Field.{Field}
-use Rattle.field.specs.declared.Field.TheVariants.{Whole, Cut}
-use Rattle.field.specs.declared.Leaf.{Leaf}
-use Rattle.field.specs.declared.Leaf.TheVariants.{At, Not}
-use Rattle.field.specs.Field.{field_at}
+use Rattle.field.specs.Field.{field_at, field}
 use Rattle.field.specs.Leaf.{span, any_bytes, on_leaf, leaf_at}
 use Rattle.field.specs.Walk.{walk}
 use Rattle.field.proofs.FieldLaws.{Bounds, field-bounds}
@@ -17,38 +13,36 @@ use Rattle.field.proofs.LeafLaws.{leaf-bounds, leaf-inside}
 use Rattle.field.proofs.WalkLaws.{walk-done, walk-cut, walk_step}
 use Rattle.field.proofs.Rest.{Rest, rest-start, rest_end}
 use Rattle.request.specs.declared.name.Part.{Part}
-use Rattle.request.specs.declared.name.Parted.{Parted}
-use Rattle.request.specs.declared.name.Parted.TheVariants.{Is, NoPart}
 use Rattle.request.specs.declared.heading.Heading.{Heading}
-use Rattle.request.specs.declared.heading.Headed.{Headed}
-use Rattle.request.specs.declared.heading.Headed.TheVariants.{Heads, NoHeading}
 use Rattle.request.specs.Table.{scope_tag, options_type_tag}
 use Rattle.request.specs.Name.{part_at, part_of, further, after_parts}
 use Rattle.request.specs.Request.{heading_of}
 use Rattle.request.proofs.PartLaws.{part-less, rest-no-part, rest-part-next}
+use Rattle.field.specs.declared.Field.{Field}
+use Rattle.field.specs.declared.Span.{Span}
 
 -- ---- the heading
 abbrev heading : ℕ → ℕ → ℕ → ℕ → Heading
 heading a b m e = record { scope = span a b; options_type = span m e; options = e }
 
-abbrev heads : ℕ → ℕ → ℕ → ℕ → Headed
-heads a b m e = Heads (heading a b m e)
+abbrev heads : ℕ → ℕ → ℕ → ℕ → Option Heading
+heads a b m e = Some (heading a b m e)
 
-module _ (s : List ℕ) (l : Leaf) (q : l ≡ leaf_at scope_tag any_bytes s 0 (length s)) where
-  pub heading-unscoped : l ≡ Not → NoHeading ≡ heading_of s
+module _ (s : List ℕ) (l : Option Span) (q : l ≡ leaf_at scope_tag any_bytes s 0 (length s)) where
+  pub heading-unscoped : l ≡ None → None ≡ heading_of s
   unfolding heading_of
   heading-unscoped g = rw (← q, g)
 
-  module _ (a b : ℕ) (g : l ≡ At a b) (l' : Leaf) (q' : l' ≡ leaf_at options_type_tag any_bytes s b (length s)) where
-    heading-open : heading_of s ≡ on_leaf NoHeading l' (heads a b)
+  module _ (p : Span) (g : l ≡ Some p) (l' : Option Span) (q' : l' ≡ leaf_at options_type_tag any_bytes s p.to (length s)) where
+    heading-open : heading_of s ≡ on_leaf None l' (heads p.from p.to)
     unfolding heading_of
     heading-open = rw (← q, g, ← q')
 
-    pub heading-untyped : l' ≡ Not → NoHeading ≡ heading_of s
+    pub heading-untyped : l' ≡ None → None ≡ heading_of s
     heading-untyped g' = rw (heading-open, g')
 
-    pub heading-is : (m e : ℕ) → l' ≡ At m e → heads a b m e ≡ heading_of s
-    heading-is m e g' = rw (heading-open, g')
+    pub heading-is : (u : Span) → l' ≡ Some u → heads p.from p.to u.from u.to ≡ heading_of s
+    heading-is u g' = rw (heading-open, g')
 
 pub ruleset heading-laws = (heading-unscoped, heading-untyped, heading-is, leaf-inside)
 
@@ -59,21 +53,21 @@ pub record HeadingPlaces (s : List ℕ) (h : Heading) : Type 0 where
   pub options : h.options ≡ h.options_type.to
 
 module _ (s : List ℕ) (h : Heading) where
-  typed : (a b : ℕ) → Bounds 0 (length s) a b → (l : Leaf) → l ≡ leaf_at options_type_tag any_bytes s b (length s)
-      → Heads h ≡ on_leaf NoHeading l (heads a b) → HeadingPlaces s h
-  typed a b k Not q g = never cc
-  typed a b k (At m e) q g =
-      let x : h ≡ heading a b m e = cc in
-      rw x (record { scope = k; options_type = leaf-bounds options_type_tag any_bytes s b (length s) (At m e) q m e refl; options = refl })
+  typed : (a b : ℕ) → Bounds 0 (length s) a b → (l : Option Span) → l ≡ leaf_at options_type_tag any_bytes s b (length s)
+      → Some h ≡ on_leaf None l (heads a b) → HeadingPlaces s h
+  typed a b k None q g = never cc
+  typed a b k (Some place) q g =
+      let x : h ≡ heading a b place.from place.to = cc in
+      rw x (record { scope = k; options_type = leaf-bounds options_type_tag any_bytes s b (length s) (Some (span place.from place.to)) q place refl; options = refl })
 
-  scoped : (l : Leaf) → l ≡ leaf_at scope_tag any_bytes s 0 (length s)
-      → Heads h ≡ on_leaf NoHeading l (λ a b. on_leaf NoHeading (leaf_at options_type_tag any_bytes s b (length s)) (heads a b))
+  scoped : (l : Option Span) → l ≡ leaf_at scope_tag any_bytes s 0 (length s)
+      → Some h ≡ on_leaf None l (λ a b. on_leaf None (leaf_at options_type_tag any_bytes s b (length s)) (heads a b))
       → HeadingPlaces s h
-  scoped Not q g = never cc
-  scoped (At a b) q g =
-      typed a b (leaf-bounds scope_tag any_bytes s 0 (length s) (At a b) q a b refl) (leaf_at options_type_tag any_bytes s b (length s)) refl g
+  scoped None q g = never cc
+  scoped (Some it) q g =
+      typed it.from it.to (leaf-bounds scope_tag any_bytes s 0 (length s) (Some (span it.from it.to)) q it refl) (leaf_at options_type_tag any_bytes s it.to (length s)) refl g
 
-module _ (s : List ℕ) (r : Headed) (q : r ≡ heading_of s) (h : Heading) (g : r ≡ Heads h) where
+module _ (s : List ℕ) (r : Option Heading) (q : r ≡ heading_of s) (h : Heading) (g : r ≡ Some h) where
   pub heading-places : HeadingPlaces s h
   unfolding heading_of
   heading-places = scoped s h (leaf_at scope_tag any_bytes s 0 (length s)) refl (sym g ∙ q)
@@ -104,11 +98,11 @@ module _ (v : ℕ) (s : List ℕ) (to at : ℕ) (k : Rest v (after_parts at) s t
   pub after-end : to ≤ at → at ≡ v
   after-end h = sym (rest_end v (after_parts at) s to at k h)
 
-  module _ (h : at < to) (r : Parted) (q : r ≡ part_at s at to) where
-    pub after_stop : r ≡ NoPart → at ≡ v
+  module _ (h : at < to) (r : Option Part) (q : r ≡ part_at s at to) where
+    pub after_stop : r ≡ None → at ≡ v
     after_stop g = sym (rest-no-part v (after_parts at) s to at k r q at refl refl (λ t a e w n. rw n) g)
 
-    pub after_next : (p : Part) → r ≡ Is p → Rest v (after_parts p.name.to) s to p.name.to
+    pub after_next : (p : Part) → r ≡ Some p → Rest v (after_parts p.name.to) s to p.name.to
     after_next p g = rest-part-next v (after_parts at) s to at k r q p g (after_parts p.name.to) (λ t n. rw n)
 
 pub ruleset after-laws = (after-start, after-end, after_stop, after_next, part-less)
@@ -122,22 +116,22 @@ module _ (s : List ℕ) (to : ℕ) where
   abbrev Ends : ℕ → Type 0
   Ends at = Between at to (after_parts at (walk s at to))
 
-  ends-further : (at x : ℕ) → at ≤ to → Between at to x → (r : Parted) → Between at to (further r at x)
-  ends-further at x h b NoPart = record { after = omega arith; inside = h }
-  ends-further at x h b (Is p) = b
+  ends-further : (at x : ℕ) → at ≤ to → Between at to x → (r : Option Part) → Between at to (further r at x)
+  ends-further at x h b None = record { after = omega arith; inside = h }
+  ends-further at x h b (Some p) = b
 
   ends-done : (at : ℕ) → at ≤ to → to ≤ at → Ends at
   ends-done at h l = rw (walk-done s at to l) (record { after = omega arith; inside = h })
 
   module _ (n at : ℕ) (h : at ≤ to) (l : to - at ≤ suc n) (next : (e : ℕ) → e ≤ to → to - e ≤ n → Ends e) where
-    ends-field : at < to → (f : Field) → f ≡ field_at s at to → Ends at
-    ends-field k Cut q = rw (walk-cut s at to k Cut q refl) (record { after = omega arith; inside = h })
-    ends-field k (Whole t a e) q =
-        let b = field-bounds s at to (Whole t a e) q t a e refl in
-        let i = next e b.inside (omega (arith, b.starts, b.ordered)) in
-        rw (walk_step s at to k (Whole t a e) q t a e refl)
-        (ends-further at (after_parts e (walk s e to)) h
-        (record { after = omega (arith, b.starts, b.ordered, i.after); inside = i.inside }) (part_of t a e))
+    ends-field : at < to → (f : Option Field) → f ≡ field_at s at to → Ends at
+    ends-field k None q = rw (walk-cut s at to k None q refl) (record { after = omega arith; inside = h })
+    ends-field k (Some found) q =
+        let b = field-bounds s at to (Some found) q found refl in
+        let i = next found.to b.inside (omega (arith, b.starts, b.ordered)) in
+        rw (walk_step s at to k (Some found) q found refl)
+        (ends-further at (after_parts found.to (walk s found.to to)) h
+        (record { after = omega (arith, b.starts, b.ordered, i.after); inside = i.inside }) (part_of found.tag found.from found.to))
 
     ends-test : (x : Bool) → ltb at to ≡ x → Ends at
     ends-test true p = ends-field (ltb-true at to p) (field_at s at to) refl

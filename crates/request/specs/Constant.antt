@@ -9,7 +9,7 @@
 --         is_pair_name t <=> t is the tag of a pair's name
 --
 -- Assumes nothing.
-use Rattle.std.specs.Prelude.{Bool, true, false, ◌&&◌, List, ℕ, ◌-◌, ◌^◌, eqb, ltb, leb, get_or}
+use Rattle.std.specs.Prelude.{Bool, true, false, ◌&&◌, List, ℕ, ◌-◌, ◌^◌, eqb, ltb, leb, get_or, Some, None, Option}
 use Rattle.std.specs.Float.{binary64}
 use Rattle.std.specs.Float.Ieee.{of_bits, nan_bits}
 use Rattle.octets.specs.Octets.{big_at}
@@ -17,8 +17,6 @@ use Rattle.field.specs.Leaf.{span}
 use Rattle.request.specs.declared.constant.Constant.{Constant}
 use Rattle.request.specs.declared.constant.Constant.TheVariants.{Bool as BoolOf, Integer, Float, NotANumber}
 use Rattle.request.specs.declared.constant.Constant.TheVariants.{Text, Ident, Message, List as ListOf}
-use Rattle.request.specs.declared.constant.Held.{Held}
-use Rattle.request.specs.declared.constant.Held.TheVariants.{Holds, NoConstant}
 use Rattle.request.specs.Table.{bool_tag, unsigned_tag, signed_tag, float_tag, string_tag, ident_tag}
 use Rattle.request.specs.Table.{message_constant_tag, pair_field_tag, pair_url_tag, list_tag}
 
@@ -31,36 +29,36 @@ unfoldable pub float_of : (bits : ℕ) → Constant
 float_of b = elim (nan_bits binary64 b) [ true ↦ NotANumber b | false ↦ Float (of_bits binary64 b) ]
 
 -- "20 bool (one byte, 0 or 1)" [FORM-4]
-unfoldable pub bool_of : (s : List ℕ) (from to : ℕ) → Held
+unfoldable pub bool_of : (s : List ℕ) (from to : ℕ) → Option Constant
 bool_of s a e = elim (eqb (e - a) 1) [
-  | true ↦ elim (ltb 1 (get_or s a 0)) [ true ↦ NoConstant | false ↦ Holds (BoolOf (eqb (get_or s a 0) 1)) ]
-  | false ↦ NoConstant
+  | true ↦ elim (ltb 1 (get_or s a 0)) [ true ↦ None | false ↦ Some (BoolOf (eqb (get_or s a 0) 1)) ]
+  | false ↦ None
 ]
 
 -- "21 unsigned, 22 signed (8 bytes each)" [FORM-4, FORM-10]
-abbrev pub number_with : (tag bits : ℕ) → Held
+abbrev pub number_with : (tag bits : ℕ) → Option Constant
 number_with t b = elim (eqb t unsigned_tag) [
-  | true ↦ Holds (Integer false b)
+  | true ↦ Some (Integer false b)
   | false ↦ elim (eqb t signed_tag) [
-    | true ↦ Holds (integer_of b)
-    | false ↦ elim (eqb t float_tag) [ true ↦ Holds (float_of b) | false ↦ NoConstant ]
+    | true ↦ Some (integer_of b)
+    | false ↦ elim (eqb t float_tag) [ true ↦ Some (float_of b) | false ↦ None ]
   ]
 ]
 
-unfoldable pub numeric_of : (s : List ℕ) (tag from to : ℕ) → Held
-numeric_of s t a e = elim (eqb (e - a) 8) [ true ↦ number_with t (big_at 8 s a) | false ↦ NoConstant ]
+unfoldable pub numeric_of : (s : List ℕ) (tag from to : ℕ) → Option Constant
+numeric_of s t a e = elim (eqb (e - a) 8) [ true ↦ number_with t (big_at 8 s a) | false ↦ None ]
 
 -- "24 string, already unescaped; 25 identifier; 26 message ..; 2A list of constants" [FORM-4]
-unfoldable pub constant_of : (s : List ℕ) (tag from to : ℕ) → Held
+unfoldable pub constant_of : (s : List ℕ) (tag from to : ℕ) → Option Constant
 constant_of s t a e = elim (eqb t bool_tag) [
   | true ↦ bool_of s a e
   | false ↦ elim (eqb t string_tag) [
-    | true ↦ Holds (Text (span a e))
+    | true ↦ Some (Text (span a e))
     | false ↦ elim (eqb t ident_tag) [
-      | true ↦ Holds (Ident (span a e))
+      | true ↦ Some (Ident (span a e))
       | false ↦ elim (eqb t message_constant_tag) [
-        | true ↦ Holds (Message (span a e))
-        | false ↦ elim (eqb t list_tag) [ true ↦ Holds (ListOf (span a e)) | false ↦ numeric_of s t a e ]
+        | true ↦ Some (Message (span a e))
+        | false ↦ elim (eqb t list_tag) [ true ↦ Some (ListOf (span a e)) | false ↦ numeric_of s t a e ]
       ]
     ]
   ]

@@ -11,20 +11,18 @@
 --             request_of s == the request
 --
 -- Assumes nothing.
-use Rattle.std.specs.Prelude.{true, false, List, [], ◌∷◌, ℕ, eqb, length}
+use Rattle.std.specs.Prelude.{true, false, List, [], ◌∷◌, ℕ, eqb, length, None, Some, Option}
 use Rattle.limits.specs.Figures.{most_constants}
-use Rattle.field.specs.declared.Field.{Field}
-use Rattle.field.specs.declared.Field.TheVariants.{Whole, Cut}
 use Rattle.field.specs.declared.Span.{Span}
 use Rattle.field.specs.Field.{field_at}
 use Rattle.field.specs.Leaf.{span, any_bytes, on_leaf, leaf_at}
 use Rattle.field.specs.Walk.{Walk, done, cut, step, walk}
 use Rattle.request.specs.declared.name.Part.{Part}
-use Rattle.request.specs.declared.heading.Headed.{Headed}
-use Rattle.request.specs.declared.heading.Headed.TheVariants.{Heads, NoHeading}
 use Rattle.request.specs.Table.{scope_tag, options_type_tag, option_tag}
 use Rattle.request.specs.Name.{parts_in, after_parts}
 use Rattle.request.specs.Tree.{Constants, none, unnamed, constant_in}
+use Rattle.field.specs.declared.Field.{Field}
+use Rattle.request.specs.declared.heading.Heading.{Heading}
 
 pub record Option : Type 0 where
   pub parts : List Part
@@ -36,16 +34,16 @@ pub record Request : Type 0 where
   pub options : List Option
 
 -- "18 scope, 19 options type path, then 08 options" [FORM-2]
-unfoldable pub heading_of : List ℕ → Headed
+unfoldable pub heading_of : List ℕ → Option Heading
 heading_of s =
-    on_leaf NoHeading (leaf_at scope_tag any_bytes s 0 (length s)) λ a types.
-    on_leaf NoHeading (leaf_at options_type_tag any_bytes s types (length s)) λ m options.
-    Heads (record { scope = span a types; options_type = span m options; options = options })
+    on_leaf None (leaf_at scope_tag any_bytes s 0 (length s)) λ a types.
+    on_leaf None (leaf_at options_type_tag any_bytes s types (length s)) λ m options.
+    Some (record { scope = span a types; options_type = span m options; options = options })
 
 -- "one or more of 1A direct part, 1B extension part; one constant" [FORM-2]
-abbrev pub constant_of_field : (s : List ℕ) → Field → Constants
-constant_of_field s Cut = none
-constant_of_field s (Whole t a e) = constant_in most_constants s unnamed t a e none
+abbrev pub constant_of_field : (s : List ℕ) → Option Field → Constants
+constant_of_field s None = none
+constant_of_field s (Some f) = constant_in most_constants s unnamed f.tag f.from f.to none
 
 unfoldable pub option_of : (s : List ℕ) (from to : ℕ) → Option
 option_of s a e =
@@ -59,9 +57,9 @@ options_in s done = []
 options_in s cut = []
 options_in s (step t a e w) = option_in s t a e (options_in s w)
 
-abbrev pub request_with : (s : List ℕ) → Headed → Request
-request_with s NoHeading = record { scope = span 0 0; options_type = span 0 0; options = [] }
-request_with s (Heads h) =
+abbrev pub request_with : (s : List ℕ) → Option Heading → Request
+request_with s None = record { scope = span 0 0; options_type = span 0 0; options = [] }
+request_with s (Some h) =
     record { scope = h.scope; options_type = h.options_type; options = options_in s (walk s h.options (length s)) }
 
 unfoldable pub request_of : List ℕ → Request

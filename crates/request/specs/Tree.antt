@@ -12,15 +12,13 @@
 --   constant_in d s l t a e rest == the constant of the tag t whose payload is from a to e, with d levels left, and what follows it
 --
 -- Assumes nothing.
-use Rattle.std.specs.Prelude.{true, false, List, ℕ, zero, suc, eqb}
+use Rattle.std.specs.Prelude.{true, false, List, ℕ, zero, suc, eqb, Some, None, Option}
 use Rattle.field.specs.declared.Span.{Span}
 use Rattle.field.specs.Leaf.{span}
 use Rattle.field.specs.Walk.{Walk, done, cut, step, walk}
 use Rattle.request.specs.declared.constant.Constant.{Constant}
 use Rattle.request.specs.declared.constant.Constant.TheVariants.{Bool as BoolOf, Integer, Float, NotANumber}
 use Rattle.request.specs.declared.constant.Constant.TheVariants.{Text, Ident, Message, List as ListOf}
-use Rattle.request.specs.declared.constant.Held.{Held}
-use Rattle.request.specs.declared.constant.Held.TheVariants.{Holds, NoConstant}
 use Rattle.request.specs.Table.{pair_field_tag, pair_extension_tag}
 use Rattle.request.specs.Constant.{constant_of, is_pair_name}
 
@@ -70,9 +68,9 @@ grown inner s l rest (Ident p) = scalar l (Ident p) rest
 grown inner s l rest (Message p) = message l (pairs_in inner (walk s p.from p.to)) rest
 grown inner s l rest (ListOf p) = list l (elements_in inner (walk s p.from p.to)) rest
 
-abbrev pub if_held : (inner : ConstantReader) (s : List ℕ) (name : PairName) (rest : Constants) → Held → Constants
-if_held inner s l rest NoConstant = rest
-if_held inner s l rest (Holds c) = grown inner s l rest c
+abbrev pub if_held : (inner : ConstantReader) (s : List ℕ) (name : PairName) (rest : Constants) → Option Constant → Constants
+if_held inner s l rest None = rest
+if_held inner s l rest (Some c) = grown inner s l rest c
 
 -- "constants of any kind nested 16 deep"; "The outermost .. constant is depth 1" [LIMIT-2, READ-4]
 abbrev pub constant_in : (left : ℕ) (s : List ℕ) → ConstantReader

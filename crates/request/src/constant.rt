@@ -18,13 +18,6 @@ pub enum Constant {
     List(Span),
 }
 
-// What a reader of constants answers.
-#[derive(Clone, Copy)]
-pub enum Held {
-    Holds(Constant),
-    NoConstant,
-}
-
 // The integer that 64 bits are in two's complement.
 fn integer_of(bits: u64) -> Constant
     ensures { result ≡ integer_of bits }
@@ -54,45 +47,45 @@ fn float_of(bits: u64) -> Constant
 }
 
 // A bool: one byte, 0 or 1.
-fn bool_of(s: &[u8], from: usize, to: usize) -> Held
+fn bool_of(s: &[u8], from: usize, to: usize) -> Option<Constant>
     requires { (from ≤ to) × (to ≤ length s.now) }
     ensures { result ≡ bool_of s.now from to }
 {
     if to - from != 1 {
-        return Held::NoConstant;
+        return None;
     }
     if 1 < s[from] {
-        return Held::NoConstant;
+        return None;
     }
-    Held::Holds(Constant::Bool(s[from] == 1))
+    Some(Constant::Bool(s[from] == 1))
 }
 
 // A number: eight bytes.
-fn numeric_of(s: &[u8], tag: u8, from: usize, to: usize) -> Held
+fn numeric_of(s: &[u8], tag: u8, from: usize, to: usize) -> Option<Constant>
     requires { (from ≤ to) × (to ≤ length s.now) }
     ensures { result ≡ numeric_of s.now tag from to }
 {
     if to - from != 8 {
-        return Held::NoConstant;
+        return None;
     }
     let bits = octets::u64_at(s, from);
     if tag == table::UNSIGNED {
-        return Held::Holds(Constant::Integer {
+        return Some(Constant::Integer {
             minus: false,
             size: bits,
         });
     }
     if tag == table::SIGNED {
-        return Held::Holds(integer_of(bits));
+        return Some(integer_of(bits));
     }
     if tag == table::FLOAT {
-        return Held::Holds(float_of(bits));
+        return Some(float_of(bits));
     }
-    Held::NoConstant
+    None
 }
 
 // The constant of this tag whose payload is from..to.
-pub fn constant_of(s: &[u8], tag: u8, from: usize, to: usize) -> Held
+pub fn constant_of(s: &[u8], tag: u8, from: usize, to: usize) -> Option<Constant>
     requires { (from ≤ to) × (to ≤ length s.now) }
     ensures { result ≡ constant_of s.now tag from to }
 {
@@ -101,16 +94,16 @@ pub fn constant_of(s: &[u8], tag: u8, from: usize, to: usize) -> Held
     }
     let place = Span { from: from, to: to };
     if tag == table::STRING {
-        return Held::Holds(Constant::Text(place));
+        return Some(Constant::Text(place));
     }
     if tag == table::IDENT {
-        return Held::Holds(Constant::Ident(place));
+        return Some(Constant::Ident(place));
     }
     if tag == table::MESSAGE_CONSTANT {
-        return Held::Holds(Constant::Message(place));
+        return Some(Constant::Message(place));
     }
     if tag == table::LIST {
-        return Held::Holds(Constant::List(place));
+        return Some(Constant::List(place));
     }
     numeric_of(s, tag, from, to)
 }

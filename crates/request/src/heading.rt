@@ -4,9 +4,9 @@ ghost use Rattle.field.specs.Walk.{walk};
 ghost use Rattle.request.specs.Name.{after_parts};
 ghost use Rattle.request.specs.Request.{heading_of};
 
-use crate::name::{Parted, part_at};
+use crate::name::part_at;
 use crate::table;
-use field::{Leaf, Span, leaf_at};
+use field::{Span, leaf_at};
 
 // What stands before the options, and where these start.
 #[derive(Clone, Copy)]
@@ -17,29 +17,22 @@ pub struct Heading {
     pub options: usize,
 }
 
-// What the reader of headings answers.
-#[derive(Clone, Copy)]
-pub enum Headed {
-    Heads(Heading),
-    NoHeading,
-}
-
 // The scope and the options type of a request.
-pub fn heading_of(s: &[u8]) -> Headed
+pub fn heading_of(s: &[u8]) -> Option<Heading>
     ensures { result ≡ heading_of s.now }
 {
     let end = s.len();
-    let Leaf::At { from: a, to: types } = leaf_at(s, 0, end, table::SCOPE) else {
-        return Headed::NoHeading;
+    let Some(Span { from: a, to: types }) = leaf_at(s, 0, end, table::SCOPE) else {
+        return None;
     };
-    let Leaf::At {
+    let Some(Span {
         from: m,
         to: options,
-    } = leaf_at(s, types, end, table::OPTIONS_TYPE)
+    }) = leaf_at(s, types, end, table::OPTIONS_TYPE)
     else {
-        return Headed::NoHeading;
+        return None;
     };
-    Headed::Heads(Heading {
+    Some(Heading {
         scope: Span { from: a, to: types },
         options_type: Span {
             from: m,
@@ -56,7 +49,7 @@ pub fn after_parts(s: &[u8], from: usize, to: usize) -> usize
 {
     let mut at = from;
     while at < to {
-        let Parted::Is(p) = part_at(s, at, to) else {
+        let Some(p) = part_at(s, at, to) else {
             return at;
         };
         at = p.name.to;

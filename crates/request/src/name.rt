@@ -12,32 +12,25 @@ pub struct Part {
     pub name: Span,
 }
 
-// What a reader of parts answers.
-#[derive(Clone, Copy)]
-pub enum Parted {
-    Is(Part),
-    NoPart,
-}
-
 // The part at a place; the next one starts where its name ends.
-pub fn part_at(s: &[u8], at: usize, end: usize) -> Parted
+pub fn part_at(s: &[u8], at: usize, end: usize) -> Option<Part>
     requires { (at ≤ end) × (end ≤ length s.now) }
     ensures { result ≡ part_at s.now at end }
 {
-    let Field::Whole { tag, from, to } = field_at(s, at, end) else {
-        return Parted::NoPart;
+    let Some(Field { tag, from, to }) = field_at(s, at, end) else {
+        return None;
     };
     if tag == table::DIRECT_PART {
-        return Parted::Is(Part {
+        return Some(Part {
             extension: false,
             name: Span { from: from, to: to },
         });
     }
     if tag == table::EXTENSION_PART {
-        return Parted::Is(Part {
+        return Some(Part {
             extension: true,
             name: Span { from: from, to: to },
         });
     }
-    Parted::NoPart
+    None
 }

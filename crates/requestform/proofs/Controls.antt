@@ -1,11 +1,10 @@
 -- Closed cases of the definitions, computed: of each rule one that holds, one at the limit and one refused just past it.
 -- Assumes nothing.
-use Rattle.std.specs.Prelude.{◌≡◌, refl, true, false, List, [], ◌∷◌, ◌++◌, map, ℕ, zero, suc, length}
+use Rattle.std.specs.Prelude.{◌≡◌, refl, true, false, List, [], ◌∷◌, ◌++◌, map, ℕ, zero, suc, length, Ok}
 use lib.ListN.{replicate}
 use Rattle.octets.specs.Octets.{big_at}
 use Rattle.ident.specs.Ident.{is_letter, is_digit, all_word, is_ident}
 use Rattle.path.specs.Path.{dot, on_first, split, components, all_ident, is_rel_path, is_rel_or_empty, rootless, is_path}
-use Rattle.reply.specs.declared.Verdict.TheVariants.{Fine}
 use Rattle.field.specs.Field.{field_at}
 use Rattle.field.specs.Walk.{walk_by}
 use Rattle.field.specs.Leaf.{leaf_at}
@@ -95,19 +94,19 @@ bad =
 abbrev large : List (List ℕ)
 large = option direct (in_lists 16 yes) ∷ option (times 17 direct) yes ∷ replicate 8193 0 ∷ []
 
-requests : map judge_request (fine ++ bad ++ large) ≡ replicate 6 Fine ++ replicate 8 bad_request ++ replicate 3 beyond
+requests : map judge_request (fine ++ bad ++ large) ≡ replicate 6 (Ok tt) ++ replicate 8 bad_request ++ replicate 3 beyond
 unfolding judge_request judge_options judge_option judge_last is_constant is_bool is_url good_scalar good_pair_name good_part
     leaf_at field_at big_at walk_by part_of
     is_rel_or_empty is_rel_path is_path rootless components split on_first all_ident is_ident is_letter is_digit all_word
 requests = refl
 
 -- ---- the 128th and the 129th option
-indices : map (λ i. judge_option (direct ++ yes) i option_tag 0 8) (127 ∷ 128 ∷ []) ≡ Fine ∷ beyond ∷ []
+indices : map (λ i. judge_option (direct ++ yes) i option_tag 0 8) (127 ∷ 128 ∷ []) ≡ Ok tt ∷ beyond ∷ []
 unfolding judge_option judge_last is_constant is_bool good_scalar good_part field_at big_at walk_by part_of is_ident is_letter all_word
 indices = refl
 
 -- ---- names alone: a part; no bytes; a part and a constant
-names : map judge_name (direct ∷ [] ∷ (direct ++ yes) ∷ []) ≡ Fine ∷ bad_request ∷ bad_request ∷ []
+names : map judge_name (direct ∷ [] ∷ (direct ++ yes) ∷ []) ≡ Ok tt ∷ bad_request ∷ bad_request ∷ []
 unfolding judge_name good_part field_at big_at walk_by part_of is_ident is_letter all_word
 names = refl
 
@@ -120,14 +119,14 @@ urls = refl
 abbrev texts : List (List ℕ)
 texts = [] ∷ (120 ∷ []) ∷ rooted ∷ (dot ∷ []) ∷ []
 
-scopes : map judge_scope texts ≡ Fine ∷ Fine ∷ bad_request ∷ bad_request ∷ []
+scopes : map judge_scope texts ≡ Ok tt ∷ Ok tt ∷ bad_request ∷ bad_request ∷ []
 unfolding judge_scope is_rel_or_empty all_ident components split on_first is_ident is_letter is_digit all_word
 scopes = refl
 
-options-types : map judge_options_type texts ≡ bad_request ∷ Fine ∷ bad_request ∷ bad_request ∷ []
+options-types : map judge_options_type texts ≡ bad_request ∷ Ok tt ∷ bad_request ∷ bad_request ∷ []
 unfolding judge_options_type is_rel_path all_ident split on_first is_ident is_letter is_digit all_word
 options-types = refl
 
-paths : map judge_path texts ≡ bad_request ∷ Fine ∷ Fine ∷ bad_request ∷ []
+paths : map judge_path texts ≡ bad_request ∷ Ok tt ∷ Ok tt ∷ bad_request ∷ []
 unfolding judge_path is_path rootless all_ident split on_first is_ident is_letter is_digit all_word
 paths = refl

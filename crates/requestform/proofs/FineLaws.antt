@@ -1,7 +1,7 @@
 -- What a fine request's tree is like: every leaf is what 01 allows, and nothing is left out. The final statements stand at the end; what
 -- they say of an option goes on in optionform/proofs (FineLaws, PartsLaws), of its constant in constantform/proofs (FineLaws).
 -- Assumes nothing.
-use Rattle.std.specs.Prelude.{◌≡◌, refl, Bool, true, false, ◌&&◌, List, ◌∷◌, ℕ, suc, ◌+◌, ◌≤◌, ◌<◌, eqb, ltb, length}
+use Rattle.std.specs.Prelude.{◌≡◌, refl, Bool, true, false, ◌&&◌, List, ◌∷◌, ℕ, suc, ◌+◌, ◌≤◌, ◌<◌, eqb, ltb, length, Err, Some, Ok, Option, Result}
 use Rattle.basis.specs.Kit.{sym, ap, ◌∙◌}
 use Rattle.basis.proofs.Kit.{arith}
 use mathlib.Core.Path.{subst}
@@ -10,28 +10,19 @@ use borrow.Author.Tests.{eqb-true}
 use Rattle.limits.specs.Figures.{most_request, most_options, most_parts}
 use Rattle.path.specs.Path.{is_rel_path, is_rel_or_empty}
 use Rattle.reply.specs.declared.Refusal.TheVariants.{BadRequest, BeyondLimit}
-use Rattle.reply.specs.declared.Verdict.{Verdict}
-use Rattle.reply.specs.declared.Verdict.TheVariants.{Fine}
 use Rattle.reply.proofs.VerdictLaws.{refused-fine, first-fine-front, first-fine-rest, judged-fine}
-use Rattle.field.specs.declared.Field.{Field}
-use Rattle.field.specs.declared.Field.TheVariants.{Whole}
-use Rattle.field.specs.declared.Leaf.TheVariants.{At}
-use Rattle.field.specs.Field.{field_at}
+use Rattle.field.specs.Field.{field_at, field}
 use Rattle.field.specs.Leaf.{span, text, any_bytes, on_leaf, leaf_at}
 use Rattle.field.specs.Walk.{Walk, done, cut, step, walk, tags_in}
 use Rattle.form.specs.Each.{each_from}
 use Rattle.field.proofs.LeafLaws.{leaf-tested, leaf-untested, on-leaf-some}
 use Rattle.field.proofs.WalkLaws.{walk_step}
 use Rattle.request.specs.declared.heading.Heading.{Heading}
-use Rattle.request.specs.declared.heading.Headed.{Headed}
-use Rattle.request.specs.declared.heading.Headed.TheVariants.{Heads}
 use Rattle.request.specs.Table.{scope_tag, options_type_tag, option_tag}
 use Rattle.request.specs.Name.{parts_in, after_parts}
 use Rattle.request.specs.Request.{Option, heading_of, option_of, option_in, options_in, request_of}
 use Rattle.request.proofs.RequestLaws.{heading-is}
-use Rattle.optionform.specs.declared.Parts.{Parts}
-use Rattle.optionform.specs.declared.Parts.TheVariants.{After, Refuses}
-use Rattle.reply.specs.Verdicts.{beyond}
+use Rattle.reply.specs.Verdicts.{beyond, Verdict}
 use Rattle.constantform.specs.Form.{bad_request}
 use Rattle.optionform.specs.Form.{parts_from, judge_option}
 use Rattle.requestform.specs.Form.{judge_options, judge_request, whole_name, judge_name}
@@ -39,21 +30,24 @@ use Rattle.requestform.specs.Fine.{good_options, good_request}
 use Rattle.optionform.specs.inner.Parts.{NameParts}
 use Rattle.optionform.proofs.FineLaws.{PartsTo, parts-fine, parts-some, option-tagged, option-good, option-few}
 use Rattle.constantform.proofs.FineConstants.{Within, walk-within}
+use Rattle.field.specs.declared.Field.{Field}
+use Rattle.reply.specs.declared.Refusal.{Refusal}
+use Rattle.field.specs.declared.Span.{Span}
 
 -- ---- options: each field is one
 record FineOptions (s : List ℕ) (w : Walk) (os : List Option) : Type 0 where
   good : good_options s os ≡ true
   whole : length os ≡ length (tags_in w)
 
-option-more : (s : List ℕ) (i t a e : ℕ) (w : Walk) (os : List Option) → e ≤ length s → judge_option s i t a e ≡ Fine → FineOptions s w os
+option-more : (s : List ℕ) (i t a e : ℕ) (w : Walk) (os : List Option) → e ≤ length s → judge_option s i t a e ≡ Ok tt → FineOptions s w os
     → FineOptions s (step t a e w) (option_in s t a e os)
 unfolding option_in
 option-more s i t a e w os l p h = let y = option-tagged s i t a e p in rw y (at_option (rw y at p))
   where
-    at_option : judge_option s i option_tag a e ≡ Fine → FineOptions s (step option_tag a e w) (option_of s a e ∷ os)
+    at_option : judge_option s i option_tag a e ≡ Ok tt → FineOptions s (step option_tag a e w) (option_of s a e ∷ os)
     at_option q = record { good = rw (option-good s a e i l q, h.good); whole = ap suc h.whole }
 
-options-fine : (s : List ℕ) (n : ℕ) (w : Walk) → Within s w → each_from BadRequest (judge_option s) n w ≡ Fine
+options-fine : (s : List ℕ) (n : ℕ) (w : Walk) → Within s w → each_from BadRequest (judge_option s) n w ≡ Ok tt
     → FineOptions s w (options_in s w)
 options-fine s n done i p = record { good = refl; whole = refl }
 options-fine s n cut i p = absurd (refused-fine BadRequest p)
@@ -63,7 +57,7 @@ options-fine s n (step t a e w) i p =
     let rest = first-fine-rest (judge n t a e) (each_from BadRequest judge (n + 1) w) p in
     option-more s n t a e w (options_in s w) i.0 front (options-fine s (n + 1) w i.1 rest)
 
-options-few : (s : List ℕ) (n : ℕ) (w : Walk) → n ≤ most_options → each_from BadRequest (judge_option s) n w ≡ Fine
+options-few : (s : List ℕ) (n : ℕ) (w : Walk) → n ≤ most_options → each_from BadRequest (judge_option s) n w ≡ Ok tt
     → n + length (tags_in w) ≤ most_options
 options-few s n done h p = omega arith
 options-few s n cut h p = absurd (refused-fine BadRequest p)
@@ -77,36 +71,36 @@ options-few s n (step t a e w) h p =
 -- ---- a request: it has a heading, and what stands after it are options
 record FineRequest (s : List ℕ) : Type 0 where
   heading : Heading
-  heads : heading_of s ≡ Heads heading
+  heads : heading_of s ≡ Some heading
   scope : is_rel_or_empty (text s heading.scope) ≡ true
   options_type : is_rel_path (text s heading.options_type) ≡ true
-  fine : each_from BadRequest (judge_option s) 0 (walk s heading.options (length s)) ≡ Fine
+  fine : each_from BadRequest (judge_option s) 0 (walk s heading.options (length s)) ≡ Ok tt
   options : FineOptions s (walk s heading.options (length s)) (options_in s (walk s heading.options (length s)))
 
 module _ (s : List ℕ) where
-  typed-fine : (a types : ℕ) → leaf_at scope_tag is_rel_or_empty s 0 (length s) ≡ At a types
-      → on_leaf bad_request (leaf_at options_type_tag is_rel_path s types (length s)) (λ m options. judge_options s options (length s)) ≡ Fine
+  typed-fine : (u : Span) → leaf_at scope_tag is_rel_or_empty s 0 (length s) ≡ Some u
+      → on_leaf bad_request (leaf_at options_type_tag is_rel_path s u.to (length s)) (λ m options. judge_options s options (length s)) ≡ Ok tt
       → FineRequest s
   unfolding judge_options
-  typed-fine a types l p =
-      on-leaf-some bad_request Fine (leaf_at options_type_tag is_rel_path s types (length s)) (λ m options. judge_options s options (length s))
+  typed-fine u l p =
+      on-leaf-some bad_request (Ok tt) (leaf_at options_type_tag is_rel_path s u.to (length s)) (λ m options. judge_options s options (length s))
       (FineRequest s)
       (λ q. refused-fine BadRequest (sym q))
       (λ m options k q. record {
-        heading = record { scope = span a types; options_type = span m options; options = options };
+        heading = record { scope = u; options_type = span m options; options = options };
         heads =
-            sym (heading-is s (leaf_at scope_tag any_bytes s 0 (length s)) refl a types
-            (leaf-untested scope_tag is_rel_or_empty s 0 (length s) a types l)
-            (leaf_at options_type_tag any_bytes s types (length s)) refl m options
-            (leaf-untested options_type_tag is_rel_path s types (length s) m options k));
-        scope = leaf-tested scope_tag is_rel_or_empty s 0 (length s) a types l;
-        options_type = leaf-tested options_type_tag is_rel_path s types (length s) m options k;
+            sym (heading-is s (leaf_at scope_tag any_bytes s 0 (length s)) refl u.from u.to
+            (leaf-untested scope_tag is_rel_or_empty s 0 (length s) u.from u.to l)
+            (leaf_at options_type_tag any_bytes s u.to (length s)) refl m options
+            (leaf-untested options_type_tag is_rel_path s u.to (length s) m options k));
+        scope = leaf-tested scope_tag is_rel_or_empty s 0 (length s) u.from u.to l;
+        options_type = leaf-tested options_type_tag is_rel_path s u.to (length s) m options k;
         fine = sym q;
         options = options-fine s 0 (walk s options (length s)) (walk-within s (length s) (omega arith) options) (sym q);
       })
       (sym p)
 
-  request-fine : judge_request s ≡ Fine → FineRequest s
+  request-fine : judge_request s ≡ Ok tt → FineRequest s
   unfolding judge_request
   request-fine = go (ltb most_request (length s))
     where
@@ -114,42 +108,42 @@ module _ (s : List ℕ) where
       typed a types =
           on_leaf bad_request (leaf_at options_type_tag is_rel_path s types (length s)) (λ m options. judge_options s options (length s))
 
-      go : (b : Bool) → elim b [ true ↦ beyond | false ↦ on_leaf bad_request (leaf_at scope_tag is_rel_or_empty s 0 (length s)) typed ] ≡ Fine
+      go : (b : Bool) → elim b [ true ↦ beyond | false ↦ on_leaf bad_request (leaf_at scope_tag is_rel_or_empty s 0 (length s)) typed ] ≡ Ok tt
           → FineRequest s
       go true p = absurd (refused-fine BeyondLimit p)
       go false p =
-          on-leaf-some bad_request Fine (leaf_at scope_tag is_rel_or_empty s 0 (length s)) typed (FineRequest s)
+          on-leaf-some bad_request (Ok tt) (leaf_at scope_tag is_rel_or_empty s 0 (length s)) typed (FineRequest s)
           (λ q. refused-fine BadRequest (sym q))
           (λ a types l q. typed-fine a types l (sym q))
           (sym p)
 
 -- a heading r, fine options after it, and an option of the tree for every field there
-pub record Wholly (s : List ℕ) (r : Headed) : Type 0 where
+pub record Wholly (s : List ℕ) (r : Option Heading) : Type 0 where
   pub heading : Heading
-  pub heads : r ≡ Heads heading
-  pub fine : each_from BadRequest (judge_option s) 0 (walk s heading.options (length s)) ≡ Fine
+  pub heads : r ≡ Some heading
+  pub fine : each_from BadRequest (judge_option s) 0 (walk s heading.options (length s)) ≡ Ok tt
   pub whole : length (request_of s).options ≡ length (tags_in (walk s heading.options (length s)))
 
 -- ==== the statements
 -- Scope, options type, every part and every name and identifier among the constants of a fine request's tree are what 01 allows, and
 -- every option has 1 to 16 parts and one constant.
-pub fine-good : (s : List ℕ) → judge_request s ≡ Fine → good_request s (request_of s) ≡ true
+pub fine-good : (s : List ℕ) → judge_request s ≡ Ok tt → good_request s (request_of s) ≡ true
 unfolding request_of
 fine-good s p =
     let f = request-fine s p in
     rw (f.heads, f.scope, f.options_type, f.options.good)
 
 -- A fine request has a heading, and every field after it is fine and an option of the tree.
-pub fine-options : (s : List ℕ) → judge_request s ≡ Fine → (r : Headed) → r ≡ heading_of s → Wholly s r
+pub fine-options : (s : List ℕ) → judge_request s ≡ Ok tt → (r : Option Heading) → r ≡ heading_of s → Wholly s r
 unfolding request_of
 fine-options s p r q =
     let f = request-fine s p in
     record { heading = f.heading; heads = q ∙ f.heads; fine = f.fine; whole = rw f.heads f.options.whole }
 
-module _ (s : List ℕ) (p : judge_request s ≡ Fine) (r : Headed) (q : r ≡ heading_of s) (h : Heading) (g : r ≡ Heads h) where
+module _ (s : List ℕ) (p : judge_request s ≡ Ok tt) (r : Option Heading) (q : r ≡ heading_of s) (h : Heading) (g : r ≡ Some h) where
   heading-same : (request-fine s p).heading ≡ h
   heading-same =
-      let e : Heads (request-fine s p).heading ≡ Heads h = sym (request-fine s p).heads ∙ sym q ∙ g in
+      let e : Some (request-fine s p).heading ≡ Some h = sym (request-fine s p).heads ∙ sym q ∙ g in
       cc
 
   -- The scope of a fine request is a path or empty,
@@ -161,26 +155,26 @@ module _ (s : List ℕ) (p : judge_request s ≡ Fine) (r : Headed) (q : r ≡ h
   fine-options-type = subst (λ (x : Heading). is_rel_path (text s x.options_type) ≡ true) heading-same (request-fine s p).options_type
 
   -- and every field behind them is fine.
-  pub fine-options-start : each_from BadRequest (judge_option s) 0 (walk s h.options (length s)) ≡ Fine
+  pub fine-options-start : each_from BadRequest (judge_option s) 0 (walk s h.options (length s)) ≡ Ok tt
   fine-options-start =
-      subst (λ (x : Heading). each_from BadRequest (judge_option s) 0 (walk s x.options (length s)) ≡ Fine) heading-same
+      subst (λ (x : Heading). each_from BadRequest (judge_option s) 0 (walk s x.options (length s)) ≡ Ok tt) heading-same
       (request-fine s p).fine
 
-module _ (s : List ℕ) (n i to : ℕ) (p : each_from BadRequest (judge_option s) n (walk s i to) ≡ Fine) (h : i < to)
-    (r : Field) (q : r ≡ field_at s i to) (t a e : ℕ) (g : r ≡ Whole t a e) where
-  options-opened : each_from BadRequest (judge_option s) n (step t a e (walk s e to)) ≡ Fine
-  options-opened = ap (each_from BadRequest (judge_option s) n) (sym (walk_step s i to h r q t a e g)) ∙ p
+module _ (s : List ℕ) (n i to : ℕ) (p : each_from BadRequest (judge_option s) n (walk s i to) ≡ Ok tt) (h : i < to)
+    (r : Option Field) (q : r ≡ field_at s i to) (f : Field) (g : r ≡ Some f) where
+  options-opened : each_from BadRequest (judge_option s) n (step f.tag f.from f.to (walk s f.to to)) ≡ Ok tt
+  options-opened = ap (each_from BadRequest (judge_option s) n) (sym (walk_step s i to h r q f g)) ∙ p
 
   -- Where fine options have a field, that is a fine option: so on to every option of a request.
-  pub fine-option-at : judge_option s n t a e ≡ Fine
-  fine-option-at = first-fine-front (judge_option s n t a e) (each_from BadRequest (judge_option s) (n + 1) (walk s e to)) options-opened
+  pub fine-option-at : judge_option s n f.tag f.from f.to ≡ Ok tt
+  fine-option-at = first-fine-front (judge_option s n f.tag f.from f.to) (each_from BadRequest (judge_option s) (n + 1) (walk s f.to to)) options-opened
 
   -- The options that follow it are fine.
-  pub fine-option-next : each_from BadRequest (judge_option s) (n + 1) (walk s e to) ≡ Fine
-  fine-option-next = first-fine-rest (judge_option s n t a e) (each_from BadRequest (judge_option s) (n + 1) (walk s e to)) options-opened
+  pub fine-option-next : each_from BadRequest (judge_option s) (n + 1) (walk s f.to to) ≡ Ok tt
+  fine-option-next = first-fine-rest (judge_option s n f.tag f.from f.to) (each_from BadRequest (judge_option s) (n + 1) (walk s f.to to)) options-opened
 
 -- A fine request has at most 128 options.
-pub fine-few-options : (s : List ℕ) → judge_request s ≡ Fine → length (request_of s).options ≤ most_options
+pub fine-few-options : (s : List ℕ) → judge_request s ≡ Ok tt → length (request_of s).options ≤ most_options
 fine-few-options s p =
     let f = fine-options s p (heading_of s) refl in
     omega (arith, f.whole, options-few s 0 (walk s f.heading.options (length s)) (omega arith) f.fine)
@@ -193,9 +187,9 @@ record FineName (s : List ℕ) : Type 0 where
   ends : place ≡ length s
 
 module _ (s : List ℕ) where
-  name-opened : (v : Parts) → v ≡ parts_from s 0 0 (walk s 0 (length s)) → whole_name (length s) v ≡ Fine → FineName s
-  name-opened (Refuses w) q p = absurd (refused-fine w p)
-  name-opened (After x) q p =
+  name-opened : (v : Result ℕ Refusal) → v ≡ parts_from s 0 0 (walk s 0 (length s)) → whole_name (length s) v ≡ Ok tt → FineName s
+  name-opened (Err w) q p = absurd (refused-fine w p)
+  name-opened (Ok x) q p =
       let b = (and-eq-true_iff (not (eqb x 0)) (eqb x (length s))).0 (judged-fine BadRequest (not (eqb x 0) && eqb x (length s)) p) in
       record {
         place = x;
@@ -204,20 +198,20 @@ module _ (s : List ℕ) where
         ends = eqb-true x (length s) b.1;
       }
 
-  name-fine : judge_name s ≡ Fine → FineName s
+  name-fine : judge_name s ≡ Ok tt → FineName s
   unfolding judge_name
   name-fine = name-opened (parts_from s 0 0 (walk s 0 (length s))) refl
 
   -- From the start of a fine name stand good parts, up to its end.
-  pub fine-name : judge_name s ≡ Fine → NameParts s 0 (length s)
+  pub fine-name : judge_name s ≡ Ok tt → NameParts s 0 (length s)
   fine-name p = let f = name-fine p in record { good = f.parts.good; follows = sym f.parts.ends ∙ f.ends }
 
   -- A fine name has a part.
-  pub fine-name-some : judge_name s ≡ Fine → 1 ≤ length (parts_in (walk s 0 (length s)))
+  pub fine-name-some : judge_name s ≡ Ok tt → 1 ≤ length (parts_in (walk s 0 (length s)))
   fine-name-some p =
       let f = name-fine p in
       parts-some (walk s 0 (length s)) 0 (λ z. f.some (f.parts.ends ∙ z))
 
   -- A fine name has at most 16 parts.
-  pub fine-name-few : judge_name s ≡ Fine → length (parts_in (walk s 0 (length s))) ≤ most_parts
+  pub fine-name-few : judge_name s ≡ Ok tt → length (parts_in (walk s 0 (length s))) ≤ most_parts
   fine-name-few p = omega (arith, (name-fine p).parts.few)

@@ -10,21 +10,18 @@
 --          judge_path t == a path as an extension part has it, alone
 --
 -- Assumes nothing.
-use Rattle.std.specs.Prelude.{true, false, ◌&&◌, List, ℕ, eqb, ltb, length, not}
+use Rattle.std.specs.Prelude.{true, false, ◌&&◌, List, ℕ, eqb, ltb, length, not, Err, Ok, Result}
 use Rattle.limits.specs.Figures.{most_request}
 use Rattle.path.specs.Path.{is_rel_path, is_rel_or_empty, is_path}
 use Rattle.reply.specs.declared.Refusal.TheVariants.{BadRequest}
-use Rattle.reply.specs.declared.Verdict.{Verdict}
-use Rattle.reply.specs.declared.Verdict.TheVariants.{Refused}
-use Rattle.reply.specs.Verdicts.{judged, beyond}
+use Rattle.reply.specs.Verdicts.{judged, beyond, Verdict}
 use Rattle.field.specs.Walk.{walk}
 use Rattle.field.specs.Leaf.{on_leaf, leaf_at}
 use Rattle.form.specs.Each.{each_from}
 use Rattle.request.specs.Table.{scope_tag, options_type_tag}
 use Rattle.constantform.specs.Form.{bad_request}
-use Rattle.optionform.specs.declared.Parts.{Parts}
-use Rattle.optionform.specs.declared.Parts.TheVariants.{After, Refuses}
 use Rattle.optionform.specs.Form.{parts_from, judge_option}
+use Rattle.reply.specs.declared.Refusal.{Refusal}
 
 unfoldable pub judge_options : (s : List ℕ) (from to : ℕ) → Verdict
 judge_options s a e = each_from BadRequest (judge_option s) 0 (walk s a e)
@@ -40,9 +37,9 @@ judge_request s = elim (ltb most_request (length s)) [
 ]
 
 -- "Value query: .. a name as in 08" [FORM-14]
-abbrev pub whole_name : (size : ℕ) → Parts → Verdict
-whole_name n (Refuses w) = Refused w
-whole_name n (After at) = judged BadRequest (not (eqb at 0) && eqb at n)
+abbrev pub whole_name : (size : ℕ) → Result ℕ Refusal → Verdict
+whole_name n (Err w) = Err w
+whole_name n (Ok at) = judged BadRequest (not (eqb at 0) && eqb at n)
 
 unfoldable pub judge_name : (s : List ℕ) → Verdict
 judge_name s = whole_name (length s) (parts_from s 0 0 (walk s 0 (length s)))

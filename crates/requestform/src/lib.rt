@@ -6,87 +6,87 @@ ghost use Rattle.std.specs.Prelude.{◌≡◌, ◌≤◌, length};
 ghost use Rattle.reply.specs.Verdicts.{Says};
 ghost use Rattle.requestform.specs.Form.{judge_options, judge_request, judge_scope, judge_options_type, judge_path, judge_name};
 
-use field::{Field, Leaf};
+use field::{Field, Span};
 use limits::MOST_REQUEST;
-use optionform::{Parts, check_option, check_parts};
+use optionform::{check_option, check_parts};
 use path::protobuf_path::is_path;
 use path::protobuf_rel_path::{is_rel_or_empty, is_rel_path};
-use reply::{Refusal, Verdict};
+use reply::Refusal;
 use request::table;
 
 // The options of a request, from a place on.
-fn check_options(s: &[u8], from: usize, end: usize) -> Verdict
+fn check_options(s: &[u8], from: usize, end: usize) -> Result<(), Refusal>
     requires { (from ≤ end) × (end ≤ length s.now) }
     ensures { result ≡ judge_options s.now from end }
 {
     let mut at = from;
     let mut index = 0;
     while at < end {
-        let Field::Whole {
+        let Some(Field {
             tag,
             from: a,
             to: e,
-        } = field::field_at(s, at, end)
+        }) = field::field_at(s, at, end)
         else {
-            return Verdict::Refused(Refusal::BadRequest);
+            return Err(Refusal::BadRequest);
         };
-        if let Verdict::Refused(why) = check_option(s, index, tag, a, e) {
-            return Verdict::Refused(why);
+        if let Err(why) = check_option(s, index, tag, a, e) {
+            return Err(why);
         }
         index += 1;
         at = e;
     }
-    Verdict::Fine
+    Ok(())
 }
 
 // Whether a request is fine, or its first fault.
-pub fn check_request(s: &[u8]) -> Verdict
+pub fn check_request(s: &[u8]) -> Result<(), Refusal>
     ensures { Says (judge_request s.now) result }
 {
     if MOST_REQUEST < s.len() {
-        return Verdict::Refused(Refusal::BeyondLimit);
+        return Err(Refusal::BeyondLimit);
     }
     let end = s.len();
-    let Leaf::At { from: _, to: types } = form::rel_or_empty_at(s, 0, end, table::SCOPE) else {
-        return Verdict::Refused(Refusal::BadRequest);
+    let Some(Span { from: _, to: types }) = form::rel_or_empty_at(s, 0, end, table::SCOPE) else {
+        return Err(Refusal::BadRequest);
     };
-    let Leaf::At {
+    let Some(Span {
         from: _,
         to: options,
-    } = form::rel_path_at(s, types, end, table::OPTIONS_TYPE)
+    }) = form::rel_path_at(s, types, end, table::OPTIONS_TYPE)
     else {
-        return Verdict::Refused(Refusal::BadRequest);
+        return Err(Refusal::BadRequest);
     };
     check_options(s, options, end)
 }
 
 // Whether a scope that a call is given alone is fine.
-pub fn check_scope(scope: &[u8]) -> Verdict
+pub fn check_scope(scope: &[u8]) -> Result<(), Refusal>
     ensures { Says (judge_scope scope.now) result }
 {
     reply::judge(is_rel_or_empty(scope), Refusal::BadRequest)
 }
 
 // Whether the path of an options type that a call is given alone is fine.
-pub fn check_options_type(path: &[u8]) -> Verdict
+pub fn check_options_type(path: &[u8]) -> Result<(), Refusal>
     ensures { Says (judge_options_type path.now) result }
 {
     reply::judge(is_rel_path(path), Refusal::BadRequest)
 }
 
 // Whether a path that a call is given alone, as an extension part is written, is fine.
-pub fn check_path(path: &[u8]) -> Verdict
+pub fn check_path(path: &[u8]) -> Result<(), Refusal>
     ensures { Says (judge_path path.now) result }
 {
     reply::judge(is_path(path), Refusal::BadRequest)
 }
 
 // Whether a name that a call is given alone, parts as an option has them, is fine.
-pub fn check_name(s: &[u8]) -> Verdict
+pub fn check_name(s: &[u8]) -> Result<(), Refusal>
     ensures { Says (judge_name s.now) result }
 {
     match check_parts(s, 0, s.len()) {
-        Parts::Refuses(why) => Verdict::Refused(why),
-        Parts::After(at) => reply::judge((at != 0) & (at == s.len()), Refusal::BadRequest),
+        Err(why) => Err(why),
+        Ok(at) => reply::judge((at != 0) & (at == s.len()), Refusal::BadRequest),
     }
 }

@@ -13,10 +13,10 @@ ghost use Rattle.options.specs.inner.Measuring.{Ready};
 ghost use Rattle.options.specs.Resolve.{outcome_of, judged_of, resolve_bytes, resolve_tested};
 ghost use Rattle.resolver.specs.inner.Judging.{judged_by};
 
-use judged::{Judged, answer_in};
+use judged::answer_in;
 use limits::MOST_OPTIONS;
-use options::measure::{Measure, Measured, measure_tested, put_records};
-use reply::{Answer, Verdict, bare};
+use options::measure::{Measured, measure_tested, put_records};
+use reply::{Answer, bare};
 
 // What was measured, written to as much of the lent memory as the answer says: to none of it where there is no room for all.
 fn write(
@@ -32,7 +32,7 @@ fn write(
         measured.start))) out.old out.new result }
 {
     let room = out.len();
-    let answer = answer_in(room, Judged::Fine(measured.length));
+    let answer = answer_in(room, Ok(Some(measured.length)));
     let granted = answer.length as usize;
     put_records(sheet, request, measured, notes, &mut out[..granted]);
     answer
@@ -44,9 +44,9 @@ fn resolve_over(sheet: &[u8], request: &[u8], notes: &mut [usize], out: &mut [u8
     ensures { Answered (resolve_tested sheet.now request.now) out.old out.new result }
 {
     match measure_tested(sheet, request, notes) {
-        Measure::Absent => answer_in(out.len(), Judged::Absent),
-        Measure::Refused(cause) => answer_in(out.len(), Judged::Refused(cause)),
-        Measure::Fine(measured) => write(sheet, request, measured, notes, out),
+        Ok(None) => answer_in(out.len(), Ok(None)),
+        Err(cause) => answer_in(out.len(), Err(cause)),
+        Ok(Some(measured)) => write(sheet, request, measured, notes, out),
     }
 }
 
@@ -62,25 +62,25 @@ pub fn resolve_tested(sheet: &[u8], request: &[u8], out: &mut [u8]) -> Answer
 pub fn resolve(sheet: &[u8], request: &[u8], out: &mut [u8]) -> Answer
     ensures { Answered (resolve_bytes sheet.now request.now) out.old out.new result }
 {
-    if let Verdict::Refused(why) = sheetform::check_sheet(sheet) {
+    if let Err(why) = sheetform::check_sheet(sheet) {
         return reply::refused(why);
     }
     resolve_tested(sheet, request, out)
 }
 
 // The verdict that was measured.
-fn judged_by(measure: Measure) -> Judged
+fn judged_by(measure: Result<Option<Measured>, Cause>) -> Result<Option<u32>, Cause>
     ensures { result ≡ judged_by measure }
 {
     match measure {
-        Measure::Absent => Judged::Absent,
-        Measure::Refused(cause) => Judged::Refused(cause),
-        Measure::Fine(measured) => Judged::Fine(measured.length),
+        Ok(None) => Ok(None),
+        Err(cause) => Err(cause),
+        Ok(Some(measured)) => Ok(Some(measured.length)),
     }
 }
 
 // As `verdict`, of a sheet whose form was tested before: of that its length alone is tested here.
-pub fn verdict_tested(sheet: &[u8], request: &[u8]) -> Judged
+pub fn verdict_tested(sheet: &[u8], request: &[u8]) -> Result<Option<u32>, Cause>
     ensures { result ≡ judged_of (resolving_tested sheet.now request.now) }
 {
     let mut notes = [0usize; MOST_OPTIONS];
@@ -88,11 +88,11 @@ pub fn verdict_tested(sheet: &[u8], request: &[u8]) -> Judged
 }
 
 // What `resolve` would answer with room enough, and where a request is refused.
-pub fn verdict(sheet: &[u8], request: &[u8]) -> Judged
+pub fn verdict(sheet: &[u8], request: &[u8]) -> Result<Option<u32>, Cause>
     ensures { result ≡ judged_of (resolving sheet.now request.now) }
 {
-    if let Verdict::Refused(why) = sheetform::check_sheet(sheet) {
-        return Judged::Refused(bare(why));
+    if let Err(why) = sheetform::check_sheet(sheet) {
+        return Err(bare(why));
     }
     verdict_tested(sheet, request)
 }

@@ -16,14 +16,12 @@
 --    finding-next  where it stands further on, the loop goes on from the field's end
 --
 -- Assumes nothing.
-use Rattle.std.specs.Prelude.{◌≡◌, refl, List, [], ◌++◌, ℕ, ◌≤◌, ◌<◌, length, take}
+use Rattle.std.specs.Prelude.{◌≡◌, refl, List, [], ◌++◌, ℕ, ◌≤◌, ◌<◌, length, take, None, Some, Option}
 use Rattle.basis.specs.Kit.{sym, ◌∙◌}
 use Rattle.basis.proofs.Kit.{arith}
 use mathlib.Core.List.{append_assoc, append-nil}
 use lib.Seq.{length-take-le}
-use Rattle.field.specs.declared.Field.{Field}
-use Rattle.field.specs.declared.Field.TheVariants.{Whole, Cut}
-use Rattle.field.specs.Field.{field_at}
+use Rattle.field.specs.Field.{field_at, field}
 use Rattle.field.specs.Walk.{Walk, done, cut, step, walk}
 use Rattle.field.proofs.FieldLaws.{field-bounds}
 use Rattle.field.proofs.Rest.{Rest, rest-start, rest_end, rest-cut, rest-step, rest-next}
@@ -33,6 +31,7 @@ use Rattle.roster.specs.declared.Nth.{Nth}
 use Rattle.roster.specs.declared.Nth.TheVariants.{Is, Beyond}
 use Rattle.roster.specs.inner.Nth.{nth, name_or, Finds}
 use Rattle.roster.proofs.NthLaws.{nth_past, nth-found, name-past, name-none, name-found, take-front}
+use Rattle.field.specs.declared.Field.{Field}
 
 abbrev pub in_turn : (f : (tag from to : ℕ) → List Named) → Walk → List Named
 in_turn f done = []
@@ -79,43 +78,43 @@ module _ (f : ℕ → ℕ → ℕ → List Named) (s : List ℕ) (from to i at :
     pub finding-end : to ≤ p → Finds (in_turn f (walk s from to)) i at before room (Beyond k)
     finding-end h = none_left (rest_end _ (behind x.passed f) s to p x.left h)
 
-    module _ (h : p < to) (r : Field) (q : r ≡ field_at s p to) where
-      pub finding-cut : r ≡ Cut → Finds (in_turn f (walk s from to)) i at before room (Beyond k)
+    module _ (h : p < to) (r : Option Field) (q : r ≡ field_at s p to) where
+      pub finding-cut : r ≡ None → Finds (in_turn f (walk s from to)) i at before room (Beyond k)
       finding-cut g = none_left (rest-cut _ (behind x.passed f) s to p x.left h r q g)
 
-      pub finding-ahead : (t a e : ℕ) → r ≡ Whole t a e → at ≤ a
-      finding-ahead t a e g = let b = field-bounds s p to r q t a e g in omega (arith, x.ahead, b.starts)
+      pub finding-ahead : (here : Field) → r ≡ Some here → at ≤ here.from
+      finding-ahead here g = let b = field-bounds s p to r q here.tag here.from here.to g in omega (arith, x.ahead, b.starts)
 
-      module _ (t a e : ℕ) (g : r ≡ Whole t a e) (after : List ℕ) (y : Nth) (z : Finds (f t a e) k at room after y) where
+      module _ (here : Field) (g : r ≡ Some here) (after : List ℕ) (y : Nth) (z : Finds (f here.tag here.from here.to) k at room after y) where
         pub finding-hit : (b : Bearer) (n : ℕ) → y ≡ Is b n → Finds (in_turn f (walk s from to)) i at before after (Is b n)
         finding-hit b n v =
-            let is : nth (f t a e) k ≡ Is b n = sym z.is ∙ v in
-            let rest = in_turn f (walk s e to) in
-            let u = rest-step _ (behind x.passed f) s to p x.left h r q t a e g in
-            let same : name_or (take at before) (x.passed ++ (f t a e ++ rest)) i ≡ name_or (take at room) (f t a e) k =
-            name-past (take at before) x.passed (f t a e ++ rest) i k x.beyond
-            ∙ name-found (take at before) (f t a e) rest k b n is
+            let is : nth (f here.tag here.from here.to) k ≡ Is b n = sym z.is ∙ v in
+            let rest = in_turn f (walk s here.to to) in
+            let u = rest-step _ (behind x.passed f) s to p x.left h r q here g in
+            let same : name_or (take at before) (x.passed ++ (f here.tag here.from here.to ++ rest)) i ≡ name_or (take at room) (f here.tag here.from here.to) k =
+            name-past (take at before) x.passed (f here.tag here.from here.to ++ rest) i k x.beyond
+            ∙ name-found (take at before) (f here.tag here.from here.to) rest k b n is
             ∙ rw x.kept in
             rw u (record {
-              is = sym (nth_past x.passed (f t a e ++ rest) i k x.beyond ∙ nth-found (f t a e) rest k b n is);
+              is = sym (nth_past x.passed (f here.tag here.from here.to ++ rest) i k x.beyond ∙ nth-found (f here.tag here.from here.to) rest k b n is);
               sized = z.sized ∙ x.sized;
               name = rw same z.name;
             })
 
-        pub finding-next : (j : ℕ) → y ≡ Beyond j → Finding f s from to i at before after j e
+        pub finding-next : (j : ℕ) → y ≡ Beyond j → Finding f s from to i at before after j here.to
         finding-next j v =
-            let beyond : nth (f t a e) k ≡ Beyond j = sym z.is ∙ v in
-            let b = field-bounds s p to r q t a e g in
+            let beyond : nth (f here.tag here.from here.to) k ≡ Beyond j = sym z.is ∙ v in
+            let b = field-bounds s p to r q here g in
             let l : length (take at room) ≡ at =
             length-take-le at room (omega (arith, x.ahead, x.sized, x.roomy, x.left.within, x.left.inside)) in
             let kept : take (length (take at room)) after ≡ take at room =
-            rw (name-none (take at room) (f t a e) k j beyond) at z.name in
+            rw (name-none (take at room) (f here.tag here.from here.to) k j beyond) at z.name in
             record {
-              passed = x.passed ++ f t a e;
+              passed = x.passed ++ f here.tag here.from here.to;
               left =
-                  rest-next _ (behind x.passed f) s to p x.left h r q t a e g (behind (x.passed ++ f t a e) f)
-                  (sym (append_assoc x.passed (f t a e) (in_turn f (walk s e to))));
-              beyond = nth_past x.passed (f t a e) i k x.beyond ∙ beyond;
+                  rest-next _ (behind x.passed f) s to p x.left h r q here g (behind (x.passed ++ f here.tag here.from here.to) f)
+                  (sym (append_assoc x.passed (f here.tag here.from here.to) (in_turn f (walk s here.to to))));
+              beyond = nth_past x.passed (f here.tag here.from here.to) i k x.beyond ∙ beyond;
               kept = rw l at kept ∙ x.kept;
               sized = z.sized ∙ x.sized;
               ahead = omega (arith, x.ahead, b.starts, b.ordered);

@@ -4,7 +4,7 @@
 --       in_file s t a e == what a field of a sheet declares
 --
 -- Assumes nothing.
-use Rattle.std.specs.Prelude.{◌≡◌, refl, List, [], ◌∷◌, ◌++◌, ℕ, ◌+◌, ◌-◌, ◌≤◌, ◌<◌, length, take}
+use Rattle.std.specs.Prelude.{◌≡◌, refl, List, [], ◌∷◌, ◌++◌, ℕ, ◌+◌, ◌-◌, ◌≤◌, ◌<◌, length, take, None, Some, Option}
 use Rattle.basis.specs.Kit.{sym, ap, ◌∙◌, sets}
 use Rattle.basis.proofs.Kit.{arith, w64, Fits}
 use Rattle.basis.proofs.Never.{never}
@@ -14,21 +14,13 @@ use Rattle.limits.specs.Figures.{most_messages}
 use Rattle.octets.specs.Octets.{part}
 use Rattle.octets.specs.inner.Laid.{Laid}
 use Rattle.octets.proofs.Parts.{part-nil, part_length}
-use Rattle.field.specs.declared.Field.{Field}
-use Rattle.field.specs.declared.Field.TheVariants.{Whole, Cut}
-use Rattle.field.specs.declared.Leaf.{Leaf}
-use Rattle.field.specs.declared.Leaf.TheVariants.{At, Not}
 use Rattle.field.specs.declared.Span.{Span}
-use Rattle.field.specs.Field.{header, field_at}
+use Rattle.field.specs.Field.{header, field_at, field}
 use Rattle.field.specs.Leaf.{span, text, any_bytes, leaf_at}
 use Rattle.field.specs.Walk.{Walk, done, cut, step, walk}
 use Rattle.field.proofs.FieldLaws.{field-place-laws}
 use Rattle.field.proofs.LeafLaws.{leaf-bounds, leaf-ordered, leaf-within, on-leaf-some}
-use Rattle.sheet.specs.declared.declaration.Shaped.{Shaped}
-use Rattle.sheet.specs.declared.declaration.Shaped.TheVariants.{Shapes, NoShape}
 use Rattle.sheet.specs.declared.declaration.Declaration.{Declaration}
-use Rattle.sheet.specs.declared.declaration.Declared.{Declared}
-use Rattle.sheet.specs.declared.declaration.Declared.TheVariants.{Declares, NoDeclaration}
 use Rattle.sheet.specs.Table.{file_tag, message_tag, extension_tag, enum_tag, package_tag, name_tag, extendee_tag}
 use Rattle.sheet.specs.Declaration.{shape_at, declared_with, extension_at}
 use Rattle.sheet.specs.Tree as tree
@@ -52,6 +44,8 @@ use Rattle.roster.proofs.NthLaws.{finds-none, finds_past, finds-first, finds-beh
 use Rattle.roster.proofs.NthLaws.{laid-spelt, spelt-length, spelt-inside}
 use Rattle.roster.proofs.Finding.{in_turn, Finding, finding-start, finding-end, finding-cut, finding-hit, finding-next}
 use Rattle.roster.proofs.Finding.{finding-roomy, finding-ahead}
+use Rattle.field.specs.declared.Field.{Field}
+use Rattle.sheet.specs.declared.declaration.Shape.{Shape}
 
 -- ---- put_name and put_inside
 module _ (s : List ℕ) (n m at : ℕ) (o : n ≤ m) (h : m ≤ length s) (g : at < n) (before : List ℕ) (k : length s ≤ length before)
@@ -77,57 +71,57 @@ module _ (s : List ℕ) (n m at : ℕ) (o : n ≤ m) (h : m ≤ length s) (g : a
 pub ruleset inside-laws = (point-fits, inside-spelt, inside-ends)
 
 -- ---- where a name starts
-pub leaf-ahead : (k : ℕ) (s : List ℕ) (a e : ℕ) (l : Leaf) → l ≡ leaf_at k any_bytes s a e → (n m : ℕ) → l ≡ At n m
-    → (at : ℕ) → at ≤ a → at < n
-leaf-ahead k s a e l q n m g at h = omega (arith, (leaf-bounds k any_bytes s a e l q n m g).starts)
+pub leaf-ahead : (k : ℕ) (s : List ℕ) (a e : ℕ) (l : Option Span) → l ≡ leaf_at k any_bytes s a e → (p : Span) → l ≡ Some p
+    → (at : ℕ) → at ≤ a → at < p.from
+leaf-ahead k s a e l q p g at h = omega (arith, (leaf-bounds k any_bytes s a e l q p.from p.to g).starts)
 
 pub ruleset leaf-laws = (leaf-ahead, leaf-ordered, leaf-within)
 
 module _ (s : List ℕ) (a e : ℕ) (d : Declaration) where
-  shape-ahead : (n m x y : ℕ) → leaf_at name_tag any_bytes s a e ≡ At n m → (h : Shaped) → Declares d ≡ declared_with (span n m) (span x y) h
+  shape-ahead : (l : Span) (x y : ℕ) → leaf_at name_tag any_bytes s a e ≡ Some l → (h : Option Shape) → Some d ≡ declared_with l (span x y) h
       → d.name.from ≡ a + header
-  shape-ahead n m x y p NoShape q = never cc
-  shape-ahead n m x y p (Shapes h) q =
-      let u : d ≡ record { name = span n m; extendee = span x y; shape = h } = cc in
-      rw u (leaf-bounds name_tag any_bytes s a e (At n m) (sym p) n m refl).starts
+  shape-ahead l x y p None q = never cc
+  shape-ahead l x y p (Some h) q =
+      let u : d ≡ record { name = l; extendee = span x y; shape = h } = cc in
+      rw u (leaf-bounds name_tag any_bytes s a e (Some l) (sym p) l refl).starts
 
-  none-declared : Declares d ≡ NoDeclaration → ⊥
+  none-declared : Some d ≡ None → ⊥
   none-declared p = never cc
 
-  extension-starts : Declares d ≡ extension_at s a e → d.name.from ≡ a + header
+  extension-starts : Some d ≡ extension_at s a e → d.name.from ≡ a + header
   unfolding extension_at
   extension-starts =
-      on-leaf-some NoDeclaration (Declares d) (leaf_at name_tag any_bytes s a e) _ (d.name.from ≡ a + header) none-declared λ n m p.
-      on-leaf-some NoDeclaration (Declares d) (leaf_at extendee_tag any_bytes s m e) _ (d.name.from ≡ a + header) none-declared λ x y _.
+      on-leaf-some None (Some d) (leaf_at name_tag any_bytes s a e) _ (d.name.from ≡ a + header) none-declared λ n m p.
+      on-leaf-some None (Some d) (leaf_at extendee_tag any_bytes s m e) _ (d.name.from ≡ a + header) none-declared λ x y _.
       shape-ahead n m x y p (shape_at s y e)
 
-  pub extension-ahead : (x : Declared) → x ≡ extension_at s a e → x ≡ Declares d → (at : ℕ) → at ≤ a → at < d.name.from
+  pub extension-ahead : (x : Option Declaration) → x ≡ extension_at s a e → x ≡ Some d → (at : ℕ) → at ≤ a → at < d.name.from
   extension-ahead x q g at h = omega (arith, extension-starts (sym g ∙ q))
 
 -- ---- nth_enum
-module _ (s : List ℕ) (a e i at : ℕ) (before : List ℕ) (l : Leaf) (q : l ≡ leaf_at name_tag any_bytes s a e) where
-  pub enum-none : l ≡ Not → Finds (declared_in s (take at before) nowhere_in (enum_in s a e none)) i at before before (Beyond i)
+module _ (s : List ℕ) (a e i at : ℕ) (before : List ℕ) (l : Option Span) (q : l ≡ leaf_at name_tag any_bytes s a e) where
+  pub enum-none : l ≡ None → Finds (declared_in s (take at before) nowhere_in (enum_in s a e none)) i at before before (Beyond i)
   enum-none g = finds-none _ i at before (rw (enum-unnamed s a e none l q g))
 
-  module _ (n m : ℕ) (g : l ≡ At n m) where
+  module _ (p : Span) (g : l ≡ Some p) where
     pub enum-past : (i ≡ 0 → ⊥) → Finds (declared_in s (take at before) nowhere_in (enum_in s a e none)) i at before before (Beyond (i - 1))
-    enum-past = finds_past _ i at before _ (ap (declared_in s (take at before) nowhere_in) (enum-named s a e none l q n m g))
+    enum-past = finds_past _ i at before _ (ap (declared_in s (take at before) nowhere_in) (enum-named s a e none l q p g))
 
-    pub enum_is : i ≡ 0 → (after : List ℕ) (r : ℕ) → Spelt before at (part s n m) after r
-        → Finds (declared_in s (take at before) nowhere_in (enum_in s a e none)) i at before after (Is (Enum (span m e)) r)
+    pub enum_is : i ≡ 0 → (after : List ℕ) (r : ℕ) → Spelt before at (part s p.from p.to) after r
+        → Finds (declared_in s (take at before) nowhere_in (enum_in s a e none)) i at before after (Is (Enum (span p.to e)) r)
     enum_is z after r =
-        finds-first _ i at before _ [] (ap (declared_in s (take at before) nowhere_in) (enum-named s a e none l q n m g)) z
-        (part s n m) after r refl
+        finds-first _ i at before _ [] (ap (declared_in s (take at before) nowhere_in) (enum-named s a e none l q p g)) z
+        (part s p.from p.to) after r refl
 
 pub ruleset enum_laws = (enum-none, enum-past, enum_is, leaf-laws)
 
 -- ---- nth_extension
-module _ (s : List ℕ) (a e i at : ℕ) (before : List ℕ) (x : Declared) (q : x ≡ extension_at s a e) where
-  pub extension-none : x ≡ NoDeclaration
+module _ (s : List ℕ) (a e i at : ℕ) (before : List ℕ) (x : Option Declaration) (q : x ≡ extension_at s a e) where
+  pub extension-none : x ≡ None
       → Finds (declared_in s (take at before) nowhere_in (extension_in (extension_at s a e) none)) i at before before (Beyond i)
   extension-none g = finds-none _ i at before (rw (← q, g))
 
-  module _ (d : Declaration) (g : x ≡ Declares d) where
+  module _ (d : Declaration) (g : x ≡ Some d) where
     pub extension-past : (i ≡ 0 → ⊥)
         → Finds (declared_in s (take at before) nowhere_in (extension_in (extension_at s a e) none)) i at before before (Beyond (i - 1))
     extension-past = finds_past _ i at before (record { name = take at before ++ text s d.name; what = names.extension d }) (rw (← q, g))
@@ -175,32 +169,32 @@ module _ (s : List ℕ) (d a e i at : ℕ) (before : List ℕ) where
       → Finds (declared_in s (take at before) nowhere_in (message_in d s a e none)) i at before before (Beyond i)
   message-beyond-none z = finds-none _ i at before (rw (message-beyond d s a e none z))
 
-  module _ (l : Leaf) (q : l ≡ leaf_at name_tag any_bytes s a e) where
-    pub message-none : l ≡ Not
+  module _ (l : Option Span) (q : l ≡ leaf_at name_tag any_bytes s a e) where
+    pub message-none : l ≡ None
         → Finds (declared_in s (take at before) nowhere_in (message_in d s a e none)) i at before before (Beyond i)
     message-none g = finds-none _ i at before (rw (message-unnamed d s a e none l q g))
 
-    module _ (z : d ≡ 0 → ⊥) (n m : ℕ) (g : l ≡ At n m) where
+    module _ (z : d ≡ 0 → ⊥) (p : Span) (g : l ≡ Some p) where
       message-opens : declared_in s (take at before) nowhere_in (message_in d s a e none)
-          ≡ declared_in s (take at before) nowhere_in (tree.message (span n m) (span m e) (items_in (d - 1) s (walk s m e)) none)
-      message-opens = ap (declared_in s (take at before) nowhere_in) (message-named d s a e none z l q n m g)
+          ≡ declared_in s (take at before) nowhere_in (tree.message p (span p.to e) (items_in (d - 1) s (walk s p.to e)) none)
+      message-opens = ap (declared_in s (take at before) nowhere_in) (message-named d s a e none z l q p g)
 
-      pub message-is : i ≡ 0 → (after : List ℕ) (r : ℕ) → Spelt before at (part s n m) after r
-          → Finds (declared_in s (take at before) nowhere_in (message_in d s a e none)) i at before after (Is (MessageOf (span m e)) r)
-      message-is y after r = finds-first _ i at before _ _ message-opens y (part s n m) after r refl
+      pub message-is : i ≡ 0 → (after : List ℕ) (r : ℕ) → Spelt before at (part s p.from p.to) after r
+          → Finds (declared_in s (take at before) nowhere_in (message_in d s a e none)) i at before after (Is (MessageOf (span p.to e)) r)
+      message-is y after r = finds-first _ i at before _ _ message-opens y (part s p.from p.to) after r refl
 
-      pub message-in : (i ≡ 0 → ⊥) → (mid : List ℕ) (next : ℕ) → Spelt before at (inside (part s n m)) mid next
+      pub message-in : (i ≡ 0 → ⊥) → (mid : List ℕ) (next : ℕ) → Spelt before at (inside (part s p.from p.to)) mid next
           → (after : List ℕ) (r : Nth)
-          → Finds (declared_in s (take next mid) nowhere_in (items_in (d - 1) s (walk s m e))) (i - 1) next mid after r
+          → Finds (declared_in s (take next mid) nowhere_in (items_in (d - 1) s (walk s p.to e))) (i - 1) next mid after r
           → Finds (declared_in s (take at before) nowhere_in (message_in d s a e none)) i at before after r
       message-in y mid next k after r f =
-          let items = items_in (d - 1) s (walk s m e) in
-          let own : Message = record { name = span n m; body = span m e; inside = items } in
-          let u : take next mid ≡ inside (take at before ++ part s n m) =
-          k.front ∙ sym (append_assoc (take at before) (part s n m) dotted) in
-          let here : Finds (declared_in s (inside (take at before ++ part s n m)) nowhere_in items) (i - 1) at before after r =
-          rw u at (finds-behind _ (i - 1) at next before (inside (part s n m)) mid after r k f) in
-          let same = scope-same s (inside (take at before ++ part s n m)) nowhere_in (message_scope nowhere_in own) items in
+          let items = items_in (d - 1) s (walk s p.to e) in
+          let own : Message = record { name = p; body = span p.to e; inside = items } in
+          let u : take next mid ≡ inside (take at before ++ part s p.from p.to) =
+          k.front ∙ sym (append_assoc (take at before) (part s p.from p.to) dotted) in
+          let here : Finds (declared_in s (inside (take at before ++ part s p.from p.to)) nowhere_in items) (i - 1) at before after r =
+          rw u at (finds-behind _ (i - 1) at next before (inside (part s p.from p.to)) mid after r k f) in
+          let same = scope-same s (inside (take at before ++ part s p.from p.to)) nowhere_in (message_scope nowhere_in own) items in
           rw message-opens (finds-suc _ _ i at before after r y (rw append-nil (finds-same same here)))
 
 pub ruleset message-laws = (message-beyond-none, message-none, message-is, message-in)
@@ -241,20 +235,20 @@ module _ (s : List ℕ) (d from to i at : ℕ) (before : List ℕ) where
     pub items-end : to ≤ p → Finds (declared_in s (take at before) nowhere_in (items_in d s (walk s from to))) i at before room (Beyond k)
     items-end h = rw (items-gathered s (take at before) d (walk s from to)) (finding-end _ s from to i at before room k p x h)
 
-    module _ (h : p < to) (r : Field) (q : r ≡ field_at s p to) where
-      pub items-cut : r ≡ Cut → Finds (declared_in s (take at before) nowhere_in (items_in d s (walk s from to))) i at before room (Beyond k)
+    module _ (h : p < to) (r : Option Field) (q : r ≡ field_at s p to) where
+      pub items-cut : r ≡ None → Finds (declared_in s (take at before) nowhere_in (items_in d s (walk s from to))) i at before room (Beyond k)
       items-cut g = rw (items-gathered s (take at before) d (walk s from to)) (finding-cut _ s from to i at before room k p x h r q g)
 
-      module _ (t a e : ℕ) (g : r ≡ Whole t a e) (after : List ℕ) (y : Nth)
-          (z : Finds (declared_in s (take at room) nowhere_in (item_at d s t a e)) k at room after y) where
+      module _ (f : Field) (g : r ≡ Some f) (after : List ℕ) (y : Nth)
+          (z : Finds (declared_in s (take at room) nowhere_in (item_at d s f.tag f.from f.to)) k at room after y) where
         pub items-hit : (b : Bearer) (n : ℕ) → y ≡ Is b n
             → Finds (declared_in s (take at before) nowhere_in (items_in d s (walk s from to))) i at before after (Is b n)
         items-hit b n v =
             rw (items-gathered s (take at before) d (walk s from to))
-            (finding-hit _ s from to i at before room k p x h r q t a e g after y (rw x.kept at z) b n v)
+            (finding-hit _ s from to i at before room k p x h r q f g after y (rw x.kept at z) b n v)
 
-        pub items-next : (j : ℕ) → y ≡ Beyond j → Finding (in_item s (take at before) d) s from to i at before after j e
-        items-next = finding-next _ s from to i at before room k p x h r q t a e g after y (rw x.kept at z)
+        pub items-next : (j : ℕ) → y ≡ Beyond j → Finding (in_item s (take at before) d) s from to i at before after j f.to
+        items-next = finding-next _ s from to i at before room k p x h r q f g after y (rw x.kept at z)
 
 pub ruleset items-laws =
     (items-start, items-end, items-cut, items-hit, items-next, finding-roomy, finding-ahead, field-place-laws)
@@ -268,33 +262,33 @@ module _ (s : List ℕ) (t a e i : ℕ) (before : List ℕ) where
   pub file-other-none : (t ≡ file_tag → ⊥) → Finds (declared_by s 0 (file_at s t a e)) i 0 before before (Beyond i)
   file-other-none h = finds-none _ i 0 before (rw (file-other s t a e [] h))
 
-  module _ (h : t ≡ file_tag) (l : Leaf) (q : l ≡ leaf_at package_tag any_bytes s a e) where
-    pub file-none : l ≡ Not → Finds (declared_by s 0 (file_at s t a e)) i 0 before before (Beyond i)
+  module _ (h : t ≡ file_tag) (l : Option Span) (q : l ≡ leaf_at package_tag any_bytes s a e) where
+    pub file-none : l ≡ None → Finds (declared_by s 0 (file_at s t a e)) i 0 before before (Beyond i)
     file-none g = finds-none _ i 0 before (rw (file-unnamed s t a e [] h l q g))
 
-    module _ (n m : ℕ) (g : l ≡ At n m) (after : List ℕ) (r : Nth) where
-      opened : (f : List ℕ) → f ≡ file_front (part s n m)
-          → Finds (declared_in s f nowhere_in (items_in most_messages s (walk s m e))) i 0 before after r
+    module _ (it : Span) (g : l ≡ Some it) (after : List ℕ) (r : Nth) where
+      opened : (f : List ℕ) → f ≡ file_front (part s it.from it.to)
+          → Finds (declared_in s f nowhere_in (items_in most_messages s (walk s it.to e))) i 0 before after r
           → Finds (declared_by s 0 (file_at s t a e)) i 0 before after r
       opened f p k =
-          let items = items_in most_messages s (walk s m e) in
-          let file = file_with (span n m) (span m e) items in
-          let same = scope-same s (file_front (part s n m)) nowhere_in (file_scope 0 file) items in
-          rw (file-named s t a e [] h l q n m g, append-nil) (finds-same same (rw p at k))
+          let items = items_in most_messages s (walk s it.to e) in
+          let file = file_with it (span it.to e) items in
+          let same = scope-same s (file_front (part s it.from it.to)) nowhere_in (file_scope 0 file) items in
+          rw (file-named s t a e [] h l q it g, append-nil) (finds-same same (rw p at k))
 
-      pub file-bare : n ≡ m → Finds (declared_in s (take 0 before) nowhere_in (items_in most_messages s (walk s m e))) i 0 before after r
+      pub file-bare : it.from ≡ it.to → Finds (declared_in s (take 0 before) nowhere_in (items_in most_messages s (walk s it.to e))) i 0 before after r
           → Finds (declared_by s 0 (file_at s t a e)) i 0 before after r
-      file-bare z = opened [] (sym (ap file_front (part-nil s n m (omega arith))))
+      file-bare z = opened [] (sym (ap file_front (part-nil s it.from it.to (omega arith))))
 
-      pub file-in : (n ≡ m → ⊥) → e ≤ length s → (mid : List ℕ) (next : ℕ) → Spelt before 0 (inside (part s n m)) mid next
-          → Finds (declared_in s (take next mid) nowhere_in (items_in most_messages s (walk s m e))) i next mid after r
+      pub file-in : (it.from ≡ it.to → ⊥) → e ≤ length s → (mid : List ℕ) (next : ℕ) → Spelt before 0 (inside (part s it.from it.to)) mid next
+          → Finds (declared_in s (take next mid) nowhere_in (items_in most_messages s (walk s it.to e))) i next mid after r
           → Finds (declared_by s 0 (file_at s t a e)) i 0 before after r
       file-in z y mid next k f =
-          let o : n ≤ m = leaf-ordered package_tag any_bytes s a e l q n m g in
-          let b : m ≤ length s = leaf-within package_tag any_bytes s a e l q n m g y in
-          let u : file_front (part s n m) ≡ inside (part s n m) =
-          front-dotted (part s n m) λ w. z (omega (arith, part_length s n m b)) in
-          opened (take next mid) (k.front ∙ sym u) (finds-behind _ i 0 next before (inside (part s n m)) mid after r k f)
+          let o : it.from ≤ it.to = leaf-ordered package_tag any_bytes s a e l q it g in
+          let b : it.to ≤ length s = leaf-within package_tag any_bytes s a e l q it g y in
+          let u : file_front (part s it.from it.to) ≡ inside (part s it.from it.to) =
+          front-dotted (part s it.from it.to) λ w. z (omega (arith, part_length s it.from it.to b)) in
+          opened (take next mid) (k.front ∙ sym u) (finds-behind _ i 0 next before (inside (part s it.from it.to)) mid after r k f)
 
 pub ruleset file-laws =
     (file-other-none, file-none, file-bare, file-in)
@@ -330,18 +324,18 @@ module _ (s : List ℕ) (to i : ℕ) (before : List ℕ) (c : to ≡ length s) w
     pub declared-end : to ≤ p → Finds (every_declared s) i 0 before room (Beyond k)
     declared-end h = declared-is room (Beyond k) (finding-end _ s 0 to i 0 before room k p x h)
 
-    module _ (h : p < to) (r : Field) (q : r ≡ field_at s p to) where
-      pub declared-cut : r ≡ Cut → Finds (every_declared s) i 0 before room (Beyond k)
+    module _ (h : p < to) (r : Option Field) (q : r ≡ field_at s p to) where
+      pub declared-cut : r ≡ None → Finds (every_declared s) i 0 before room (Beyond k)
       declared-cut g = declared-is room (Beyond k) (finding-cut _ s 0 to i 0 before room k p x h r q g)
 
-      module _ (t a e : ℕ) (g : r ≡ Whole t a e) (after : List ℕ) (y : Nth)
-          (z : Finds (declared_by s 0 (file_at s t a e)) k 0 room after y) where
+      module _ (f : Field) (g : r ≡ Some f) (after : List ℕ) (y : Nth)
+          (z : Finds (declared_by s 0 (file_at s f.tag f.from f.to)) k 0 room after y) where
         pub declared-hit : (b : Bearer) (n : ℕ) → y ≡ Is b n → Finds (every_declared s) i 0 before after (Is b n)
         declared-hit b n v =
-            declared-is after (Is b n) (finding-hit _ s 0 to i 0 before room k p x h r q t a e g after y z b n v)
+            declared-is after (Is b n) (finding-hit _ s 0 to i 0 before room k p x h r q f g after y z b n v)
 
-        pub declared-next : (j : ℕ) → y ≡ Beyond j → Finding (in_file s) s 0 to i 0 before after j e
-        declared-next = finding-next _ s 0 to i 0 before room k p x h r q t a e g after y z
+        pub declared-next : (j : ℕ) → y ≡ Beyond j → Finding (in_file s) s 0 to i 0 before after j f.to
+        declared-next = finding-next _ s 0 to i 0 before room k p x h r q f g after y z
 
 pub ruleset declared-laws =
     (declared-start, declared-end, declared-cut, declared-hit, declared-next, finding-roomy, field-place-laws)

@@ -11,10 +11,10 @@ ghost use Rattle.scope.specs.inner.Steps.{item_at, file_at};
 ghost use Rattle.names.specs.Names.{inside, declared_in, declared_by, every_declared};
 ghost use Rattle.roster.specs.inner.Nth.{nowhere_in, Spelt, Finds};
 
-use field::{Field, Leaf, Span, field_at, leaf_at};
+use field::{Field, Span, field_at, leaf_at};
 use limits::MOST_MESSAGES;
 use octets::{put, put_all};
-use sheet::declaration::{Declaration, Declared, extension_at};
+use sheet::declaration::{Declaration, extension_at};
 use sheet::table;
 
 // What bears a full name: a message, by what stands after its name; an enum, likewise; or an extension.
@@ -62,7 +62,7 @@ fn nth_enum(s: &[u8], item: Span, room: &mut [u8], at: usize, i: usize) -> Nth
     ensures { Finds (declared_in s.now (take at room.old) nowhere_in
         (enum_in s.now item.from item.to none)) i at room.old room.new result }
 {
-    let Leaf::At { from, to: body } = leaf_at(s, item.from, item.to, table::NAME) else {
+    let Some(Span { from, to: body }) = leaf_at(s, item.from, item.to, table::NAME) else {
         return Nth::Beyond(i);
     };
     if i != 0 {
@@ -90,7 +90,7 @@ fn nth_extension(s: &[u8], item: Span, room: &mut [u8], at: usize, i: usize) -> 
     ensures { Finds (declared_in s.now (take at room.old) nowhere_in
         (extension_in (extension_at s.now item.from item.to) none)) i at room.old room.new result }
 {
-    let Declared::Declares(d) = extension_at(s, item.from, item.to) else {
+    let Some(d) = extension_at(s, item.from, item.to) else {
         return Nth::Beyond(i);
     };
     if i != 0 {
@@ -144,7 +144,7 @@ fn nth_in_message(s: &[u8], item: Span, left: usize, room: &mut [u8], at: usize,
         return Nth::Beyond(i);
     }
     let end = item.to;
-    let Leaf::At { from, to: body } = leaf_at(s, item.from, end, table::NAME) else {
+    let Some(Span { from, to: body }) = leaf_at(s, item.from, end, table::NAME) else {
         return Nth::Beyond(i);
     };
     let name = Span {
@@ -178,7 +178,7 @@ fn nth_in_items(s: &[u8], body: Span, left: usize, room: &mut [u8], at: usize, i
     let mut k = i;
     let mut p = body.from;
     while p < end {
-        let Field::Whole { tag, from, to } = field_at(s, p, end) else {
+        let Some(Field { tag, from, to }) = field_at(s, p, end) else {
             return Nth::Beyond(k);
         };
         let item = Span { from: from, to: to };
@@ -207,7 +207,7 @@ fn nth_in_file(s: &[u8], tag: u8, item: Span, room: &mut [u8], i: usize) -> Nth
         return Nth::Beyond(i);
     }
     let end = item.to;
-    let Leaf::At { from, to: body } = leaf_at(s, item.from, end, table::PACKAGE) else {
+    let Some(Span { from, to: body }) = leaf_at(s, item.from, end, table::PACKAGE) else {
         return Nth::Beyond(i);
     };
     let within = Span {
@@ -234,7 +234,7 @@ pub fn nth_declared(s: &[u8], room: &mut [u8], i: usize) -> Nth
     let mut k = i;
     let mut p = 0;
     while p < end {
-        let Field::Whole { tag, from, to } = field_at(s, p, end) else {
+        let Some(Field { tag, from, to }) = field_at(s, p, end) else {
             return Nth::Beyond(k);
         };
         let item = Span { from: from, to: to };

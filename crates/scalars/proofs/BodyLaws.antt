@@ -1,6 +1,6 @@
 -- What a scalar constant that fits holds: bytes are a string's own, all others are numbers.
 -- Assumes nothing.
-use Rattle.std.specs.Prelude.{◌≡◌, Bool, true, false, List, ℕ, eqb, leb, Option, None, Some}
+use Rattle.std.specs.Prelude.{◌≡◌, Bool, true, false, List, ℕ, eqb, leb, Option, None, Some, Err, Ok, Result}
 use Rattle.basis.specs.Kit.{sym, ap, ◌∙◌}
 use Rattle.basis.proofs.Never.{never}
 use Rattle.reply.specs.declared.Refusal.{Refusal}
@@ -13,90 +13,86 @@ use Rattle.sheet.specs.declared.declaration.Value.{Value}
 use Rattle.request.specs.declared.constant.Constant.{Constant}
 use Rattle.request.specs.declared.constant.Constant.TheVariants.{Bool as BoolOf, Integer, Float as FloatOf, NotANumber}
 use Rattle.request.specs.declared.constant.Constant.TheVariants.{Text, Ident, Message as MessageOf, List as ListOf}
-use Rattle.fullname.specs.declared.LookedUpEnum.{LookedUpEnum}
-use Rattle.fullname.specs.declared.LookedUpEnum.TheVariants.{Values, NoEnum}
 use Rattle.records.specs.declared.Body.{Body}
 use Rattle.records.specs.declared.Body.TheVariants.{Bits, Bytes}
 use Rattle.records.specs.inner.Emits.{InBody}
 use Rattle.lookups.specs.Lookups.{Lookups, value_in}
-use Rattle.scalars.specs.declared.Scalar.{Scalar}
-use Rattle.scalars.specs.declared.Scalar.TheVariants.{Fits, Misfit}
 use Rattle.scalars.specs.Scalars.{unsupported, is_integer, most_of, listed, among}
 use Rattle.scalars.specs.Scalars.{integer_on, float_on, string_on, bool_on, ident_on, scalar_on}
 use Rattle.scalars.specs.inner.Inside.{Inside}
 
 module _ (p : Span) where
-  no-bytes-bool : (t : ℕ) (b : Bool) → bool_on t b ≡ Fits (Bytes p) → ⊥
+  no-bytes-bool : (t : ℕ) (b : Bool) → bool_on t b ≡ Ok (Bytes p) → ⊥
   unfolding bool_on
   no-bytes-bool t b e = go (eqb t TYPE_BOOL) b e
     where
       go : (x b : Bool)
-          → elim x [ true ↦ elim b [ true ↦ Fits (Bits 1) | false ↦ Fits (Bits 0) ] | false ↦ unsupported ] ≡ Fits (Bytes p) → ⊥
+          → elim x [ true ↦ elim b [ true ↦ Ok (Bits 1) | false ↦ Ok (Bits 0) ] | false ↦ unsupported ] ≡ Ok (Bytes p) → ⊥
       go true true e = never cc
       go true false e = never cc
       go false b e = never cc
 
-  bytes-text : (r : List ℕ) (t : ℕ) (q : Span) → string_on r t q ≡ Fits (Bytes p) → q ≡ p
+  bytes-text : (r : List ℕ) (t : ℕ) (q : Span) → string_on r t q ≡ Ok (Bytes p) → q ≡ p
   unfolding string_on
   bytes-text r t q e = go (eqb t TYPE_STRING) (is_utf8 (text r q)) (eqb t TYPE_BYTES) _ e
     where
       go : (x y z : Bool) (w : Refusal)
           → elim x [
-            | true ↦ elim y [ true ↦ Fits (Bytes q) | false ↦ Misfit w ]
-            | false ↦ elim z [ true ↦ Fits (Bytes q) | false ↦ unsupported ]
+            | true ↦ elim y [ true ↦ Ok (Bytes q) | false ↦ Err w ]
+            | false ↦ elim z [ true ↦ Ok (Bytes q) | false ↦ unsupported ]
           ]
-          ≡ Fits (Bytes p) → q ≡ p
+          ≡ Ok (Bytes p) → q ≡ p
       go true true z w e = cc
       go true false z w e = never cc
       go false y true w e = cc
       go false y false w e = never cc
 
-  no-bytes-integer : (t : ℕ) (m : Bool) (n : ℕ) → integer_on t m n ≡ Fits (Bytes p) → ⊥
+  no-bytes-integer : (t : ℕ) (m : Bool) (n : ℕ) → integer_on t m n ≡ Ok (Bytes p) → ⊥
   unfolding integer_on
   no-bytes-integer t m n e = go (is_integer t) (leb n (most_of m t)) (eqb t TYPE_FLOAT) (eqb t TYPE_DOUBLE) _ _ _ _ e
     where
       go : (x y z u : Bool) (a b c : ℕ) (w : Refusal)
           → elim x [
-            | true ↦ elim y [ true ↦ Fits (Bits a) | false ↦ Misfit w ]
-            | false ↦ elim z [ true ↦ Fits (Bits b) | false ↦ elim u [ true ↦ Fits (Bits c) | false ↦ unsupported ] ]
+            | true ↦ elim y [ true ↦ Ok (Bits a) | false ↦ Err w ]
+            | false ↦ elim z [ true ↦ Ok (Bits b) | false ↦ elim u [ true ↦ Ok (Bits c) | false ↦ unsupported ] ]
           ]
-          ≡ Fits (Bytes p) → ⊥
+          ≡ Ok (Bytes p) → ⊥
       go true true z u a b c w e = never cc
       go true false z u a b c w e = never cc
       go false y true u a b c w e = never cc
       go false y false true a b c w e = never cc
       go false y false false a b c w e = never cc
 
-  no-bytes-float : (t b : ℕ) → float_on t b ≡ Fits (Bytes p) → ⊥
+  no-bytes-float : (t b : ℕ) → float_on t b ≡ Ok (Bytes p) → ⊥
   unfolding float_on
   no-bytes-float t b e = go (eqb t TYPE_DOUBLE) (eqb t TYPE_FLOAT) _ _ e
     where
       go : (x y : Bool) (a b : ℕ)
-          → elim x [ true ↦ Fits (Bits a) | false ↦ elim y [ true ↦ Fits (Bits b) | false ↦ unsupported ] ] ≡ Fits (Bytes p) → ⊥
+          → elim x [ true ↦ Ok (Bits a) | false ↦ elim y [ true ↦ Ok (Bits b) | false ↦ unsupported ] ] ≡ Ok (Bytes p) → ⊥
       go true y a b e = never cc
       go false true a b e = never cc
       go false false a b e = never cc
 
-  no-bytes-listed : (u : Refusal) (o : Option Value) → listed u o ≡ Fits (Bytes p) → ⊥
+  no-bytes-listed : (u : Refusal) (o : Option Value) → listed u o ≡ Ok (Bytes p) → ⊥
   no-bytes-listed u None e = never cc
   no-bytes-listed u (Some v) e = never cc
 
-  no-bytes-among : (u : Refusal) (s n : List ℕ) (v : LookedUpEnum) → among u s n v ≡ Fits (Bytes p) → ⊥
-  no-bytes-among u s n (NoEnum w) e = never cc
-  no-bytes-among u s n (Values x) e = no-bytes-listed u (value_in s n x) e
+  no-bytes-among : (u : Refusal) (s n : List ℕ) (v : Result Span Refusal) → among u s n v ≡ Ok (Bytes p) → ⊥
+  no-bytes-among u s n (Err w) e = never cc
+  no-bytes-among u s n (Ok x) e = no-bytes-listed u (value_in s n x) e
 
   module _ (L : Lookups) (s r : List ℕ) (u : Refusal) (h : Shape) where
-    no-bytes-ident : (q : Span) → ident_on L s r u h q ≡ Fits (Bytes p) → ⊥
+    no-bytes-ident : (q : Span) → ident_on L s r u h q ≡ Ok (Bytes p) → ⊥
     unfolding ident_on
     no-bytes-ident q e = go (eqb h.typ TYPE_ENUM) e
       where
         go : (x : Bool)
-            → elim x [ true ↦ among u s (text r q) (L.enumeration (text s h.path)) | false ↦ unsupported ] ≡ Fits (Bytes p) → ⊥
+            → elim x [ true ↦ among u s (text r q) (L.enumeration (text s h.path)) | false ↦ unsupported ] ≡ Ok (Bytes p) → ⊥
         go true e = no-bytes-among u s (text r q) (L.enumeration (text s h.path)) e
         go false e = never cc
 
     -- only a string has bytes, and they are its own
-    pub bytes_of : (c : Constant) → scalar_on L s r u h c ≡ Fits (Bytes p) → c ≡ Text p
+    pub bytes_of : (c : Constant) → scalar_on L s r u h c ≡ Ok (Bytes p) → c ≡ Text p
     unfolding scalar_on
     bytes_of (BoolOf b) e = absurd (no-bytes-bool h.typ b e)
     bytes_of (Integer m n) e = absurd (no-bytes-integer h.typ m n e)
@@ -108,8 +104,8 @@ module _ (p : Span) where
     bytes_of (ListOf q) e = never cc
 
 -- ---- the body of a constant that fits
-pub body-inside : (L : Lookups) (s r : List ℕ) (u : Refusal) (h : Shape) (c : Constant) (x : Scalar)
-    → x ≡ scalar_on L s r u h c → (b : Body) → x ≡ Fits b → Inside c r → InBody b r
+pub body-inside : (L : Lookups) (s r : List ℕ) (u : Refusal) (h : Shape) (c : Constant) (x : Result Body Refusal)
+    → x ≡ scalar_on L s r u h c → (b : Body) → x ≡ Ok b → Inside c r → InBody b r
 unfolding Inside InBody
 body-inside L s r u h c x q (Bits v) g i = tt
 body-inside L s r u h c x q (Bytes p) g i = rw (bytes_of p L s r u h c (sym q ∙ g)) at i

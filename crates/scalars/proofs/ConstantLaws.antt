@@ -1,6 +1,6 @@
 -- Identifiers on enums and scalar constants on fields, over any look-ups: the ways through `ident_on` and `scalar_on`.
 -- Assumes nothing.
-use Rattle.std.specs.Prelude.{◌≡◌, refl, Bool, List, ℕ, ◌≤◌, length, Option, None, Some}
+use Rattle.std.specs.Prelude.{◌≡◌, refl, Bool, List, ℕ, ◌≤◌, length, Option, None, Some, Err, Ok, Result}
 use Rattle.basis.specs.Kit.{sym, ap, ◌∙◌}
 use Rattle.basis.proofs.Kit.{eq-eqb, ne_eqb}
 use Rattle.basis.proofs.Never.{never}
@@ -15,56 +15,51 @@ use Rattle.wire.specs.Numbers.{widen32_of}
 use Rattle.types.specs.Types.{TYPE_ENUM}
 use Rattle.sheet.specs.declared.declaration.Shape.{Shape}
 use Rattle.sheet.specs.declared.declaration.Value.{Value}
-use Rattle.sheet.specs.declared.declaration.Valued.{Valued}
-use Rattle.sheet.specs.declared.declaration.Valued.TheVariants.{Values as Is, NoValue}
 use Rattle.scope.specs.inner.Answers.{valued}
 use Rattle.request.specs.declared.constant.Constant.{Constant}
 use Rattle.request.specs.declared.constant.Constant.TheVariants.{Bool as BoolOf, Integer, Float as FloatOf, NotANumber}
 use Rattle.request.specs.declared.constant.Constant.TheVariants.{Text, Ident, Message as MessageOf, List as ListOf}
-use Rattle.fullname.specs.declared.LookedUpEnum.{LookedUpEnum}
-use Rattle.fullname.specs.declared.LookedUpEnum.TheVariants.{Values, NoEnum}
 use Rattle.records.specs.declared.Body.TheVariants.{Bits}
 use Rattle.lookups.specs.Lookups.{Lookups, value_in}
 use Rattle.lookups.proofs.LookupLaws.{enum-ordered, enum-within}
-use Rattle.scalars.specs.declared.Scalar.{Scalar}
-use Rattle.scalars.specs.declared.Scalar.TheVariants.{Fits, Misfit}
 use Rattle.scalars.specs.Scalars.{listed, among, integer_on, float_on, string_on, bool_on, ident_on, scalar_on}
 use Rattle.scalars.specs.inner.Inside.{Inside}
+use Rattle.records.specs.declared.Body.{Body}
 
 -- ---- ident_on
-listed_of : (u : Refusal) (o : Option Value) (z : Valued) → z ≡ valued o → z ≡ NoValue → Misfit u ≡ listed u o
+listed_of : (u : Refusal) (o : Option Value) (z : Option Value) → z ≡ valued o → z ≡ None → Err u ≡ listed u o
 listed_of u None z m g = refl
 listed_of u (Some v) z m g = never cc
 
-listed-is : (u : Refusal) (o : Option Value) (z : Valued) → z ≡ valued o → (v : Value) → z ≡ Is v → (b : ℕ) → b ≡ widen32_of v.number
-    → Fits (Bits b) ≡ listed u o
+listed-is : (u : Refusal) (o : Option Value) (z : Option Value) → z ≡ valued o → (v : Value) → z ≡ Some v → (b : ℕ) → b ≡ widen32_of v.number
+    → Ok (Bits b) ≡ listed u o
 listed-is u None z m v g b e = never cc
 listed-is u (Some x) z m v g b e = let y : x ≡ v = cc in rw (y, e) refl
 
 module _ (L : Lookups) (s r : List ℕ) (u : Refusal) (h : Shape) (p : Span) (t : ℕ) (k : t ≡ h.typ) where
-  pub ident-other : (t ≡ TYPE_ENUM → ⊥) → Misfit UnsupportedExtensionType ≡ ident_on L s r u h p
+  pub ident-other : (t ≡ TYPE_ENUM → ⊥) → Err UnsupportedExtensionType ≡ ident_on L s r u h p
   unfolding ident_on
   ident-other d = simp (ident_on, ← k, ne_eqb t TYPE_ENUM d)
 
-  module _ (e : t ≡ TYPE_ENUM) (v : LookedUpEnum) (q : v ≡ L.enumeration (text s h.path)) where
+  module _ (e : t ≡ TYPE_ENUM) (v : Result Span Refusal) (q : v ≡ L.enumeration (text s h.path)) where
     ident-among : among u s (text r p) v ≡ ident_on L s r u h p
     unfolding ident_on
     ident-among = simp (ident_on, ← k, eq-eqb t TYPE_ENUM e, ← q)
 
-    pub ident-none : (w : Refusal) → v ≡ NoEnum w → Misfit w ≡ ident_on L s r u h p
+    pub ident-none : (w : Refusal) → v ≡ Err w → Err w ≡ ident_on L s r u h p
     ident-none w g = sym (ap (among u s (text r p)) g) ∙ ident-among
 
-    module _ (x : Span) (g : v ≡ Values x) (z : Valued) (m : z ≡ valued (value_in s (text r p) x)) where
-      pub ident-unlisted : z ≡ NoValue → Misfit u ≡ ident_on L s r u h p
+    module _ (x : Span) (g : v ≡ Ok x) (z : Option Value) (m : z ≡ valued (value_in s (text r p) x)) where
+      pub ident-unlisted : z ≡ None → Err u ≡ ident_on L s r u h p
       ident-unlisted n = listed_of u (value_in s (text r p) x) z m n ∙ sym (ap (among u s (text r p)) g) ∙ ident-among
 
-      pub ident-is : (y : Value) → z ≡ Is y → (b : ℕ) → b ≡ widen32_of y.number → Fits (Bits b) ≡ ident_on L s r u h p
+      pub ident-is : (y : Value) → z ≡ Some y → (b : ℕ) → b ≡ widen32_of y.number → Ok (Bits b) ≡ ident_on L s r u h p
       ident-is y n b c = listed-is u (value_in s (text r p) x) z m y n b c ∙ sym (ap (among u s (text r p)) g) ∙ ident-among
 
 pub ruleset ident-laws = (ident-other, ident-none, ident-unlisted, ident-is, enum-ordered, enum-within)
 
 -- ---- scalar_on
-module _ (L : Lookups) (s r : List ℕ) (u : Refusal) (h : Shape) (c : Constant) (x : Scalar) where
+module _ (L : Lookups) (s r : List ℕ) (u : Refusal) (h : Shape) (c : Constant) (x : Result Body Refusal) where
   module _ (t : ℕ) (k : t ≡ h.typ) where
     pub scalar-bool : (b : Bool) → c ≡ BoolOf b → x ≡ bool_on t b → x ≡ scalar_on L s r u h c
     unfolding scalar_on
@@ -91,11 +86,11 @@ module _ (L : Lookups) (s r : List ℕ) (u : Refusal) (h : Shape) (c : Constant)
   scalar-ident p g e = rw g e
 
 module _ (L : Lookups) (s r : List ℕ) (u : Refusal) (h : Shape) (c : Constant) (p : Span) where
-  pub scalar-message : c ≡ MessageOf p → Misfit UnsupportedExtensionType ≡ scalar_on L s r u h c
+  pub scalar-message : c ≡ MessageOf p → Err UnsupportedExtensionType ≡ scalar_on L s r u h c
   unfolding scalar_on
   scalar-message g = rw g refl
 
-  pub scalar-list : c ≡ ListOf p → Misfit UnsupportedExtensionType ≡ scalar_on L s r u h c
+  pub scalar-list : c ≡ ListOf p → Err UnsupportedExtensionType ≡ scalar_on L s r u h c
   unfolding scalar_on
   scalar-list g = rw g refl
 

@@ -1,6 +1,6 @@
 -- A constant that was read from a request is inside it: its span is that of its payload, and its float is no NaN.
 -- Assumes nothing.
-use Rattle.std.specs.Prelude.{◌≡◌, Bool, true, false, List, ℕ, ◌-◌, ◌^◌, ◌≤◌, eqb, ltb, length, get_or}
+use Rattle.std.specs.Prelude.{◌≡◌, Bool, true, false, List, ℕ, ◌-◌, ◌^◌, ◌≤◌, eqb, ltb, length, get_or, Some, None, Option}
 use Rattle.basis.specs.Kit.{sym, ◌∙◌}
 use mathlib.Core.Path.{subst}
 use mathlib.Core.Bool.{not}
@@ -12,16 +12,14 @@ use Rattle.field.specs.Leaf.{span}
 use Rattle.request.specs.declared.constant.Constant.{Constant}
 use Rattle.request.specs.declared.constant.Constant.TheVariants.{Bool as BoolOf, Integer, Float as FloatOf, NotANumber}
 use Rattle.request.specs.declared.constant.Constant.TheVariants.{Text, Ident, Message as MessageOf, List as ListOf}
-use Rattle.request.specs.declared.constant.Held.{Held}
-use Rattle.request.specs.declared.constant.Held.TheVariants.{Holds, NoConstant}
 use Rattle.request.specs.Table.{bool_tag, unsigned_tag, signed_tag, float_tag, string_tag, ident_tag, message_constant_tag, list_tag}
 use Rattle.request.specs.Constant.{integer_of, float_of, bool_of, numeric_of, constant_of}
 use Rattle.scalars.specs.inner.Inside.{Inside}
 
 module _ (s : List ℕ) where
-  abbrev HeldInside : Held → Type 0
-  HeldInside NoConstant = Unit {0}
-  HeldInside (Holds c) = Inside c s
+  abbrev HeldInside : Option Constant → Type 0
+  HeldInside None = Unit {0}
+  HeldInside (Some c) = Inside c s
 
   integer-inside : (b : ℕ) → Inside (integer_of b) s
   unfolding integer_of Inside
@@ -45,7 +43,7 @@ module _ (s : List ℕ) where
     bool-inside = go (eqb (e - a) 1) (ltb 1 (get_or s a 0))
       where
         go : (x y : Bool)
-            → HeldInside (elim x [ true ↦ elim y [ true ↦ NoConstant | false ↦ Holds (BoolOf (eqb (get_or s a 0) 1)) ] | false ↦ NoConstant ])
+            → HeldInside (elim x [ true ↦ elim y [ true ↦ None | false ↦ Some (BoolOf (eqb (get_or s a 0) 1)) ] | false ↦ None ])
         go true true = tt
         go true false = tt
         go false y = tt
@@ -56,10 +54,10 @@ module _ (s : List ℕ) where
       where
         go : (w x y z : Bool) (b : ℕ) → HeldInside (elim w [
           | true ↦ elim x [
-            | true ↦ Holds (Integer false b)
-            | false ↦ elim y [ true ↦ Holds (integer_of b) | false ↦ elim z [ true ↦ Holds (float_of b) | false ↦ NoConstant ] ]
+            | true ↦ Some (Integer false b)
+            | false ↦ elim y [ true ↦ Some (integer_of b) | false ↦ elim z [ true ↦ Some (float_of b) | false ↦ None ] ]
           ]
-          | false ↦ NoConstant
+          | false ↦ None
         ])
         go true true y z b = tt
         go true false true z b = integer-inside b
@@ -75,12 +73,12 @@ module _ (s : List ℕ) where
           go : (v w x y z : Bool) → HeldInside (elim v [
             | true ↦ bool_of s a e
             | false ↦ elim w [
-              | true ↦ Holds (Text (span a e))
+              | true ↦ Some (Text (span a e))
               | false ↦ elim x [
-                | true ↦ Holds (Ident (span a e))
+                | true ↦ Some (Ident (span a e))
                 | false ↦ elim y [
-                  | true ↦ Holds (MessageOf (span a e))
-                  | false ↦ elim z [ true ↦ Holds (ListOf (span a e)) | false ↦ numeric_of s t a e ]
+                  | true ↦ Some (MessageOf (span a e))
+                  | false ↦ elim z [ true ↦ Some (ListOf (span a e)) | false ↦ numeric_of s t a e ]
                 ]
               ]
             ]
@@ -92,5 +90,5 @@ module _ (s : List ℕ) where
           go false false false false true = (h, k)
           go false false false false false = number-inside
 
-      pub read-inside : (r : Held) → r ≡ constant_of s t a e → (c : Constant) → r ≡ Holds c → Inside c s
+      pub read-inside : (r : Option Constant) → r ≡ constant_of s t a e → (c : Constant) → r ≡ Some c → Inside c s
       read-inside r q c g = subst HeldInside (sym q ∙ g) held-inside

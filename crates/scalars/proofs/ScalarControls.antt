@@ -1,6 +1,6 @@
 -- Closed cases of scalar constants on types, which the checker computes: of each rule one that fits, one at its border, one just past it.
 -- Assumes nothing.
-use Rattle.std.specs.Prelude.{◌≡◌, refl, true, false, List, [], ◌∷◌, map, ℕ}
+use Rattle.std.specs.Prelude.{◌≡◌, refl, true, false, List, [], ◌∷◌, map, ℕ, Err, Ok, Result}
 use lib.Ieee.{of_int, of_bits, to_bits, round, binary64}
 use Rattle.octets.specs.Octets.{same_bytes}
 use Rattle.reply.specs.declared.Refusal.TheVariants.{UnknownEnumValue}
@@ -17,9 +17,9 @@ use Rattle.request.specs.declared.constant.Constant.TheVariants.{Bool as BoolOf,
 use Rattle.request.specs.declared.constant.Constant.TheVariants.{Text, Message as MessageOf, List as ListOf}
 use Rattle.records.specs.declared.Body.TheVariants.{Bits, Bytes}
 use Rattle.lookups.specs.Lookups.{walking}
-use Rattle.scalars.specs.declared.Scalar.{Scalar}
-use Rattle.scalars.specs.declared.Scalar.TheVariants.{Fits, Misfit}
 use Rattle.scalars.specs.Scalars.{is_small, is_signed, is_integer, most_of, pattern_of, integer_on, float_on, string_on, bool_on, scalar_on}
+use Rattle.records.specs.declared.Body.{Body}
+use Rattle.reply.specs.declared.Refusal.{Refusal}
 
 -- the bits of a number, the places of bytes, or the reply's number
 data Says : Type 0 where
@@ -27,10 +27,10 @@ data Says : Type 0 where
   bytes : (from to : ℕ) → Says
   refused : ℕ → Says
 
-abbrev says_of : Scalar → Says
-says_of (Fits (Bits b)) = bits b
-says_of (Fits (Bytes p)) = bytes p.from p.to
-says_of (Misfit w) = refused (number w)
+abbrev says_of : Result Body Refusal → Says
+says_of (Ok (Bits b)) = bits b
+says_of (Ok (Bytes p)) = bytes p.from p.to
+says_of (Err w) = refused (number w)
 
 -- a type, a constant and what it comes to
 record Case : Type 0 where

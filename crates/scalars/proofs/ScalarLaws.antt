@@ -1,7 +1,7 @@
 -- Scalar constants on types: the ways through the functions of one constant each.
 -- Assumes nothing.
-use Rattle.std.specs.Prelude.{◌≡◌, refl, Bool, true, false, ◌||◌, List, ℕ, ◌+◌, ◌-◌, ◌≤◌, ◌<◌, eqb}
-use Rattle.basis.proofs.Kit.{arith, eq-eqb, ne_eqb, w64, Fits as FitsIn}
+use Rattle.std.specs.Prelude.{◌≡◌, refl, Bool, true, false, ◌||◌, List, ℕ, ◌+◌, ◌-◌, ◌≤◌, ◌<◌, eqb, Err, Ok}
+use Rattle.basis.proofs.Kit.{arith, eq-eqb, ne_eqb, w64, Ok as FitsIn}
 use borrow.Author.Tests.{le-leb, lt-leb}
 use lib.Ieee.{binary32, binary64}
 use Rattle.reply.specs.declared.Refusal.TheVariants.{UnsupportedExtensionType, ValueRange, StrLitDecodeError}
@@ -13,7 +13,6 @@ use Rattle.types.specs.Types.{TYPE_FIXED32, TYPE_BOOL, TYPE_STRING, TYPE_BYTES, 
 use Rattle.types.specs.Types.{TYPE_SFIXED64, TYPE_SINT32, TYPE_SINT64}
 use Rattle.round.specs.Rounding.{signed_of, int_bits, narrow_bits}
 use Rattle.records.specs.declared.Body.TheVariants.{Bits, Bytes}
-use Rattle.scalars.specs.declared.Scalar.TheVariants.{Fits, Misfit}
 use Rattle.scalars.specs.Scalars.{is_small, is_signed, is_integer, width, most_of, pattern_of, integer_on, float_on, string_on, bool_on}
 
 -- ---- the integer types
@@ -85,25 +84,25 @@ pub ruleset pattern-laws = (pattern-zero, pattern-minus, pattern-plus)
 -- ---- integer_on
 module _ (t n : ℕ) (m : Bool) (b : Bool) (p : b ≡ is_integer t) where
   module _ (x : b ≡ true) (k : ℕ) (q : k ≡ most_of m t) where
-    pub integer-fits : n ≤ k → (v : ℕ) → v ≡ pattern_of m n → Fits (Bits v) ≡ integer_on t m n
+    pub integer-fits : n ≤ k → (v : ℕ) → v ≡ pattern_of m n → Ok (Bits v) ≡ integer_on t m n
     unfolding integer_on
     integer-fits h v e = simp (integer_on, ← p, x, ← q, le-leb n k h, e)
 
-    pub integer-range : k < n → Misfit ValueRange ≡ integer_on t m n
+    pub integer-range : k < n → Err ValueRange ≡ integer_on t m n
     unfolding integer_on
     integer-range h = simp (integer_on, ← p, x, ← q, lt-leb n k h)
 
   module _ (x : b ≡ false) where
-    pub integer-float : t ≡ TYPE_FLOAT → (v : ℕ) → v ≡ int_bits binary32 (signed_of m n) → Fits (Bits v) ≡ integer_on t m n
+    pub integer-float : t ≡ TYPE_FLOAT → (v : ℕ) → v ≡ int_bits binary32 (signed_of m n) → Ok (Bits v) ≡ integer_on t m n
     unfolding integer_on
     integer-float h v e = simp (integer_on, ← p, x, eq-eqb t TYPE_FLOAT h, e)
 
     module _ (f : t ≡ TYPE_FLOAT → ⊥) where
-      pub integer-double : t ≡ TYPE_DOUBLE → (v : ℕ) → v ≡ int_bits binary64 (signed_of m n) → Fits (Bits v) ≡ integer_on t m n
+      pub integer-double : t ≡ TYPE_DOUBLE → (v : ℕ) → v ≡ int_bits binary64 (signed_of m n) → Ok (Bits v) ≡ integer_on t m n
       unfolding integer_on
       integer-double h v e = simp (integer_on, ← p, x, ne_eqb t TYPE_FLOAT f, eq-eqb t TYPE_DOUBLE h, e)
 
-      pub integer-other : (t ≡ TYPE_DOUBLE → ⊥) → Misfit UnsupportedExtensionType ≡ integer_on t m n
+      pub integer-other : (t ≡ TYPE_DOUBLE → ⊥) → Err UnsupportedExtensionType ≡ integer_on t m n
       unfolding integer_on
       integer-other h = simp (integer_on, ← p, x, ne_eqb t TYPE_FLOAT f, ne_eqb t TYPE_DOUBLE h)
 
@@ -111,16 +110,16 @@ pub ruleset integer-laws = (integer-fits, integer-range, integer-float, integer-
 
 -- ---- float_on
 module _ (t b : ℕ) where
-  pub float-double : t ≡ TYPE_DOUBLE → Fits (Bits b) ≡ float_on t b
+  pub float-double : t ≡ TYPE_DOUBLE → Ok (Bits b) ≡ float_on t b
   unfolding float_on
   float-double h = simp (float_on, eq-eqb t TYPE_DOUBLE h)
 
   module _ (d : t ≡ TYPE_DOUBLE → ⊥) where
-    pub float-float : t ≡ TYPE_FLOAT → (v : ℕ) → v ≡ narrow_bits b → Fits (Bits v) ≡ float_on t b
+    pub float-float : t ≡ TYPE_FLOAT → (v : ℕ) → v ≡ narrow_bits b → Ok (Bits v) ≡ float_on t b
     unfolding float_on
     float-float h v e = simp (float_on, ne_eqb t TYPE_DOUBLE d, eq-eqb t TYPE_FLOAT h, e)
 
-    pub float-other : (t ≡ TYPE_FLOAT → ⊥) → Misfit UnsupportedExtensionType ≡ float_on t b
+    pub float-other : (t ≡ TYPE_FLOAT → ⊥) → Err UnsupportedExtensionType ≡ float_on t b
     unfolding float_on
     float-other h = simp (float_on, ne_eqb t TYPE_DOUBLE d, ne_eqb t TYPE_FLOAT h)
 
@@ -129,15 +128,15 @@ pub ruleset float_laws = (float-double, float-float, float-other)
 -- ---- bool_on
 module _ (t : ℕ) where
   module _ (h : t ≡ TYPE_BOOL) where
-    pub bool-true : (b : Bool) → b ≡ true → Fits (Bits 1) ≡ bool_on t b
+    pub bool-true : (b : Bool) → b ≡ true → Ok (Bits 1) ≡ bool_on t b
     unfolding bool_on
     bool-true b z = simp (bool_on, z, eq-eqb t TYPE_BOOL h)
 
-    pub bool_false : (b : Bool) → b ≡ false → Fits (Bits 0) ≡ bool_on t b
+    pub bool_false : (b : Bool) → b ≡ false → Ok (Bits 0) ≡ bool_on t b
     unfolding bool_on
     bool_false b z = simp (bool_on, z, eq-eqb t TYPE_BOOL h)
 
-  pub bool-other : (t ≡ TYPE_BOOL → ⊥) → (b : Bool) → Misfit UnsupportedExtensionType ≡ bool_on t b
+  pub bool-other : (t ≡ TYPE_BOOL → ⊥) → (b : Bool) → Err UnsupportedExtensionType ≡ bool_on t b
   unfolding bool_on
   bool-other h b = simp (bool_on, ne_eqb t TYPE_BOOL h)
 
@@ -146,20 +145,20 @@ pub ruleset bool-laws = (bool-true, bool_false, bool-other)
 -- ---- string_on
 module _ (r : List ℕ) (t : ℕ) (p : Span) where
   module _ (h : t ≡ TYPE_STRING) (b : Bool) (q : b ≡ is_utf8 (text r p)) where
-    pub string-fits : b ≡ true → Fits (Bytes p) ≡ string_on r t p
+    pub string-fits : b ≡ true → Ok (Bytes p) ≡ string_on r t p
     unfolding string_on
     string-fits x = simp (string_on, eq-eqb t TYPE_STRING h, ← q, x)
 
-    pub string-bad : b ≡ false → Misfit StrLitDecodeError ≡ string_on r t p
+    pub string-bad : b ≡ false → Err StrLitDecodeError ≡ string_on r t p
     unfolding string_on
     string-bad x = simp (string_on, eq-eqb t TYPE_STRING h, ← q, x)
 
   module _ (d : t ≡ TYPE_STRING → ⊥) where
-    pub string_bytes : t ≡ TYPE_BYTES → Fits (Bytes p) ≡ string_on r t p
+    pub string_bytes : t ≡ TYPE_BYTES → Ok (Bytes p) ≡ string_on r t p
     unfolding string_on
     string_bytes h = simp (string_on, ne_eqb t TYPE_STRING d, eq-eqb t TYPE_BYTES h)
 
-    pub string-other : (t ≡ TYPE_BYTES → ⊥) → Misfit UnsupportedExtensionType ≡ string_on r t p
+    pub string-other : (t ≡ TYPE_BYTES → ⊥) → Err UnsupportedExtensionType ≡ string_on r t p
     unfolding string_on
     string-other h = simp (string_on, ne_eqb t TYPE_STRING d, ne_eqb t TYPE_BYTES h)
 

@@ -11,7 +11,7 @@
 --   scalar_on unlisted h c ==  the constant c on a field of the shape h
 --
 -- Assumes nothing.
-use Rattle.std.specs.Prelude.{Bool, true, false, ◌||◌, List, ℕ, ◌-◌, ◌%◌, ◌^◌, eqb, leb, Option, None, Some}
+use Rattle.std.specs.Prelude.{Bool, true, false, ◌||◌, List, ℕ, ◌-◌, ◌%◌, ◌^◌, eqb, leb, Option, None, Some, Err, Ok, Result}
 use Rattle.std.specs.Float.{binary32, binary64}
 use Rattle.std.specs.Float.Ieee.{to_bits}
 use Rattle.reply.specs.declared.Refusal.{Refusal}
@@ -29,18 +29,15 @@ use Rattle.sheet.specs.declared.declaration.Value.{Value}
 use Rattle.request.specs.declared.constant.Constant.{Constant}
 use Rattle.request.specs.declared.constant.Constant.TheVariants.{Bool as BoolOf, Integer, Float as FloatOf, NotANumber}
 use Rattle.request.specs.declared.constant.Constant.TheVariants.{Text, Ident, Message as MessageOf, List as ListOf}
-use Rattle.fullname.specs.declared.LookedUpEnum.{LookedUpEnum}
-use Rattle.fullname.specs.declared.LookedUpEnum.TheVariants.{Values, NoEnum}
 use Rattle.records.specs.declared.Body.TheVariants.{Bits, Bytes}
-use Rattle.scalars.specs.declared.Scalar.{Scalar}
-use Rattle.scalars.specs.declared.Scalar.TheVariants.{Fits, Misfit}
 use Rattle.lookups.specs.Lookups.{Lookups, value_in}
+use Rattle.records.specs.declared.Body.{Body}
 
-abbrev pub unsupported : Scalar
-unsupported = Misfit UnsupportedExtensionType
+abbrev pub unsupported : Result Body Refusal
+unsupported = Err UnsupportedExtensionType
 
-abbrev pub fits : ℕ → Scalar
-fits b = Fits (Bits b)
+abbrev pub fits : ℕ → Result Body Refusal
+fits b = Ok (Bits b)
 
 -- ---- integers
 unfoldable pub is_small : ℕ → Bool
@@ -66,9 +63,9 @@ pattern_of true n = (2 ^ 64 - n) % 2 ^ 64
 pattern_of false n = n
 
 -- "Integers fit any integer type that holds them, else 14; on float and double they round to nearest, ties to even." [VALUE-2, VALUE-3]
-unfoldable pub integer_on : ℕ → Bool → ℕ → Scalar
+unfoldable pub integer_on : ℕ → Bool → ℕ → Result Body Refusal
 integer_on t minus n = elim (is_integer t) [
-  | true ↦ elim (leb n (most_of minus t)) [ true ↦ fits (pattern_of minus n) | false ↦ Misfit ValueRange ]
+  | true ↦ elim (leb n (most_of minus t)) [ true ↦ fits (pattern_of minus n) | false ↦ Err ValueRange ]
   | false ↦ elim (eqb t TYPE_FLOAT) [
     | true ↦ fits (int_bits binary32 (signed_of minus n))
     | false ↦ elim (eqb t TYPE_DOUBLE) [ true ↦ fits (int_bits binary64 (signed_of minus n)) | false ↦ unsupported ]
@@ -76,41 +73,41 @@ integer_on t minus n = elim (is_integer t) [
 ]
 
 -- ---- "A float constant fits double exactly and float by the same rounding, overflow to infinity, NaN to 7FC00000.": by its 64 bits [VALUE-4]
-unfoldable pub float_on : ℕ → ℕ → Scalar
+unfoldable pub float_on : ℕ → ℕ → Result Body Refusal
 float_on t b = elim (eqb t TYPE_DOUBLE) [
   | true ↦ fits b
   | false ↦ elim (eqb t TYPE_FLOAT) [ true ↦ fits (narrow_bits b) | false ↦ unsupported ]
 ]
 
 -- ---- "Strings fit string (UTF-8, else 15) and bytes. Bools fit bool, identifiers enum." [VALUE-5, VALUE-6]
-unfoldable pub string_on : List ℕ → ℕ → Span → Scalar
+unfoldable pub string_on : List ℕ → ℕ → Span → Result Body Refusal
 string_on r t p = elim (eqb t TYPE_STRING) [
-  | true ↦ elim (is_utf8 (text r p)) [ true ↦ Fits (Bytes p) | false ↦ Misfit StrLitDecodeError ]
-  | false ↦ elim (eqb t TYPE_BYTES) [ true ↦ Fits (Bytes p) | false ↦ unsupported ]
+  | true ↦ elim (is_utf8 (text r p)) [ true ↦ Ok (Bytes p) | false ↦ Err StrLitDecodeError ]
+  | false ↦ elim (eqb t TYPE_BYTES) [ true ↦ Ok (Bytes p) | false ↦ unsupported ]
 ]
 
-unfoldable pub bool_on : ℕ → Bool → Scalar
+unfoldable pub bool_on : ℕ → Bool → Result Body Refusal
 bool_on t b = elim (eqb t TYPE_BOOL) [ true ↦ elim b [ true ↦ fits 1 | false ↦ fits 0 ] | false ↦ unsupported ]
 
 -- an enum's number is an int32: it widens by sign
-abbrev pub listed : Refusal → Option Value → Scalar
-listed unlisted None = Misfit unlisted
+abbrev pub listed : Refusal → Option Value → Result Body Refusal
+listed unlisted None = Err unlisted
 listed unlisted (Some v) = fits (widen32_of v.number)
 
-abbrev pub among : Refusal → List ℕ → List ℕ → LookedUpEnum → Scalar
-among unlisted s n (NoEnum w) = Misfit w
-among unlisted s n (Values vs) = listed unlisted (value_in s n vs)
+abbrev pub among : Refusal → List ℕ → List ℕ → Result Span Refusal → Result Body Refusal
+among unlisted s n (Err w) = Err w
+among unlisted s n (Ok vs) = listed unlisted (value_in s n vs)
 
 module _ (L : Lookups) (s r : List ℕ) (unlisted : Refusal) (h : Shape) where
   -- "A type path is looked up only for .. an identifier on an enum." [STEP-11, VALUE-7]
-  unfoldable pub ident_on : Span → Scalar
+  unfoldable pub ident_on : Span → Result Body Refusal
   ident_on p = elim (eqb h.typ TYPE_ENUM) [
     | true ↦ among unlisted s (text r p) (L.enumeration (text s h.path))
     | false ↦ unsupported
   ]
 
   -- message constants and lists are no scalars
-  unfoldable pub scalar_on : Constant → Scalar
+  unfoldable pub scalar_on : Constant → Result Body Refusal
   scalar_on (BoolOf b) = bool_on h.typ b
   scalar_on (Integer m n) = integer_on h.typ m n
   scalar_on (FloatOf x) = float_on h.typ (to_bits binary64 x)

@@ -9,23 +9,15 @@ ghost use Rattle.scalars.specs.Scalars.{bool_on, ident_on, scalar_on};
 ghost use Rattle.scalars.specs.inner.Inside.{Inside};
 
 use field::Span;
-use fullname::LookedUpEnum;
 use records::Body;
 use reply::Refusal;
 use request::constant::Constant;
-use sheet::declaration::{Shape, Valued};
+use sheet::declaration::Shape;
 use types::{
     TYPE_BOOL, TYPE_BYTES, TYPE_DOUBLE, TYPE_ENUM, TYPE_FIXED32, TYPE_FIXED64, TYPE_FLOAT,
     TYPE_INT32, TYPE_INT64, TYPE_SFIXED32, TYPE_SFIXED64, TYPE_SINT32, TYPE_SINT64, TYPE_STRING,
     TYPE_UINT32, TYPE_UINT64,
 };
-
-// What a scalar constant comes to on a type.
-#[derive(Clone, Copy)]
-pub enum Scalar {
-    Fits(Body),
-    Misfit(Refusal),
-}
 
 // Whether the type is an integer of 32 bits.
 fn is_small(typ: usize) -> bool
@@ -98,39 +90,39 @@ fn pattern_of(minus: bool, size: u64) -> u64
 }
 
 // An integer: on an integer type that holds it, or rounded.
-fn integer_on(typ: usize, minus: bool, size: u64) -> Scalar
+fn integer_on(typ: usize, minus: bool, size: u64) -> Result<Body, Refusal>
     ensures { result ≡ integer_on typ minus size }
 {
     if is_integer(typ) {
         if size <= most_of(minus, typ) {
-            return Scalar::Fits(Body::Bits(pattern_of(minus, size)));
+            return Ok(Body::Bits(pattern_of(minus, size)));
         }
-        return Scalar::Misfit(Refusal::ValueRange);
+        return Err(Refusal::ValueRange);
     }
     if typ == TYPE_FLOAT {
-        return Scalar::Fits(Body::Bits(round::int_to_f32_bits(minus, size) as u64));
+        return Ok(Body::Bits(round::int_to_f32_bits(minus, size) as u64));
     }
     if typ == TYPE_DOUBLE {
-        return Scalar::Fits(Body::Bits(round::int_to_f64_bits(minus, size)));
+        return Ok(Body::Bits(round::int_to_f64_bits(minus, size)));
     }
-    Scalar::Misfit(Refusal::UnsupportedExtensionType)
+    Err(Refusal::UnsupportedExtensionType)
 }
 
 // A float constant, by its bits.
-fn float_on(typ: usize, bits: u64) -> Scalar
+fn float_on(typ: usize, bits: u64) -> Result<Body, Refusal>
     ensures { result ≡ float_on typ bits }
 {
     if typ == TYPE_DOUBLE {
-        return Scalar::Fits(Body::Bits(bits));
+        return Ok(Body::Bits(bits));
     }
     if typ == TYPE_FLOAT {
-        return Scalar::Fits(Body::Bits(round::f64_bits_to_f32_bits(bits) as u64));
+        return Ok(Body::Bits(round::f64_bits_to_f32_bits(bits) as u64));
     }
-    Scalar::Misfit(Refusal::UnsupportedExtensionType)
+    Err(Refusal::UnsupportedExtensionType)
 }
 
 // A string of the request.
-fn string_on(request: &[u8], typ: usize, place: Span) -> Scalar
+fn string_on(request: &[u8], typ: usize, place: Span) -> Result<Body, Refusal>
     requires { Lies place request.now }
     ensures { result ≡ string_on request.now typ place }
 {
@@ -138,47 +130,47 @@ fn string_on(request: &[u8], typ: usize, place: Span) -> Scalar
         let from = place.from;
         let to = place.to;
         if utf8::is_utf8(&request[from..to]) {
-            return Scalar::Fits(Body::Bytes(place));
+            return Ok(Body::Bytes(place));
         }
-        return Scalar::Misfit(Refusal::StrLitDecodeError);
+        return Err(Refusal::StrLitDecodeError);
     }
     if typ == TYPE_BYTES {
-        return Scalar::Fits(Body::Bytes(place));
+        return Ok(Body::Bytes(place));
     }
-    Scalar::Misfit(Refusal::UnsupportedExtensionType)
+    Err(Refusal::UnsupportedExtensionType)
 }
 
 // A bool.
-fn bool_on(typ: usize, b: bool) -> Scalar
+fn bool_on(typ: usize, b: bool) -> Result<Body, Refusal>
     ensures { result ≡ bool_on typ b }
 {
     if typ == TYPE_BOOL {
         if b {
-            return Scalar::Fits(Body::Bits(1));
+            return Ok(Body::Bits(1));
         }
-        return Scalar::Fits(Body::Bits(0));
+        return Ok(Body::Bits(0));
     }
-    Scalar::Misfit(Refusal::UnsupportedExtensionType)
+    Err(Refusal::UnsupportedExtensionType)
 }
 
 // An identifier of the request: on an enum, the number of that value.
-fn ident_on(sheet: &[u8], request: &[u8], unlisted: Refusal, shape: Shape, place: Span) -> Scalar
+fn ident_on(sheet: &[u8], request: &[u8], unlisted: Refusal, shape: Shape, place: Span) -> Result<Body, Refusal>
     requires lies { Lies place request.now }
     requires lies_2 { Lies shape.path sheet.now }
     ensures { result ≡ ident_on (walking sheet.now) sheet.now request.now unlisted shape place }
 {
     if octets::wide(shape.typ) != TYPE_ENUM {
-        return Scalar::Misfit(Refusal::UnsupportedExtensionType);
+        return Err(Refusal::UnsupportedExtensionType);
     }
     let from = place.from;
     let to = place.to;
     match lookups::enum_at(sheet, shape.path) {
-        LookedUpEnum::NoEnum(why) => Scalar::Misfit(why),
-        LookedUpEnum::Values(values) => {
-            let Valued::Values(v) = lookups::value_named(sheet, values, &request[from..to]) else {
-                return Scalar::Misfit(unlisted);
+        Err(why) => Err(why),
+        Ok(values) => {
+            let Some(v) = lookups::value_named(sheet, values, &request[from..to]) else {
+                return Err(unlisted);
             };
-            Scalar::Fits(Body::Bits(wire::numbers::widen32(v.number as u64)))
+            Ok(Body::Bits(wire::numbers::widen32(v.number as u64)))
         }
     }
 }
@@ -190,7 +182,7 @@ pub fn scalar_on(
     unlisted: Refusal,
     shape: Shape,
     constant: Constant,
-) -> Scalar
+) -> Result<Body, Refusal>
     requires inside { Inside constant request.now }
     requires lies { Lies shape.path sheet.now }
     ensures { result ≡ scalar_on (walking sheet.now) sheet.now request.now unlisted shape constant }
@@ -203,7 +195,7 @@ pub fn scalar_on(
         Constant::NotANumber(bits) => float_on(typ, bits),
         Constant::Text(place) => string_on(request, typ, place),
         Constant::Ident(place) => ident_on(sheet, request, unlisted, shape, place),
-        Constant::Message(_) => Scalar::Misfit(Refusal::UnsupportedExtensionType),
-        Constant::List(_) => Scalar::Misfit(Refusal::UnsupportedExtensionType),
+        Constant::Message(_) => Err(Refusal::UnsupportedExtensionType),
+        Constant::List(_) => Err(Refusal::UnsupportedExtensionType),
     }
 }

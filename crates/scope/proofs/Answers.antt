@@ -5,12 +5,8 @@ use Rattle.std.specs.Prelude.{◌≡◌, refl, Bool, true, false, List, ◌++◌
 use Rattle.basis.specs.Kit.{sym, ap, ◌∙◌}
 use Rattle.basis.proofs.Never.{never}
 use Rattle.sheet.specs.declared.declaration.Declaration.{Declaration}
-use Rattle.sheet.specs.declared.declaration.Declared.{Declared}
-use Rattle.sheet.specs.declared.declaration.Declared.TheVariants.{Declares, NoDeclaration}
 use Rattle.sheet.proofs.MemberLaws.{listed}
 use Rattle.scope.specs.declared.lookup.LookupScope.{LookupScope}
-use Rattle.scope.specs.declared.lookup.Reached.{Reached}
-use Rattle.scope.specs.declared.lookup.Reached.TheVariants.{To, Nowhere}
 use Rattle.basis.specs.First.{only_if, told, first, or_else}
 use Rattle.scope.specs.Scope.{Scope}
 use Rattle.scope.specs.inner.Answers.{placed, declared}
@@ -18,23 +14,23 @@ use Rattle.scope.specs.inner.Steps.{tells_declared, first_of, whose}
 use Rattle.basis.proofs.FirstLaws.{first-append}
 
 -- ---- what there is, of which the answer tells
-module _ (r : Reached) where
-  pub placed-nowhere : (o : Option Scope) → r ≡ placed o → r ≡ Nowhere → o ≡ None
+module _ (r : Option LookupScope) where
+  pub placed-nowhere : (o : Option Scope) → r ≡ placed o → r ≡ None → o ≡ None
   placed-nowhere None q g = refl
   placed-nowhere (Some c) q g = never cc
 
   -- of a scope the answer is the place alone
-  pub placed-to : (o : Option Scope) → r ≡ placed o → (p : LookupScope) → r ≡ To p → (P : Type 0)
+  pub placed-to : (o : Option Scope) → r ≡ placed o → (p : LookupScope) → r ≡ Some p → (P : Type 0)
       → ((c : Scope) → o ≡ Some c → p ≡ c.place → P) → P
   placed-to None q p g P k = never cc
   placed-to (Some c) q p g P k = let u : p ≡ c.place = cc in k c refl u
 
-module _ (r : Declared) where
-  pub declared-none : (o : Option Declaration) → r ≡ declared o → r ≡ NoDeclaration → o ≡ None
+module _ (r : Option Declaration) where
+  pub declared-none : (o : Option Declaration) → r ≡ declared o → r ≡ None → o ≡ None
   declared-none None q g = refl
   declared-none (Some d) q g = never cc
 
-  pub declared-some : (o : Option Declaration) → r ≡ declared o → (d : Declaration) → r ≡ Declares d → o ≡ Some d
+  pub declared-some : (o : Option Declaration) → r ≡ declared o → (d : Declaration) → r ≡ Some d → o ≡ Some d
   declared-some None q d g = never cc
   declared-some (Some x) q d g = let u : x ≡ d = cc in rw u
 
@@ -50,34 +46,34 @@ module _ {A B R : Type 0} (nothing : R) (thing : B → R) (tells : R → Option 
   told-append good xs ys = ap (told nothing thing) (first-append good xs ys) ∙ told-or-else (first good xs) (first good ys)
 
 pub declared-or-else : (o p : Option Declaration) → declared (or_else o p) ≡ first_of tells_declared (declared o) (declared p)
-declared-or-else = told-or-else NoDeclaration Declares tells_declared (λ q. refl) (λ d q. refl)
+declared-or-else = told-or-else None Some tells_declared (λ q. refl) (λ d q. refl)
 
 module _ (good : Declaration → Bool) where
   pub declared-append : (xs ys : List Declaration)
       → declared (first good (xs ++ ys)) ≡ first_of tells_declared (declared (first good xs)) (declared (first good ys))
-  declared-append = told-append NoDeclaration Declares tells_declared (λ q. refl) (λ d q. refl) good
+  declared-append = told-append None Some tells_declared (λ q. refl) (λ d q. refl) good
 
-  pub declared-listed : (r : Declared) → declared (first good (listed r)) ≡ whose NoDeclaration tells_declared good r
+  pub declared-listed : (r : Option Declaration) → declared (first good (listed r)) ≡ whose None tells_declared good r
   unfolding whose
-  declared-listed NoDeclaration = refl
-  declared-listed (Declares d) = go (good d)
+  declared-listed None = refl
+  declared-listed (Some d) = go (good d)
     where
-      go : (b : Bool) → declared (only_if b (Some d) None) ≡ only_if b (Declares d) NoDeclaration
+      go : (b : Bool) → declared (only_if b (Some d) None) ≡ only_if b (Some d) None
       go true = refl
       go false = refl
 
 -- ---- a declaration, where it passes a test
-module _ (good : Declaration → Bool) (r x : Declared) (q : r ≡ x) where
-  pub whose-none : r ≡ NoDeclaration → NoDeclaration ≡ whose NoDeclaration tells_declared good x
+module _ (good : Declaration → Bool) (r x : Option Declaration) (q : r ≡ x) where
+  pub whose-none : r ≡ None → None ≡ whose None tells_declared good x
   unfolding whose
   whose-none g = rw (← q, g)
 
-  module _ (d : Declaration) (g : r ≡ Declares d) where
-    pub whose-other : good d ≡ false → NoDeclaration ≡ whose NoDeclaration tells_declared good x
+  module _ (d : Declaration) (g : r ≡ Some d) where
+    pub whose-other : good d ≡ false → None ≡ whose None tells_declared good x
     unfolding whose
     whose-other h = rw (← q, g, h)
 
-    pub whose-some : good d ≡ true → Declares d ≡ whose NoDeclaration tells_declared good x
+    pub whose-some : good d ≡ true → Some d ≡ whose None tells_declared good x
     unfolding whose
     whose-some h = rw (← q, g, h)
 

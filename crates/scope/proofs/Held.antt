@@ -11,8 +11,6 @@ use Rattle.basis.specs.Kit.{sym, ap, ◌∙◌}
 use Rattle.basis.proofs.Kit.{arith}
 use mathlib.Core.Path.{subst}
 use Rattle.basis.proofs.Never.{never}
-use Rattle.field.specs.declared.Leaf.{Leaf}
-use Rattle.field.specs.declared.Leaf.TheVariants.{At, Not}
 use Rattle.field.specs.declared.Span.{Span}
 use Rattle.field.specs.Leaf.{span, is_text, any_bytes, leaf_at}
 use Rattle.field.specs.Walk.{walk}
@@ -23,8 +21,6 @@ use Rattle.sheet.specs.Tree.{values_in, items_in}
 use Rattle.sheet.specs.Members.{Message, Enumeration, messages_of, enums_of}
 use Rattle.sheet.proofs.MemberLaws.{item-cases}
 use Rattle.scope.specs.declared.lookup.LookupScope.{LookupScope}
-use Rattle.scope.specs.declared.lookup.Reached.{Reached}
-use Rattle.scope.specs.declared.lookup.Reached.TheVariants.{To, Nowhere}
 use Rattle.basis.specs.First.{first}
 use Rattle.scope.specs.Scope.{Scope, holding, message_scope, down, enum_named}
 use Rattle.scope.specs.inner.Answers.{InSheet, placed, bodied}
@@ -44,12 +40,12 @@ pub record HeldEnum (s : List ℕ) (end : ℕ) (x : Enumeration) : Type 0 where
 
 module _ (d : ℕ) (s : List ℕ) (end : ℕ) where
   -- the message or the enum of the name n..m that a field a..e is
-  module _ (a e : ℕ) (h : e ≤ end) (n m : ℕ) (p : leaf_at name_tag any_bytes s a e ≡ At n m) where
-    message-held : Held d s end (record { name = span n m; body = span m e; inside = items_in (d - 1) s (walk s m e) })
-    message-held = record { inside = refl; ordered = leaf-inside name_tag any_bytes s a e (At n m) (sym p) n m refl; within = h }
+  module _ (a e : ℕ) (h : e ≤ end) (q : Span) (p : leaf_at name_tag any_bytes s a e ≡ Some q) where
+    message-held : Held d s end (record { name = q; body = span q.to e; inside = items_in (d - 1) s (walk s q.to e) })
+    message-held = record { inside = refl; ordered = leaf-inside name_tag any_bytes s a e (Some q) (sym p) q refl; within = h }
 
-    enumeration-held : HeldEnum s end (record { name = span n m; body = span m e; values = values_in s (walk s m e) })
-    enumeration-held = record { values = refl; ordered = leaf-inside name_tag any_bytes s a e (At n m) (sym p) n m refl; within = h }
+    enumeration-held : HeldEnum s end (record { name = q; body = span q.to e; values = values_in s (walk s q.to e) })
+    enumeration-held = record { values = refl; ordered = leaf-inside name_tag any_bytes s a e (Some q) (sym p) q refl; within = h }
 
   messages-held : (at : ℕ) → Every (Held d s end) (messages_of (items_in d s (walk s at end)))
   unfolding items_in
@@ -89,11 +85,11 @@ module _ (s n : List ℕ) (p : LookupScope) where
         λ m h u. rw u (record { ordered = h.ordered; within = omega (arith, h.within, l.within) })
 
   -- the same, of what `down` answers
-  module _ (r : Reached) (q : r ≡ placed (down s n (holding s p))) where
-    pub down-nowhere : r ≡ Nowhere → down s n (holding s p) ≡ None
+  module _ (r : Option LookupScope) (q : r ≡ placed (down s n (holding s p))) where
+    pub down-nowhere : r ≡ None → down s n (holding s p) ≡ None
     down-nowhere = placed-nowhere r (down s n (holding s p)) q
 
-    module _ (x : LookupScope) (g : r ≡ To x) where
+    module _ (x : LookupScope) (g : r ≡ Some x) where
       pub down_to : down s n (holding s p) ≡ Some (holding s x)
       down_to =
           placed-to r (down s n (holding s p)) q x g (down s n (holding s p) ≡ Some (holding s x))
@@ -127,30 +123,29 @@ module _ (s n : List ℕ) (p : LookupScope) where
     enum-lies-within l = omega (arith, enum-stands.within, l.within)
 
   -- the same, of what `enum_named` answers
-  module _ (r : Leaf) (q : r ≡ bodied (enum_named s n (holding s p))) where
-    pub enum-not : r ≡ Not → enum_named s n (holding s p) ≡ None
+  module _ (r : Option Span) (q : r ≡ bodied (enum_named s n (holding s p))) where
+    pub enum-not : r ≡ None → enum_named s n (holding s p) ≡ None
     enum-not = go (enum_named s n (holding s p)) q
       where
-        go : (o : Option Enumeration) → r ≡ bodied o → r ≡ Not → o ≡ None
+        go : (o : Option Enumeration) → r ≡ bodied o → r ≡ None → o ≡ None
         go None q g = refl
         go (Some x) q g = never cc
 
-    module _ (a e : ℕ) (g : r ≡ At a e) where
-      pub enum_at : FoundEnum s n (holding s p) (span a e)
+    module _ (w : Span) (g : r ≡ Some w) where
+      pub enum_at : FoundEnum s n (holding s p) w
       enum_at = go (enum_named s n (holding s p)) refl q
         where
-          go : (o : Option Enumeration) → enum_named s n (holding s p) ≡ o → r ≡ bodied o → FoundEnum s n (holding s p) (span a e)
+          go : (o : Option Enumeration) → enum_named s n (holding s p) ≡ o → r ≡ bodied o → FoundEnum s n (holding s p) w
           go None f q = never cc
           go (Some x) f q =
-              let u : a ≡ x.body.from = cc in
-              let v : e ≡ x.body.to = cc in
-              record { next = x; is = f; body = rw (u, v) }
+              let u : w ≡ span x.body.from x.body.to = cc in
+              record { next = x; is = f; body = rw u }
 
-      pub enum-at-ordered : a ≤ e
+      pub enum-at-ordered : w.from ≤ w.to
       enum-at-ordered =
           subst (λ (b : Span). b.from ≤ b.to) (sym enum_at.body) (enum-lies-ordered enum_at.next enum_at.is)
 
-      pub enum-at-within : InSheet s p → e ≤ length s
+      pub enum-at-within : InSheet s p → w.to ≤ length s
       enum-at-within l =
           subst (λ (b : Span). b.to ≤ length s) (sym enum_at.body) (enum-lies-within enum_at.next enum_at.is l)
 

@@ -5,14 +5,12 @@
 --          inner p a e == the place of a message of the scope p whose body is from a to e
 --
 -- Assumes nothing.
-use Rattle.std.specs.Prelude.{◌≡◌, refl, Bool, true, false, List, [], ◌∷◌, ℕ, ◌-◌, eqb, Option, Some}
+use Rattle.std.specs.Prelude.{◌≡◌, refl, Bool, true, false, List, [], ◌∷◌, ℕ, ◌-◌, eqb, Option, Some, None}
 use Rattle.basis.specs.Kit.{sym, ap, ◌∙◌}
 use Rattle.basis.proofs.Kit.{eq-eqb, ne_eqb, not-true, not-false}
 use mathlib.Core.Option as option
 use borrow.Author.Tests.{eqb-true, eqb-false}
 use Rattle.octets.specs.Octets.{same_bytes}
-use Rattle.field.specs.declared.Leaf.{Leaf}
-use Rattle.field.specs.declared.Leaf.TheVariants.{At, Not}
 use Rattle.field.specs.declared.Span.{Span}
 use Rattle.field.specs.Leaf.{span, is_text, any_bytes, on_leaf, leaf_at}
 use Rattle.field.specs.Walk.{Walk, done, cut, step, walk}
@@ -24,7 +22,6 @@ use Rattle.sheet.specs.Members.{Message, messages_of, enums_of}
 use Rattle.sheet.proofs.MemberLaws.{messages-other, messages-beyond, messages-unnamed, messages-named}
 use Rattle.sheet.proofs.MemberLaws.{enums-other, enums-unnamed, enums-named}
 use Rattle.scope.specs.declared.lookup.LookupScope.{LookupScope}
-use Rattle.scope.specs.declared.lookup.Reached.TheVariants.{To, Nowhere}
 use Rattle.basis.specs.First.{told, first, given}
 use Rattle.scope.specs.Scope.{holding, message_scope, down, enum_named}
 use Rattle.scope.specs.inner.Answers.{placed, bodied}
@@ -35,39 +32,39 @@ pub ruleset named-at-laws = (leaf-none, leaf-bad, leaf-good, leaf-ordered, leaf-
 
 -- ---- body_at
 module _ (k : ℕ) (n s : List ℕ) (t a e : ℕ) where
-  pub body-other : (t ≡ k → ⊥) → Not ≡ body_at k n s t a e
+  pub body-other : (t ≡ k → ⊥) → None ≡ body_at k n s t a e
   unfolding body_at
   body-other o = simp (body_at, ne_eqb t k o)
 
-  module _ (h : t ≡ k) (r : Leaf) (q : r ≡ leaf_at name_tag (same_bytes n) s a e) where
-    pub body-unnamed : r ≡ Not → Not ≡ body_at k n s t a e
+  module _ (h : t ≡ k) (r : Option Span) (q : r ≡ leaf_at name_tag (same_bytes n) s a e) where
+    pub body-unnamed : r ≡ None → None ≡ body_at k n s t a e
     unfolding body_at
     body-unnamed g = simp (body_at, eq-eqb t k h, ← q, g)
 
-    pub body-named : (x y : ℕ) → r ≡ At x y → At y e ≡ body_at k n s t a e
+    pub body-named : (p : Span) → r ≡ Some p → Some (span p.to e) ≡ body_at k n s t a e
     unfolding body_at
-    body-named x y g = simp (body_at, eq-eqb t k h, ← q, g)
+    body-named p g = simp (body_at, eq-eqb t k h, ← q, g)
 
 pub ruleset body-at-laws = (body-other, body-unnamed, body-named)
 
 -- what a field of the tag k comes to, by its tag and its name
-module _ (k : ℕ) (n s : List ℕ) (t a e : ℕ) (P : Leaf → Type 0)
-    (other : (t ≡ k → ⊥) → P Not)
-    (unnamed : t ≡ k → leaf_at name_tag any_bytes s a e ≡ Not → P Not)
-    (different : t ≡ k → (x y : ℕ) → leaf_at name_tag any_bytes s a e ≡ At x y → is_text s n (span x y) ≡ false → P Not)
-    (same : t ≡ k → (x y : ℕ) → leaf_at name_tag any_bytes s a e ≡ At x y → is_text s n (span x y) ≡ true → P (At y e)) where
-  name-cases : t ≡ k → (l : Leaf) → leaf_at name_tag any_bytes s a e ≡ l → P (body_at k n s t a e)
-  name-cases h Not q =
-      rw (← body-unnamed k n s t a e h Not (leaf-none name_tag (same_bytes n) s a e Not (sym q) refl) refl) (unnamed h q)
-  name-cases h (At x y) q = go (is_text s n (span x y)) refl
+module _ (k : ℕ) (n s : List ℕ) (t a e : ℕ) (P : Option Span → Type 0)
+    (other : (t ≡ k → ⊥) → P None)
+    (unnamed : t ≡ k → leaf_at name_tag any_bytes s a e ≡ None → P None)
+    (different : t ≡ k → (u : Span) → leaf_at name_tag any_bytes s a e ≡ Some u → is_text s n u ≡ false → P None)
+    (same : t ≡ k → (u.from u.to : ℕ) → leaf_at name_tag any_bytes s a e ≡ Some u → is_text s n u ≡ true → P (Some (span u.to e))) where
+  name-cases : t ≡ k → (l : Option Span) → leaf_at name_tag any_bytes s a e ≡ l → P (body_at k n s t a e)
+  name-cases h None q =
+      rw (← body-unnamed k n s t a e h None (leaf-none name_tag (same_bytes n) s a e None (sym q) refl) refl) (unnamed h q)
+  name-cases h (Some place) q = go (is_text s n (span place.from place.to)) refl
     where
-      go : (b : Bool) → is_text s n (span x y) ≡ b → P (body_at k n s t a e)
+      go : (b : Bool) → is_text s n (span place.from place.to) ≡ b → P (body_at k n s t a e)
       go false z =
-          rw (← body-unnamed k n s t a e h Not (leaf-bad name_tag (same_bytes n) s a e (At x y) (sym q) x y refl false (sym z) refl) refl)
-          (different h x y q z)
+          rw (← body-unnamed k n s t a e h None (leaf-bad name_tag (same_bytes n) s a e (Some (span place.from place.to)) (sym q) place refl false (sym z) refl) refl)
+          (different h place.from place.to q z)
       go true z =
-          let f = leaf-good name_tag (same_bytes n) s a e (At x y) (sym q) x y refl true (sym z) refl in
-          rw (← body-named k n s t a e h (At x y) f x y refl) (same h x y q z)
+          let f = leaf-good name_tag (same_bytes n) s a e (Some (span place.from place.to)) (sym q) place refl true (sym z) refl in
+          rw (← body-named k n s t a e h (Some (span place.from place.to)) f place refl) (same h place.from place.to q z)
 
   body-cases : P (body_at k n s t a e)
   body-cases = go (eqb t k) refl
@@ -77,10 +74,10 @@ module _ (k : ℕ) (n s : List ℕ) (t a e : ℕ) (P : Leaf → Type 0)
       go true p = name-cases (eqb-true t k p) (leaf_at name_tag any_bytes s a e) refl
 
 -- ---- body_named
-pub body-named-is : (k : ℕ) (n s : List ℕ) (w : Walk) (r : Leaf) → r ≡ seek Not (first_of tells_leaf) (body_at k n s) w
+pub body-named-is : (k : ℕ) (n s : List ℕ) (w : Walk) (r : Option Span) → r ≡ seek None (first_of tells_leaf) (body_at k n s) w
     → r ≡ body_named k n s w
 body-named-is k n s w r q =
-    q ∙ sym (seek_is Not (first_of tells_leaf) (body_at k n s) (body_named k n s) refl refl (λ t a e w. refl) w)
+    q ∙ sym (seek_is None (first_of tells_leaf) (body_at k n s) (body_named k n s) refl refl (λ t a e w. refl) w)
 
 pub ruleset body-named-laws = (body-named-is, seek-laws)
 
@@ -88,12 +85,12 @@ pub ruleset body-named-laws = (body-named-is, seek-laws)
 module _ (d : ℕ) (s n : List ℕ) {A : Type 0} (k : ℕ) (all : Items → List A) (name body : A → Span) (made : ℕ → ℕ → ℕ → A)
     (bare : all none ≡ [])
     (other : (t a e : ℕ) (rest : Items) → (t ≡ k → ⊥) → all (item_in (message_in d s) s t a e rest) ≡ all rest)
-    (unnamed : (t a e : ℕ) (rest : Items) → leaf_at name_tag any_bytes s a e ≡ Not → all (item_in (message_in d s) s t a e rest) ≡ all rest)
-    (named : (t a e : ℕ) (rest : Items) → t ≡ k → (x y : ℕ) → leaf_at name_tag any_bytes s a e ≡ At x y
-    → all (item_in (message_in d s) s t a e rest) ≡ made x y e ∷ all rest)
-    (name_is : (x y e : ℕ) → name (made x y e) ≡ span x y) (body_is : (x y e : ℕ) → body (made x y e) ≡ span y e) where
-  abbrev amongst : List A → Leaf
-  amongst xs = told Not (λ x. At (body x).from (body x).to) (first (λ x. is_text s n (name x)) xs)
+    (unnamed : (t a e : ℕ) (rest : Items) → leaf_at name_tag any_bytes s a e ≡ None → all (item_in (message_in d s) s t a e rest) ≡ all rest)
+    (named : (t a e : ℕ) (rest : Items) → t ≡ k → (p : Span) → leaf_at name_tag any_bytes s a e ≡ Some p
+    → all (item_in (message_in d s) s t a e rest) ≡ made p.from p.to e ∷ all rest)
+    (name_is : (p.from p.to e : ℕ) → name (made p.from p.to e) ≡ p) (body_is : (p.from p.to e : ℕ) → body (made p.from p.to e) ≡ span p.to e) where
+  abbrev amongst : List A → Option Span
+  amongst xs = told None (λ p.from. Some (span (body p.from).from) (body p.from).to) (first (λ p.from. is_text s n (name p.from)) xs)
 
   among-step : (t a e : ℕ) (rest : Items)
       → amongst (all (item_in (message_in d s) s t a e rest)) ≡ first_of tells_leaf (body_at k n s t a e) (amongst (all rest))
@@ -102,8 +99,8 @@ module _ (d : ℕ) (s n : List ℕ) {A : Type 0} (k : ℕ) (all : Items → List
       (λ l. amongst (all (item_in (message_in d s) s t a e rest)) ≡ first_of tells_leaf l (amongst (all rest)))
       (λ o. rw (other t a e rest o))
       (λ h q. rw (unnamed t a e rest q))
-      (λ h x y q w. rw (named t a e rest h x y q, name_is x y e, w))
-      (λ h x y q w. rw (named t a e rest h x y q, name_is x y e, w, body_is x y e))
+      (λ h p.from p.to q w. rw (named t a e rest h p.from p.to q, name_is p.from p.to e, w))
+      (λ h p.from p.to q w. rw (named t a e rest h p.from p.to q, name_is p.from p.to e, w, body_is p.from p.to e))
 
   first-named : (w : Walk) → amongst (all (items_in d s w)) ≡ body_named k n s w
   unfolding items_in
@@ -112,8 +109,8 @@ module _ (d : ℕ) (s n : List ℕ) {A : Type 0} (k : ℕ) (all : Items → List
   first-named (step t a e w) = among-step t a e (items_in d s w) ∙ ap (first_of tells_leaf (body_at k n s t a e)) (first-named w)
 
 -- ---- down
-abbrev body_of : Option Message → Leaf
-body_of = told Not (λ m. At m.body.from m.body.to)
+abbrev body_of : Option Message → Option Span
+body_of = told None (λ m. Some (span m.body.from m.body.to))
 
 abbrev message_among : List ℕ → List ℕ → Items → Option Message
 message_among s n i = first (λ m. is_text s n m.name) (messages_of i)
@@ -123,8 +120,8 @@ module _ (d : ℕ) (s n : List ℕ) where
   message-named z =
       first-named d s n message_tag messages_of (λ m. m.name) (λ m. m.body)
       (λ x y e. record { name = span x y; body = span y e; inside = items_in (d - 1) s (walk s y e) }) refl
-      (messages-other d s) (λ t a e rest q. messages-unnamed d s t a e rest Not (sym q) refl)
-      (λ t a e rest h x y q. messages-named d s t a e rest (At x y) (sym q) h z x y refl) (λ x y e. refl) (λ x y e. refl)
+      (messages-other d s) (λ t a e rest q. messages-unnamed d s t a e rest None (sym q) refl)
+      (λ t a e rest h x y q. messages-named d s t a e rest (Some (span x y)) (sym q) h z x y refl) (λ x y e. refl) (λ x y e. refl)
 
   -- no level left: no message
   message-none : d ≡ 0 → (w : Walk) → message_among s n (items_in d s w) ≡ option.none
@@ -137,33 +134,33 @@ abbrev inner : LookupScope → ℕ → ℕ → LookupScope
 inner p a e = record { file = p.file; message = true; body = span a e; left = p.left - 1 }
 
 module _ (s n : List ℕ) (p : LookupScope) where
-  pub down-beyond : p.left ≡ 0 → Nowhere ≡ placed (down s n (holding s p))
+  pub down-beyond : p.left ≡ 0 → None ≡ placed (down s n (holding s p))
   down-beyond z = rw (message-none p.left s n z (walk s p.body.from p.body.to))
 
-  module _ (z : p.left ≡ 0 → ⊥) (l : Leaf) (q : l ≡ body_named message_tag n s (walk s p.body.from p.body.to)) where
-    down_is : placed (down s n (holding s p)) ≡ on_leaf Nowhere l λ a e. To (inner p a e)
+  module _ (z : p.left ≡ 0 → ⊥) (l : Option Span) (q : l ≡ body_named message_tag n s (walk s p.body.from p.body.to)) where
+    down_is : placed (down s n (holding s p)) ≡ on_leaf None l λ a e. Some (inner p a e)
     down_is =
         rw (q, ← message-named p.left s n z (walk s p.body.from p.body.to)) (go (message_among s n (holding s p).items))
       where
         go : (o : Option Message)
-            → placed (given o λ m. Some (message_scope (holding s p) m)) ≡ on_leaf Nowhere (body_of o) λ a e. To (inner p a e)
+            → placed (given o λ m. Some (message_scope (holding s p) m)) ≡ on_leaf None (body_of o) λ a e. Some (inner p a e)
         go option.none = refl
         go (Some m) = refl
 
-    pub down-none : l ≡ Not → Nowhere ≡ placed (down s n (holding s p))
+    pub down-none : l ≡ None → None ≡ placed (down s n (holding s p))
     down-none g = rw (down_is, g)
 
-    pub down-some : (a e : ℕ) → l ≡ At a e → To (inner p a e) ≡ placed (down s n (holding s p))
-    down-some a e g = rw (down_is, g)
+    pub down-some : (u : Span) → l ≡ Some u → Some (inner p u.from u.to) ≡ placed (down s n (holding s p))
+    down-some u g = rw (down_is, g)
 
 pub ruleset down-laws = (down-beyond, down-none, down-some)
 
 -- ---- enum_named
-pub enum-named-is : (s n : List ℕ) (p : LookupScope) (r : Leaf)
+pub enum-named-is : (s n : List ℕ) (p : LookupScope) (r : Option Span)
     → r ≡ body_named enum_tag n s (walk s p.body.from p.body.to) → r ≡ bodied (enum_named s n (holding s p))
 enum-named-is s n p r q =
     q ∙ sym (first-named p.left s n enum_tag enums_of (λ x. x.name) (λ x. x.body)
     (λ x y e. record { name = span x y; body = span y e; values = values_in s (walk s y e) }) refl
-    (enums-other p.left s) (λ t a e rest q. enums-unnamed p.left s t a e rest Not (sym q) refl)
-    (λ t a e rest h x y q. enums-named p.left s t a e rest (At x y) (sym q) h x y refl) (λ x y e. refl) (λ x y e. refl)
+    (enums-other p.left s) (λ t a e rest q. enums-unnamed p.left s t a e rest None (sym q) refl)
+    (λ t a e rest h x y q. enums-named p.left s t a e rest (Some (span x y)) (sym q) h x y refl) (λ x y e. refl) (λ x y e. refl)
     (walk s p.body.from p.body.to))

@@ -8,7 +8,7 @@ ghost use Rattle.scope.specs.Scope.{holding, down as down_of, enum_named};
 ghost use Rattle.scope.specs.inner.Answers.{InSheet, placed, bodied};
 ghost use Rattle.scope.specs.inner.Steps.{body_at, body_named};
 
-use field::{Field, Leaf, Span};
+use field::{Field, Span};
 use sheet::table;
 
 // A file or a message of the sheet, protobuf-parse's LookupScope2.
@@ -23,43 +23,36 @@ pub struct LookupScope {
     pub left: usize,
 }
 
-// What going down to a message comes to.
-#[derive(Clone, Copy)]
-pub enum Reached {
-    To(LookupScope),
-    Nowhere,
-}
-
 // The name that a payload begins with, where it is this one.
-pub fn named_at(s: &[u8], from: usize, to: usize, name: &[u8]) -> Leaf
+pub fn named_at(s: &[u8], from: usize, to: usize, name: &[u8]) -> Option<Span>
     requires { (from ≤ to) × (to ≤ length s.now) }
     ensures { result ≡ leaf_at name_tag (same_bytes name.now) s.now from to }
 {
-    let Leaf::At { from: n, to: m } = field::leaf_at(s, from, to, table::NAME) else {
-        return Leaf::Not;
+    let Some(Span { from: n, to: m }) = field::leaf_at(s, from, to, table::NAME) else {
+        return None;
     };
     if !octets::same(name, &s[n..m]) {
-        return Leaf::Not;
+        return None;
     }
-    Leaf::At { from: n, to: m }
+    Some(Span { from: n, to: m })
 }
 
 // What stands after the name in a field of the tag `want` and of this name.
-fn body_at(s: &[u8], tag: u8, from: usize, to: usize, want: u8, name: &[u8]) -> Leaf
+fn body_at(s: &[u8], tag: u8, from: usize, to: usize, want: u8, name: &[u8]) -> Option<Span>
     requires { (from ≤ to) × (to ≤ length s.now) }
     ensures { result ≡ body_at want name.now s.now tag from to }
 {
     if tag != want {
-        return Leaf::Not;
+        return None;
     }
-    let Leaf::At { from: _, to: body } = named_at(s, from, to, name) else {
-        return Leaf::Not;
+    let Some(Span { from: _, to: body }) = named_at(s, from, to, name) else {
+        return None;
     };
-    Leaf::At { from: body, to: to }
+    Some(Span { from: body, to: to })
 }
 
 // What stands after the name in the first field of that tag and name in the scope.
-fn body_named(s: &[u8], scope: LookupScope, want: u8, name: &[u8]) -> Leaf
+fn body_named(s: &[u8], scope: LookupScope, want: u8, name: &[u8]) -> Option<Span>
     requires { InSheet s.now scope }
     ensures { result ≡ body_named want name.now s.now
         (walk s.now scope.body.from scope.body.to) }
@@ -67,29 +60,29 @@ fn body_named(s: &[u8], scope: LookupScope, want: u8, name: &[u8]) -> Leaf
     let end = scope.body.to;
     let mut at = scope.body.from;
     while at < end {
-        let Field::Whole { tag, from, to } = field::field_at(s, at, end) else {
-            return Leaf::Not;
+        let Some(Field { tag, from, to }) = field::field_at(s, at, end) else {
+            return None;
         };
-        if let Leaf::At { from: a, to: e } = body_at(s, tag, from, to, want, name) {
-            return Leaf::At { from: a, to: e };
+        if let Some(Span { from: a, to: e }) = body_at(s, tag, from, to, want, name) {
+            return Some(Span { from: a, to: e });
         }
         at = to;
     }
-    Leaf::Not
+    None
 }
 
 // The first message of that name in the scope.
-pub fn down(s: &[u8], scope: LookupScope, name: &[u8]) -> Reached
+pub fn down(s: &[u8], scope: LookupScope, name: &[u8]) -> Option<LookupScope>
     requires { InSheet s.now scope }
     ensures { result ≡ placed (down_of s.now name.now (holding s.now scope)) }
 {
     if scope.left == 0 {
-        return Reached::Nowhere;
+        return None;
     }
-    let Leaf::At { from, to } = body_named(s, scope, table::MESSAGE, name) else {
-        return Reached::Nowhere;
+    let Some(Span { from, to }) = body_named(s, scope, table::MESSAGE, name) else {
+        return None;
     };
-    Reached::To(LookupScope {
+    Some(LookupScope {
         file: scope.file,
         message: true,
         body: Span { from: from, to: to },
@@ -98,7 +91,7 @@ pub fn down(s: &[u8], scope: LookupScope, name: &[u8]) -> Reached
 }
 
 // Where the values of the first enum of that name in the scope stand.
-pub fn enum_named(s: &[u8], scope: LookupScope, name: &[u8]) -> Leaf
+pub fn enum_named(s: &[u8], scope: LookupScope, name: &[u8]) -> Option<Span>
     requires { InSheet s.now scope }
     ensures { result ≡ bodied (enum_named s.now name.now (holding s.now scope)) }
 {

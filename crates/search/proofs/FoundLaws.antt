@@ -1,6 +1,6 @@
 -- What is found against what is declared: in a scope, at a path, and by a whole search.
 -- Assumes nothing.
-use Rattle.std.specs.Prelude.{◌≡◌, refl, Bool, true, false, List, [], ◌∷◌, ℕ, zero, suc, ◌+◌, ◌<◌, ltb, length, get_or, Option, None, Some}
+use Rattle.std.specs.Prelude.{◌≡◌, refl, Bool, true, false, List, [], ◌∷◌, ℕ, zero, suc, ◌+◌, ◌<◌, ltb, length, get_or, Option, None, Some, Err, Ok}
 use Rattle.basis.specs.Kit.{sym, ap, ◌∙◌}
 use Rattle.basis.proofs.Kit.{arith}
 use borrow.Author.Tests.{ltb-true, ltb-false}
@@ -11,8 +11,6 @@ use Rattle.sheet.specs.declared.declaration.Declaration.{Declaration}
 use Rattle.sheet.specs.Members.{extensions_of}
 use Rattle.search.specs.declared.extension.Found.{Found}
 use Rattle.search.specs.declared.extension.Candidate.{Candidate}
-use Rattle.search.specs.declared.extension.Tried.TheVariants as attempt
-use Rattle.search.specs.declared.extension.Resolved.TheVariants.{Field}
 use Rattle.basis.specs.First.{first, given, or_else, first_some}
 use Rattle.scope.specs.Scope.{Scope}
 use Rattle.field.specs.Leaf.{is_text}
@@ -111,7 +109,7 @@ module _ (s scope name : List ℕ) (f : Found) where
         refl,
       )
 
-  pub found-answers : find_extension_by_path s scope name ≡ Field f → Answers s scope name f
+  pub found-answers : find_extension_by_path s scope name ≡ Ok f → Answers s scope name f
   found-answers e = (makes-answers (firsts-some (found_at s) (candidates scope name) (by-path-some s scope name f e))).0
 
   answers-some : is_path name ≡ true → Answers s scope name f → first_some (found_at s) (candidates scope name) ≡ Some f
@@ -123,7 +121,7 @@ module _ (s scope name : List ℕ) (f : Found) where
       (behind-map (λ q m. none-find s q) a.first-candidate)
       (some-find s p c f Some (declares-found s p c f a.file a.declares a.first-declared) a.first-scope)
 
-  pub answers-found : is_path name ≡ true → Answers s scope name f → find_extension_by_path s scope name ≡ Field f
+  pub answers-found : is_path name ≡ true → Answers s scope name f → find_extension_by_path s scope name ≡ Ok f
   answers-found h a = some-by-path s scope name f (answers-some h a)
 
 -- ---- the position of the candidate that answers: the first of the paths at which something is found
@@ -179,7 +177,7 @@ module _ (s scope name : List ℕ) where
       let same : c.position ≡ r.0 = omega (arith, r.1) in
       rw same r.2
 
-  pub tried-answers : (c : Candidate) → tried s scope name ≡ attempt.Answers c → AnswersAt s scope name c
+  pub tried-answers : (c : Candidate) → tried s scope name ≡ Ok c → AnswersAt s scope name c
   unfolding candidate tried
   tried-answers c e =
       let ps = candidates scope name in
@@ -217,13 +215,13 @@ module _ (s scope name : List ℕ) where
         go false u false v =
             omega (arith, ltb-false d.position c.position u, ltb-false c.position d.position v)
 
-    pub answers-tried : tried s scope name ≡ attempt.Answers c
+    pub answers-tried : tried s scope name ≡ Ok c
     unfolding tried
     answers-tried = go (found_among s 0 (candidates scope name)) refl
         (among-unplaced s 0 (candidates scope name) ∙ answers-some s scope name c.found h a.answers)
       where
         go : (o : Option Candidate) → found_among s 0 (candidates scope name) ≡ o → unplaced o ≡ Some c.found
-            → or_not_found attempt.Answers attempt.Refused o ≡ attempt.Answers c
+            → or_not_found Ok Err o ≡ Ok c
         go None e q = never cc
         go (Some d) e q =
             let u : d.found ≡ c.found = cc in

@@ -5,7 +5,7 @@
 --   FoundLies s f <-> the places of the extension that was found are of s, and its file is counted no further than s is long
 --
 -- Assumes nothing.
-use Rattle.std.specs.Prelude.{◌≡◌, refl, List, [], ◌∷◌, ℕ, ◌≤◌, length, Some}
+use Rattle.std.specs.Prelude.{◌≡◌, refl, List, [], ◌∷◌, ℕ, ◌≤◌, length, Some, Ok, Result}
 use Rattle.basis.specs.Kit.{sym, ap, ◌∙◌}
 use Rattle.basis.proofs.Never.{never}
 use Rattle.path.specs.Path.{Name, Path, parent, last}
@@ -14,17 +14,15 @@ use Rattle.sheet.specs.Table.{extension_tag}
 use Rattle.sheet.proofs.PlaceLaws.{Places}
 use Rattle.search.specs.declared.extension.Found.{Found}
 use Rattle.search.specs.declared.extension.Candidate.{Candidate}
-use Rattle.search.specs.declared.extension.Tried.{Tried}
-use Rattle.search.specs.declared.extension.Tried.TheVariants as attempt
 use Rattle.search.specs.declared.extension.Compared.{Compared}
 use Rattle.search.specs.declared.extension.Compared.TheVariants.{Extends, ExtendsOther}
-use Rattle.search.specs.declared.extension.Resolved.TheVariants.{Field}
 use Rattle.scope.specs.Scope.{Scope, declaration_named}
 use Rattle.search.specs.Lookup.{found_in, found_at, tried, find_extension_by_path, ext_resolve_field}
 use Rattle.basis.proofs.FirstLaws.{given_holds, every-all, first-some-holds}
 use Rattle.named.proofs.DeclaredPlaces.{Ordered, places-ordered, declaration-lies}
 use Rattle.scopes.proofs.Standing.{Standing, scopes-stand}
 use Rattle.search.proofs.TriedLaws.{by-path-some, compared-extends, compared-other}
+use Rattle.reply.specs.declared.Refusal.{Refusal}
 
 -- ---- an extension that was found
 pub record FoundLies (s : List ℕ) (f : Found) : Type 0 where
@@ -47,14 +45,14 @@ module _ (s : List ℕ) (f : Found) where
       first-some-holds (Standing s) (found_in s (last (n ∷ ns))) f (FoundLies s f) (found-in-lies (last (n ∷ ns)))
       (scopes-stand s (parent (n ∷ ns))) q
 
-  pub found-lies : (scope name : List ℕ) → find_extension_by_path s scope name ≡ Field f → FoundLies s f
+  pub found-lies : (scope name : List ℕ) → find_extension_by_path s scope name ≡ Ok f → FoundLies s f
   found-lies scope name q =
       first-some-holds (λ p. found_at s p ≡ Some f → FoundLies s f) (found_at s) f (FoundLies s f)
       (λ p k q. k q) (every-all (λ p. found_at s p ≡ Some f → FoundLies s f) found-abs-lies (candidates scope name))
       (by-path-some s scope name f q)
 
 -- what `try_candidates` answers
-module _ (s scope name : List ℕ) (r : Tried) (q : r ≡ tried s scope name) (c : Candidate) (g : r ≡ attempt.Answers c) where
+module _ (s scope name : List ℕ) (r : Result Candidate Refusal) (q : r ≡ tried s scope name) (c : Candidate) (g : r ≡ Ok c) where
   pub tried-lies : FoundLies s c.found
   unfolding find_extension_by_path
   tried-lies = found-lies s c.found scope name (rw (← q, g))

@@ -2,7 +2,7 @@
 -- Among.antt of `basis`; what they are about is defined in specs/Lookup.antt, in Scopes.antt of `scopes` and in Candidates.antt of
 -- `candidates`. `s` is the sheet, whatever its bytes.
 -- Assumes nothing.
-use Rattle.std.specs.Prelude.{◌≡◌, refl, true, false, List, [], ◌∷◌, ◌++◌, ℕ, suc, ◌-◌, ◌≤◌, ◌<◌, length, take}
+use Rattle.std.specs.Prelude.{◌≡◌, refl, true, false, List, [], ◌∷◌, ◌++◌, ℕ, suc, ◌-◌, ◌≤◌, ◌<◌, length, take, Err, Ok}
 use Rattle.basis.specs.Kit.{sym, ap, ◌∙◌}
 use Rattle.reply.specs.declared.Refusal.{Refusal}
 use Rattle.reply.specs.declared.Refusal.TheVariants.{ExtensionNotFound}
@@ -13,10 +13,8 @@ use Rattle.candidates.specs.Candidates.{candidates, candidate}
 use Rattle.candidates.proofs.CandidateLaws.{candidates-abs, candidates-length-rel, candidate-rel}
 use Rattle.search.specs.declared.extension.Found.{Found}
 use Rattle.search.specs.declared.extension.Candidate.{Candidate}
-use Rattle.search.specs.declared.extension.Tried.TheVariants as attempt
 use Rattle.search.specs.declared.extension.Compared.TheVariants as comparison
 use Rattle.search.specs.declared.extension.Compared.TheVariants.{Extends, ExtendsOther}
-use Rattle.search.specs.declared.extension.Resolved.TheVariants.{Field, Refused}
 use Rattle.scope.specs.Scope.{Scope}
 use Rattle.scopes.specs.Scopes.{scopes}
 use Rattle.scope.specs.Scope.{extends}
@@ -35,18 +33,18 @@ use Rattle.search.proofs.ScopeOrder.{from-ordered, earlier-apart, from_gives, gi
 -- ---- when nothing is found
 
 -- Nothing is found exactly when of no candidate a scope at the path before its last name declares an extension of that name.
-pub nowhere-none : (s scope name : List ℕ) → is_path name ≡ true → find_extension_by_path s scope name ≡ Refused ExtensionNotFound
+pub nowhere-none : (s scope name : List ℕ) → is_path name ≡ true → find_extension_by_path s scope name ≡ Err ExtensionNotFound
     → (p : Path) → Among p (candidates scope name) → Undeclared s p
 nowhere-none s scope name h e p m =
     found.find_none s p (candidates-some scope name h p m) (firsts-none (found_at s) (by-path-none s scope name ExtensionNotFound e) m)
 
 pub none-nowhere : (s scope name : List ℕ) → ((p : Path) → Among p (candidates scope name) → Undeclared s p)
-    → find_extension_by_path s scope name ≡ Refused ExtensionNotFound
+    → find_extension_by_path s scope name ≡ Err ExtensionNotFound
 none-nowhere s scope name h =
     none-by-path s scope name (none-firsts (found_at s) (candidates scope name) λ p m. found.none-find s p (h p m))
 
 -- There is no other refusal: a search finds an extension, or that there is none.
-pub refused-not-found : (s scope name : List ℕ) (w : Refusal) → find_extension_by_path s scope name ≡ Refused w → w ≡ ExtensionNotFound
+pub refused-not-found : (s scope name : List ℕ) (w : Refusal) → find_extension_by_path s scope name ≡ Err w → w ≡ ExtensionNotFound
 refused-not-found = by-path-why
 
 -- ---- what is found
@@ -54,27 +52,27 @@ refused-not-found = by-path-why
 -- 01: "The answer is the first candidate, then first scope, then first declared extension with the last component as its name." That scope
 -- declares it under that candidate. Under no candidate before it is anything declared; of the scopes there, none before it declares that
 -- name; and in the scope no extension before it has that name.
-pub found-answers : (s scope name : List ℕ) (f : Found) → find_extension_by_path s scope name ≡ Field f → Answers s scope name f
+pub found-answers : (s scope name : List ℕ) (f : Found) → find_extension_by_path s scope name ≡ Ok f → Answers s scope name f
 found-answers = found.found-answers
 
 -- And what this can be said of is found: it can be said of one thing only.
 pub answers-found : (s scope name : List ℕ) (f : Found) → is_path name ≡ true → Answers s scope name f
-    → find_extension_by_path s scope name ≡ Field f
+    → find_extension_by_path s scope name ≡ Ok f
 answers-found = found.answers-found
 
 -- The position that is given beside it is that of its candidate, counted from 0: the candidate of that position declares it, and none of a
 -- position before that declares anything. So one more than the position is the count of paths tried.
-pub tried-answers : (s scope name : List ℕ) (c : Candidate) → tried s scope name ≡ attempt.Answers c → AnswersAt s scope name c
+pub tried-answers : (s scope name : List ℕ) (c : Candidate) → tried s scope name ≡ Ok c → AnswersAt s scope name c
 tried-answers = found.tried-answers
 
 -- And what this can be said of is the candidate that answers, with its position.
 pub answers-tried : (s scope name : List ℕ) → is_path name ≡ true → (c : Candidate) → AnswersAt s scope name c
-    → tried s scope name ≡ attempt.Answers c
+    → tried s scope name ≡ Ok c
 answers-tried = found.answers-tried
 
 -- What is found is what that candidate declares.
-pub found-tried : (s scope name : List ℕ) (c : Candidate) → tried s scope name ≡ attempt.Answers c
-    → find_extension_by_path s scope name ≡ Field c.found
+pub found-tried : (s scope name : List ℕ) (c : Candidate) → tried s scope name ≡ Ok c
+    → find_extension_by_path s scope name ≡ Ok c.found
 unfolding find_extension_by_path
 found-tried s scope name c e = rw e
 
@@ -83,22 +81,22 @@ found-tried s scope name c e = rw e
 -- 01: "Only then is the extendee compared; a mismatch ends the search." Found first, tested second: the candidate that answers is given,
 -- with its position and its extension, and the extendee says no more than whether it is one of the message asked for;
 module _ (s scope m name : List ℕ) (c : Candidate) where
-  pub extendee-same : tried s scope name ≡ attempt.Answers c → extends s m c.found.declaration ≡ true
+  pub extendee-same : tried s scope name ≡ Ok c → extends s m c.found.declaration ≡ true
       → ext_resolve_field s scope m name ≡ Extends c
   unfolding ext_resolve_field
   extendee-same e h = rw (e, h)
 
-  pub extendee-other : tried s scope name ≡ attempt.Answers c → extends s m c.found.declaration ≡ false
+  pub extendee-other : tried s scope name ≡ Ok c → extends s m c.found.declaration ≡ false
       → ext_resolve_field s scope m name ≡ ExtendsOther c
   unfolding ext_resolve_field
   extendee-other e h = rw (e, h)
 
   -- and neither is said of anything else.
-  pub same-tried : ext_resolve_field s scope m name ≡ Extends c → tried s scope name ≡ attempt.Answers c
+  pub same-tried : ext_resolve_field s scope m name ≡ Extends c → tried s scope name ≡ Ok c
   unfolding ext_resolve_field
   same-tried e = compared-extends s m c (tried s scope name) e
 
-  pub other-tried : ext_resolve_field s scope m name ≡ ExtendsOther c → tried s scope name ≡ attempt.Answers c
+  pub other-tried : ext_resolve_field s scope m name ≡ ExtendsOther c → tried s scope name ≡ Ok c
   unfolding ext_resolve_field
   other-tried e = compared-other s m c (tried s scope name) e
 
@@ -111,13 +109,13 @@ module _ (s scope m name : List ℕ) (c : Candidate) where
   other-extendee e = extended-other c (extends s m c.found.declaration) (rw (other-tried e) at e)
 
 -- Where no candidate answers, nothing is compared: that refusal is the answer, and there alone one is given.
-pub refusal-same : (s scope m name : List ℕ) (w : Refusal) → tried s scope name ≡ attempt.Refused w
+pub refusal-same : (s scope m name : List ℕ) (w : Refusal) → tried s scope name ≡ Err w
     → ext_resolve_field s scope m name ≡ comparison.Refused w
 unfolding ext_resolve_field
 refusal-same s scope m name w e = rw e
 
 pub refused-tried : (s scope m name : List ℕ) (w : Refusal) → ext_resolve_field s scope m name ≡ comparison.Refused w
-    → tried s scope name ≡ attempt.Refused w
+    → tried s scope name ≡ Err w
 unfolding ext_resolve_field
 refused-tried s scope m name w e = compared-refused s m (tried s scope name) w e
 
@@ -168,7 +166,7 @@ pub rooted-is : (s scope name : List ℕ) → find_extension_by_path s scope (do
 unfolding find_extension_by_abs_path is_abs rootless
 rooted-is s scope name =
     by-path s scope (dot ∷ name)
-    ∙ rw (candidates-abs scope (dot ∷ name) refl) (ap (or_not_found Field Refused) (firsts-one (found_at s) (components name)))
+    ∙ rw (candidates-abs scope (dot ∷ name) refl) (ap (or_not_found Ok Err) (firsts-one (found_at s) (components name)))
 
 pub rooted-same : (s scope scope' name : List ℕ) → find_extension_by_path s scope (dot ∷ name) ≡ find_extension_by_path s scope' (dot ∷ name)
 rooted-same s scope scope' name = rooted-is s scope name ∙ sym (rooted-is s scope' name)

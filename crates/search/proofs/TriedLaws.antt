@@ -1,6 +1,6 @@
 -- What a look-up of an extension answers against what there is: back from the answer, and the search with its positions left out.
 -- Assumes nothing.
-use Rattle.std.specs.Prelude.{◌≡◌, refl, Bool, true, false, List, [], ◌∷◌, ℕ, ◌+◌, Option, None, Some}
+use Rattle.std.specs.Prelude.{◌≡◌, refl, Bool, true, false, List, [], ◌∷◌, ℕ, ◌+◌, Option, None, Some, Err, Ok, Result}
 use Rattle.basis.specs.Kit.{ap, ◌∙◌}
 use Rattle.basis.proofs.Never.{never}
 use Rattle.basis.specs.First.{given, or_else, first_some}
@@ -10,69 +10,65 @@ use Rattle.path.specs.Path.{Path}
 use Rattle.candidates.specs.Candidates.{candidates}
 use Rattle.search.specs.declared.extension.Found.{Found}
 use Rattle.search.specs.declared.extension.Candidate.{Candidate}
-use Rattle.search.specs.declared.extension.Tried.{Tried}
-use Rattle.search.specs.declared.extension.Tried.TheVariants as attempt
 use Rattle.search.specs.declared.extension.Compared.TheVariants as comparison
 use Rattle.search.specs.declared.extension.Compared.TheVariants.{Extends, ExtendsOther}
-use Rattle.search.specs.declared.extension.Resolved.{Resolved}
-use Rattle.search.specs.declared.extension.Resolved.TheVariants.{Field, Refused}
 use Rattle.scope.specs.Scope.{extends}
 use Rattle.search.specs.Lookup.{found_at, found_among, or_not_found, tried, resolved, find_extension_by_path, extended, compared}
 
 -- ---- back from an answer
-module _ (o : Option Found) (r : Resolved) (q : r ≡ or_not_found Field Refused o) where
-  pub resolved-none : (w : Refusal) → r ≡ Refused w → o ≡ None
+module _ (o : Option Found) (r : Result Found Refusal) (q : r ≡ or_not_found Ok Err o) where
+  pub resolved-none : (w : Refusal) → r ≡ Err w → o ≡ None
   resolved-none w g = go o q
     where
-      go : (o : Option Found) → r ≡ or_not_found Field Refused o → o ≡ None
+      go : (o : Option Found) → r ≡ or_not_found Ok Err o → o ≡ None
       go None q = refl
       go (Some f) q = never cc
 
-  pub resolved-why : (w : Refusal) → r ≡ Refused w → w ≡ ExtensionNotFound
+  pub resolved-why : (w : Refusal) → r ≡ Err w → w ≡ ExtensionNotFound
   resolved-why w g = go o q
     where
-      go : (o : Option Found) → r ≡ or_not_found Field Refused o → w ≡ ExtensionNotFound
+      go : (o : Option Found) → r ≡ or_not_found Ok Err o → w ≡ ExtensionNotFound
       go None q = cc
       go (Some f) q = never cc
 
-  pub resolved-some : (f : Found) → r ≡ Field f → o ≡ Some f
+  pub resolved-some : (f : Found) → r ≡ Ok f → o ≡ Some f
   resolved-some f g = go o q
     where
-      go : (o : Option Found) → r ≡ or_not_found Field Refused o → o ≡ Some f
+      go : (o : Option Found) → r ≡ or_not_found Ok Err o → o ≡ Some f
       go None q = never cc
       go (Some x) q = let u : x ≡ f = cc in rw u
 
-pub tried-some : (o : Option Candidate) (c : Candidate) → or_not_found attempt.Answers attempt.Refused o ≡ attempt.Answers c → o ≡ Some c
+pub tried-some : (o : Option Candidate) (c : Candidate) → or_not_found Ok Err o ≡ Ok c → o ≡ Some c
 tried-some None c q = never cc
 tried-some (Some x) c q = let u : x ≡ c = cc in rw u
 
-pub resolved-tried : (t : Tried) (w : Refusal) → resolved t ≡ Refused w → t ≡ attempt.Refused w
-resolved-tried (attempt.Answers c) w q = never cc
-resolved-tried (attempt.Refused v) w q = let u : v ≡ w = cc in rw u
+pub resolved-tried : (t : Result Candidate Refusal) (w : Refusal) → resolved t ≡ Err w → t ≡ Err w
+resolved-tried (Ok c) w q = never cc
+resolved-tried (Err v) w q = let u : v ≡ w = cc in rw u
 
 module _ (s m : List ℕ) where
-  pub compared-refused : (t : Tried) (w : Refusal) → compared s m t ≡ comparison.Refused w → t ≡ attempt.Refused w
-  compared-refused (attempt.Refused v) w q = let u : v ≡ w = cc in rw u
-  compared-refused (attempt.Answers d) w q = go (extends s m d.found.declaration) q
+  pub compared-refused : (t : Result Candidate Refusal) (w : Refusal) → compared s m t ≡ comparison.Refused w → t ≡ Err w
+  compared-refused (Err v) w q = let u : v ≡ w = cc in rw u
+  compared-refused (Ok d) w q = go (extends s m d.found.declaration) q
     where
-      go : (b : Bool) → extended b d ≡ comparison.Refused w → attempt.Answers d ≡ attempt.Refused w
+      go : (b : Bool) → extended b d ≡ comparison.Refused w → Ok d ≡ Err w
       go true q = never cc
       go false q = never cc
 
   module _ (c : Candidate) where
-    pub compared-extends : (t : Tried) → compared s m t ≡ Extends c → t ≡ attempt.Answers c
-    compared-extends (attempt.Refused w) q = never cc
-    compared-extends (attempt.Answers d) q = go (extends s m d.found.declaration) q
+    pub compared-extends : (t : Result Candidate Refusal) → compared s m t ≡ Extends c → t ≡ Ok c
+    compared-extends (Err w) q = never cc
+    compared-extends (Ok d) q = go (extends s m d.found.declaration) q
       where
-        go : (b : Bool) → extended b d ≡ Extends c → attempt.Answers d ≡ attempt.Answers c
+        go : (b : Bool) → extended b d ≡ Extends c → Ok d ≡ Ok c
         go true q = let u : d ≡ c = cc in rw u
         go false q = never cc
 
-    pub compared-other : (t : Tried) → compared s m t ≡ ExtendsOther c → t ≡ attempt.Answers c
-    compared-other (attempt.Refused w) q = never cc
-    compared-other (attempt.Answers d) q = go (extends s m d.found.declaration) q
+    pub compared-other : (t : Result Candidate Refusal) → compared s m t ≡ ExtendsOther c → t ≡ Ok c
+    compared-other (Err w) q = never cc
+    compared-other (Ok d) q = go (extends s m d.found.declaration) q
       where
-        go : (b : Bool) → extended b d ≡ ExtendsOther c → attempt.Answers d ≡ attempt.Answers c
+        go : (b : Bool) → extended b d ≡ ExtendsOther c → Ok d ≡ Ok c
         go true q = never cc
         go false q = let u : d ≡ c = cc in rw u
 
@@ -97,28 +93,28 @@ among-unplaced s at (p ∷ ps) = go (found_at s p) (found_among s (at + 1) ps) (
     go None x h = h
     go (Some f) x h = refl
 
-tried-unplaced : (o : Option Candidate) → resolved (or_not_found attempt.Answers attempt.Refused o) ≡ or_not_found Field Refused (unplaced o)
+tried-unplaced : (o : Option Candidate) → resolved (or_not_found Ok Err o) ≡ or_not_found Ok Err (unplaced o)
 tried-unplaced None = refl
 tried-unplaced (Some c) = refl
 
 pub by-path : (s scope name : List ℕ)
-    → find_extension_by_path s scope name ≡ or_not_found Field Refused (first_some (found_at s) (candidates scope name))
+    → find_extension_by_path s scope name ≡ or_not_found Ok Err (first_some (found_at s) (candidates scope name))
 unfolding find_extension_by_path tried
 by-path s scope name =
-    tried-unplaced (found_among s 0 (candidates scope name)) ∙ ap (or_not_found Field Refused) (among-unplaced s 0 (candidates scope name))
+    tried-unplaced (found_among s 0 (candidates scope name)) ∙ ap (or_not_found Ok Err) (among-unplaced s 0 (candidates scope name))
 
 module _ (s scope name : List ℕ) where
-  pub by-path-some : (f : Found) → find_extension_by_path s scope name ≡ Field f → first_some (found_at s) (candidates scope name) ≡ Some f
+  pub by-path-some : (f : Found) → find_extension_by_path s scope name ≡ Ok f → first_some (found_at s) (candidates scope name) ≡ Some f
   by-path-some f = resolved-some (first_some (found_at s) (candidates scope name)) (find_extension_by_path s scope name) (by-path s scope name) f
 
-  pub some-by-path : (f : Found) → first_some (found_at s) (candidates scope name) ≡ Some f → find_extension_by_path s scope name ≡ Field f
+  pub some-by-path : (f : Found) → first_some (found_at s) (candidates scope name) ≡ Some f → find_extension_by_path s scope name ≡ Ok f
   some-by-path f h = by-path s scope name ∙ rw h
 
-  pub by-path-none : (w : Refusal) → find_extension_by_path s scope name ≡ Refused w → first_some (found_at s) (candidates scope name) ≡ None
+  pub by-path-none : (w : Refusal) → find_extension_by_path s scope name ≡ Err w → first_some (found_at s) (candidates scope name) ≡ None
   by-path-none w = resolved-none (first_some (found_at s) (candidates scope name)) (find_extension_by_path s scope name) (by-path s scope name) w
 
-  pub by-path-why : (w : Refusal) → find_extension_by_path s scope name ≡ Refused w → w ≡ ExtensionNotFound
+  pub by-path-why : (w : Refusal) → find_extension_by_path s scope name ≡ Err w → w ≡ ExtensionNotFound
   by-path-why w = resolved-why (first_some (found_at s) (candidates scope name)) (find_extension_by_path s scope name) (by-path s scope name) w
 
-  pub none-by-path : first_some (found_at s) (candidates scope name) ≡ None → find_extension_by_path s scope name ≡ Refused ExtensionNotFound
+  pub none-by-path : first_some (found_at s) (candidates scope name) ≡ None → find_extension_by_path s scope name ≡ Err ExtensionNotFound
   none-by-path h = by-path s scope name ∙ rw h

@@ -13,7 +13,7 @@
 --     ext_resolve_field s scope m name == the candidate that answers for a name in a scope, compared with the message m
 --
 -- Assumes nothing.
-use Rattle.std.specs.Prelude.{Bool, true, false, List, [], ◌∷◌, ℕ, ◌+◌, Option, None, Some}
+use Rattle.std.specs.Prelude.{Bool, true, false, List, [], ◌∷◌, ℕ, ◌+◌, Option, None, Some, Err, Ok, Result}
 use Rattle.reply.specs.declared.Refusal.{Refusal}
 use Rattle.reply.specs.declared.Refusal.TheVariants.{ExtensionNotFound}
 use Rattle.path.specs.Path.{Name, Path, parent, last}
@@ -23,13 +23,9 @@ use Rattle.basis.specs.First.{told, given, or_else, first_some}
 use Rattle.scope.specs.Scope.{Scope, declaration_named, extends}
 use Rattle.search.specs.declared.extension.Found.{Found}
 use Rattle.search.specs.declared.extension.Candidate.{Candidate}
-use Rattle.search.specs.declared.extension.Tried.{Tried}
-use Rattle.search.specs.declared.extension.Tried.TheVariants as attempt
 use Rattle.search.specs.declared.extension.Compared.{Compared}
 use Rattle.search.specs.declared.extension.Compared.TheVariants as comparison
 use Rattle.search.specs.declared.extension.Compared.TheVariants.{Extends, ExtendsOther}
-use Rattle.search.specs.declared.extension.Resolved.{Resolved}
-use Rattle.search.specs.declared.extension.Resolved.TheVariants.{Field, Refused}
 use Rattle.scopes.specs.Scopes.{scopes}
 
 abbrev pub found_in : (s : List ℕ) (n : Name) (c : Scope) → Option Found
@@ -49,17 +45,17 @@ found_among s at (p ∷ ps) = or_else (given (found_at s p) λ f. Some (record {
 abbrev pub or_not_found : {A B : Type 0} → (found : A → B) (refused : Refusal → B) → Option A → B
 or_not_found found refused = told (refused ExtensionNotFound) found
 
-unfoldable pub find_extension_by_abs_path : (s : List ℕ) (p : Path) → Resolved
-find_extension_by_abs_path s p = or_not_found Field Refused (found_at s p)
+unfoldable pub find_extension_by_abs_path : (s : List ℕ) (p : Path) → Result Found Refusal
+find_extension_by_abs_path s p = or_not_found Ok Err (found_at s p)
 
-unfoldable pub tried : (s scope name : List ℕ) → Tried
-tried s scope name = or_not_found attempt.Answers attempt.Refused (found_among s 0 (candidates scope name))
+unfoldable pub tried : (s scope name : List ℕ) → Result Candidate Refusal
+tried s scope name = or_not_found Ok Err (found_among s 0 (candidates scope name))
 
-abbrev pub resolved : Tried → Resolved
-resolved (attempt.Answers c) = Field c.found
-resolved (attempt.Refused w) = Refused w
+abbrev pub resolved : Result Candidate Refusal → Result Found Refusal
+resolved (Ok c) = Ok c.found
+resolved (Err w) = Err w
 
-unfoldable pub find_extension_by_path : (s scope name : List ℕ) → Resolved
+unfoldable pub find_extension_by_path : (s scope name : List ℕ) → Result Found Refusal
 find_extension_by_path s scope name = resolved (tried s scope name)
 
 -- "Only then is the extendee compared; a mismatch ends the search." [SEARCH-7]
@@ -67,9 +63,9 @@ abbrev pub extended : (fits : Bool) (c : Candidate) → Compared
 extended true c = Extends c
 extended false c = ExtendsOther c
 
-abbrev pub compared : (s m : List ℕ) → Tried → Compared
-compared s m (attempt.Answers c) = extended (extends s m c.found.declaration) c
-compared s m (attempt.Refused w) = comparison.Refused w
+abbrev pub compared : (s m : List ℕ) → Result Candidate Refusal → Compared
+compared s m (Ok c) = extended (extends s m c.found.declaration) c
+compared s m (Err w) = comparison.Refused w
 
 unfoldable pub ext_resolve_field : (s scope m name : List ℕ) → Compared
 ext_resolve_field s scope m name = compared s m (tried s scope name)

@@ -9,25 +9,11 @@ pub struct Found {
     pub declaration: Declaration,
 }
 
-// What a look-up comes to.
-#[derive(Clone, Copy)]
-pub enum Resolved {
-    Field(Found),
-    Refused(Refusal),
-}
-
 // The candidate that answers: its position among the candidates, counted from 0, and what is found there.
 #[derive(Clone, Copy)]
 pub struct Candidate {
     pub position: usize,
     pub found: Found,
-}
-
-// What trying the candidates comes to.
-#[derive(Clone, Copy)]
-pub enum Tried {
-    Answers(Candidate),
-    Refused(Refusal),
 }
 
 // What the search for an extension of a message comes to: the candidate that answers; the one that answers where it extends another

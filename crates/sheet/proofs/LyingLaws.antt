@@ -5,11 +5,10 @@
 --   Filed s fs   <-> so do all of the files
 --
 -- Assumes nothing.
-use Rattle.std.specs.Prelude.{◌≡◌, refl, List, [], ◌∷◌, ℕ, zero, suc, ◌-◌, ◌≤◌, length}
+use Rattle.std.specs.Prelude.{◌≡◌, refl, List, [], ◌∷◌, ℕ, zero, suc, ◌-◌, ◌≤◌, length, Some}
 use Rattle.basis.specs.Kit.{sym}
 use Rattle.basis.proofs.Kit.{arith}
 use Rattle.limits.specs.Figures.{most_messages}
-use Rattle.field.specs.declared.Leaf.TheVariants.{At}
 use Rattle.field.specs.declared.Span.{Span}
 use Rattle.field.specs.Leaf.{span, any_bytes, leaf_at, Lies}
 use Rattle.field.specs.Walk.{walk}
@@ -40,8 +39,8 @@ pub data Lying (s : List ℕ) : Items → Type 0 where
   lying-field : {d : Declaration} {r : Items} → Places (length s) d → Lying s r → Lying s (field d r)
 
 module _ (d : ℕ) (s : List ℕ) (t a e : ℕ) (rest : Items) (h : e ≤ length s) (k : Lying s rest) where
-  body-lies : (g n m : ℕ) → leaf_at g any_bytes s a e ≡ At n m → Lies (span m e) s
-  body-lies g n m p = (leaf-inside g any_bytes s a e (At n m) (sym p) n m refl, h)
+  body-lies : (g : ℕ) (q : Span) → leaf_at g any_bytes s a e ≡ Some q → Lies (span q.to e) s
+  body-lies g q p = (leaf-inside g any_bytes s a e (Some q) (sym p) q refl, h)
 
   item-lies : ((d ≡ 0 → ⊥) → (at : ℕ) → Lying s (items_in (d - 1) s (walk s at e))) → Lying s (item_in (message_in d s) s t a e rest)
   item-lies inner =
@@ -81,7 +80,7 @@ files-lie s at end h =
     (λ _ t a e w b k. file-cases (λ f. Filed s (f (files_in s w))) s t a e k λ n m p.
     filed-one
     (record {
-      ordered = leaf-inside package_tag any_bytes s a e (At n m) (sym p) n m refl;
+      ordered = leaf-inside package_tag any_bytes s a e (Some (span n m)) (sym p) n m refl;
       within = omega (arith, b.inside);
       held = refl;
     })

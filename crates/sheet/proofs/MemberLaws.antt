@@ -4,32 +4,29 @@
 --   listed r == the declaration r, where there is one, as a list
 --
 -- Assumes nothing.
-use Rattle.std.specs.Prelude.{◌≡◌, refl, Bool, true, false, List, [], ◌∷◌, ◌++◌, ℕ, zero, suc, ◌-◌, eqb}
+use Rattle.std.specs.Prelude.{◌≡◌, refl, Bool, true, false, List, [], ◌∷◌, ◌++◌, ℕ, zero, suc, ◌-◌, eqb, None, Some, Option}
 use Rattle.basis.specs.Kit.{sym, ap, ◌∙◌}
 use Rattle.basis.proofs.Kit.{arith}
 use mathlib.Core.List.{append_assoc}
 use borrow.Author.Tests.{eqb-true, eqb-false}
 use Rattle.basis.proofs.Never.{never}
 use Rattle.limits.specs.Figures.{most_messages}
-use Rattle.field.specs.declared.Leaf.{Leaf}
-use Rattle.field.specs.declared.Leaf.TheVariants.{At, Not}
 use Rattle.field.specs.Leaf.{span, any_bytes, on_leaf, leaf_at}
 use Rattle.field.specs.Walk.{walk}
 use Rattle.sheet.specs.declared.declaration.Declaration.{Declaration}
-use Rattle.sheet.specs.declared.declaration.Declared.{Declared}
-use Rattle.sheet.specs.declared.declaration.Declared.TheVariants.{Declares, NoDeclaration}
 use Rattle.sheet.specs.Table.{file_tag, message_tag, extension_tag, enum_tag, field_tag, package_tag, name_tag}
 use Rattle.sheet.specs.Declaration.{extension_at, message_field_at}
 use Rattle.sheet.specs.Tree.{Items, none, message, extension, enumeration, field, values_in, enum_in, extension_in, field_in}
 use Rattle.sheet.specs.Tree.{item_in, message_in, items_with, items_in, File, file_with, file_in}
 use Rattle.sheet.specs.Members.{messages_of, extensions_of, enums_of, fields_of, every_extension_of, every_extension}
 use Rattle.sheet.proofs.TreeLaws.{item-message, item-extension, item-enum, item-field, enum-named, message-named}
+use Rattle.field.specs.declared.Span.{Span}
 
 -- ---- the cases of one field, for whatever is said of what it puts in front of the rest
 module _ (Q : (Items → Items) → Type 0) (s : List ℕ) (a e : ℕ) (nothing : Q (λ r. r)) where
   message-cases : (d : ℕ)
-      → ((d ≡ 0 → ⊥) → (n m : ℕ) → leaf_at name_tag any_bytes s a e ≡ At n m
-      → Q (message (span n m) (span m e) (items_in (d - 1) s (walk s m e))))
+      → ((d ≡ 0 → ⊥) → (q : Span) → leaf_at name_tag any_bytes s a e ≡ Some q
+      → Q (message q (span q.to e) (items_in (d - 1) s (walk s q.to e))))
       → Q (message_in d s a e)
   unfolding items_in
   message-cases zero k = nothing
@@ -38,35 +35,35 @@ module _ (Q : (Items → Items) → Type 0) (s : List ℕ) (a e : ℕ) (nothing 
       positive : suc d ≡ 0 → ⊥
       positive h = omega arith
 
-      go : (l : Leaf) → leaf_at name_tag any_bytes s a e ≡ l
-          → Q (λ r. on_leaf r l λ n m. message (span n m) (span m e) (items_with (message_in d s) s (walk s m e)) r)
-      go Not p = nothing
-      go (At n m) p = let z : suc d - 1 ≡ d = omega arith in rw z at (k positive n m p)
+      go : (l : Option Span) → leaf_at name_tag any_bytes s a e ≡ l
+          → Q (λ r. on_leaf r l λ q.from q.to. message q (span q.to e) (items_with (message_in d s) s (walk s q.to e)) r)
+      go None p = nothing
+      go (Some place) p = let z : suc d - 1 ≡ d = omega arith in rw z at (k positive place.from place.to p)
 
-  enum-cases : ((n m : ℕ) → leaf_at name_tag any_bytes s a e ≡ At n m → Q (enumeration (span n m) (span m e) (values_in s (walk s m e))))
+  enum-cases : ((q : Span) → leaf_at name_tag any_bytes s a e ≡ Some q → Q (enumeration q (span q.to e) (values_in s (walk s q.to e))))
       → Q (enum_in s a e)
   enum-cases k = go (leaf_at name_tag any_bytes s a e) refl
     where
-      go : (l : Leaf) → leaf_at name_tag any_bytes s a e ≡ l
-          → Q (λ r. on_leaf r l λ n m. enumeration (span n m) (span m e) (values_in s (walk s m e)) r)
-      go Not p = nothing
-      go (At n m) p = k n m p
+      go : (l : Option Span) → leaf_at name_tag any_bytes s a e ≡ l
+          → Q (λ r. on_leaf r l λ q.from q.to. enumeration q (span q.to e) (values_in s (walk s q.to e)) r)
+      go None p = nothing
+      go (Some it) p = k it.from it.to p
 
-  extension-cases : (x : Declared) → ((y : Declaration) → x ≡ Declares y → Q (extension y)) → Q (extension_in x)
-  extension-cases NoDeclaration k = nothing
-  extension-cases (Declares x) k = k x refl
+  extension-cases : (x : Option Declaration) → ((y : Declaration) → x ≡ Some y → Q (extension y)) → Q (extension_in x)
+  extension-cases None k = nothing
+  extension-cases (Some x) k = k x refl
 
-  field-cases : (x : Declared) → ((y : Declaration) → x ≡ Declares y → Q (field y)) → Q (field_in x)
-  field-cases NoDeclaration k = nothing
-  field-cases (Declares x) k = k x refl
+  field-cases : (x : Option Declaration) → ((y : Declaration) → x ≡ Some y → Q (field y)) → Q (field_in x)
+  field-cases None k = nothing
+  field-cases (Some x) k = k x refl
 
   pub item-cases : (d t : ℕ)
-      → (t ≡ message_tag → (d ≡ 0 → ⊥) → (n m : ℕ) → leaf_at name_tag any_bytes s a e ≡ At n m
-      → Q (message (span n m) (span m e) (items_in (d - 1) s (walk s m e))))
-      → (t ≡ extension_tag → (x : Declaration) → extension_at s a e ≡ Declares x → Q (extension x))
-      → (t ≡ enum_tag → (n m : ℕ) → leaf_at name_tag any_bytes s a e ≡ At n m
-      → Q (enumeration (span n m) (span m e) (values_in s (walk s m e))))
-      → (t ≡ field_tag → (x : Declaration) → message_field_at s a e ≡ Declares x → Q (field x))
+      → (t ≡ message_tag → (d ≡ 0 → ⊥) → (q : Span) → leaf_at name_tag any_bytes s a e ≡ Some q
+      → Q (message q (span q.to e) (items_in (d - 1) s (walk s q.to e))))
+      → (t ≡ extension_tag → (x : Declaration) → extension_at s a e ≡ Some x → Q (extension x))
+      → (t ≡ enum_tag → (q.from q.to : ℕ) → leaf_at name_tag any_bytes s a e ≡ Some q
+      → Q (enumeration q (span q.to e) (values_in s (walk s q.to e))))
+      → (t ≡ field_tag → (x : Declaration) → message_field_at s a e ≡ Some x → Q (field x))
       → Q (item_in (message_in d s) s t a e)
   unfolding item_in
   item-cases d t on_message on_extension on_enum on_field =
@@ -92,11 +89,11 @@ module _ (Q : (Items → Items) → Type 0) (s : List ℕ) (a e : ℕ) (nothing 
 
 -- ---- messages
 module _ (d : ℕ) (s : List ℕ) (t a e : ℕ) (rest : Items) where
-  no-message : (t ≡ message_tag → (d ≡ 0 → ⊥) → (n m : ℕ) → leaf_at name_tag any_bytes s a e ≡ At n m → ⊥)
+  no-message : (t ≡ message_tag → (d ≡ 0 → ⊥) → (q : Span) → leaf_at name_tag any_bytes s a e ≡ Some q → ⊥)
       → messages_of (item_in (message_in d s) s t a e rest) ≡ messages_of rest
   no-message k =
       item-cases (λ f. messages_of (f rest) ≡ messages_of rest) s a e refl d t
-      (λ h z n m p. absurd (k h z n m p)) (λ _ x _. refl) (λ _ n m _. refl) (λ _ x _. refl)
+      (λ h z q.from q.to p. absurd (k h z q.from q.to p)) (λ _ x _. refl) (λ _ q.from q.to _. refl) (λ _ x _. refl)
 
   pub messages-other : (t ≡ message_tag → ⊥) → messages_of (item_in (message_in d s) s t a e rest) ≡ messages_of rest
   messages-other o = no-message λ h _ _ _ _. o h
@@ -104,55 +101,55 @@ module _ (d : ℕ) (s : List ℕ) (t a e : ℕ) (rest : Items) where
   pub messages-beyond : d ≡ 0 → messages_of (item_in (message_in d s) s t a e rest) ≡ messages_of rest
   messages-beyond h = no-message λ _ z _ _ _. z h
 
-  module _ (r : Leaf) (q : r ≡ leaf_at name_tag any_bytes s a e) where
-    pub messages-unnamed : r ≡ Not → messages_of (item_in (message_in d s) s t a e rest) ≡ messages_of rest
+  module _ (r : Option Span) (q : r ≡ leaf_at name_tag any_bytes s a e) where
+    pub messages-unnamed : r ≡ None → messages_of (item_in (message_in d s) s t a e rest) ≡ messages_of rest
     messages-unnamed g = no-message λ _ _ n m p. never cc
 
-    pub messages-named : t ≡ message_tag → (d ≡ 0 → ⊥) → (n m : ℕ) → r ≡ At n m
+    pub messages-named : t ≡ message_tag → (d ≡ 0 → ⊥) → (p : Span) → r ≡ Some p
         → messages_of (item_in (message_in d s) s t a e rest)
-        ≡ record { name = span n m; body = span m e; inside = items_in (d - 1) s (walk s m e) } ∷ messages_of rest
-    messages-named h z n m g =
-        ap messages_of (item-message (message_in d s) s t a e rest h ∙ message-named d s a e rest z r q n m g)
+        ≡ record { name = p; body = span p.to e; inside = items_in (d - 1) s (walk s p.to e) } ∷ messages_of rest
+    messages-named h z p g =
+        ap messages_of (item-message (message_in d s) s t a e rest h ∙ message-named d s a e rest z r q p.from p.to g)
 
 -- ---- enums
 module _ (d : ℕ) (s : List ℕ) (t a e : ℕ) (rest : Items) where
-  no-enum : (t ≡ enum_tag → (n m : ℕ) → leaf_at name_tag any_bytes s a e ≡ At n m → ⊥)
+  no-enum : (t ≡ enum_tag → (q : Span) → leaf_at name_tag any_bytes s a e ≡ Some q → ⊥)
       → enums_of (item_in (message_in d s) s t a e rest) ≡ enums_of rest
   no-enum k =
       item-cases (λ f. enums_of (f rest) ≡ enums_of rest) s a e refl d t
-      (λ _ _ n m _. refl) (λ _ x _. refl) (λ h n m p. absurd (k h n m p)) (λ _ x _. refl)
+      (λ _ _ q.from q.to _. refl) (λ _ x _. refl) (λ h q.from q.to p. absurd (k h q.from q.to p)) (λ _ x _. refl)
 
   pub enums-other : (t ≡ enum_tag → ⊥) → enums_of (item_in (message_in d s) s t a e rest) ≡ enums_of rest
   enums-other o = no-enum λ h _ _ _. o h
 
-  module _ (r : Leaf) (q : r ≡ leaf_at name_tag any_bytes s a e) where
-    pub enums-unnamed : r ≡ Not → enums_of (item_in (message_in d s) s t a e rest) ≡ enums_of rest
+  module _ (r : Option Span) (q : r ≡ leaf_at name_tag any_bytes s a e) where
+    pub enums-unnamed : r ≡ None → enums_of (item_in (message_in d s) s t a e rest) ≡ enums_of rest
     enums-unnamed g = no-enum λ _ n m p. never cc
 
-    pub enums-named : t ≡ enum_tag → (n m : ℕ) → r ≡ At n m
+    pub enums-named : t ≡ enum_tag → (p : Span) → r ≡ Some p
         → enums_of (item_in (message_in d s) s t a e rest)
-        ≡ record { name = span n m; body = span m e; values = values_in s (walk s m e) } ∷ enums_of rest
-    enums-named h n m g = ap enums_of (item-enum (message_in d s) s t a e rest h ∙ enum-named s a e rest r q n m g)
+        ≡ record { name = p; body = span p.to e; values = values_in s (walk s p.to e) } ∷ enums_of rest
+    enums-named h p g = ap enums_of (item-enum (message_in d s) s t a e rest h ∙ enum-named s a e rest r q p.from p.to g)
 
 -- ---- extensions and fields: what a field of their tag declares is put in front of the rest
-abbrev pub listed : Declared → List Declaration
-listed NoDeclaration = []
-listed (Declares x) = x ∷ []
+abbrev pub listed : Option Declaration → List Declaration
+listed None = []
+listed (Some x) = x ∷ []
 
-tagged : (t k : ℕ) (r : Declared) (ds rest : List Declaration)
-    → ((t ≡ k → (x : Declaration) → r ≡ Declares x → ⊥) → ds ≡ rest)
-    → (t ≡ k → (x : Declaration) → r ≡ Declares x → ds ≡ x ∷ rest)
-    → ds ≡ listed (elim (eqb t k) [ true ↦ r | false ↦ NoDeclaration ]) ++ rest
+tagged : (t k : ℕ) (r : Option Declaration) (ds rest : List Declaration)
+    → ((t ≡ k → (x : Declaration) → r ≡ Some x → ⊥) → ds ≡ rest)
+    → (t ≡ k → (x : Declaration) → r ≡ Some x → ds ≡ x ∷ rest)
+    → ds ≡ listed (elim (eqb t k) [ true ↦ r | false ↦ None ]) ++ rest
 tagged t k r ds rest other own = go (eqb t k) refl r refl
   where
-    go : (b : Bool) → eqb t k ≡ b → (u : Declared) → r ≡ u → ds ≡ listed (elim b [ true ↦ u | false ↦ NoDeclaration ]) ++ rest
+    go : (b : Bool) → eqb t k ≡ b → (u : Option Declaration) → r ≡ u → ds ≡ listed (elim b [ true ↦ u | false ↦ None ]) ++ rest
     go false p u q = other λ h _ _. eqb-false t k p h
-    go true p NoDeclaration q = other λ _ x w. never cc
-    go true p (Declares x) q = own (eqb-true t k p) x q
+    go true p None q = other λ _ x w. never cc
+    go true p (Some x) q = own (eqb-true t k p) x q
 
 module _ (d : ℕ) (s : List ℕ) (t a e : ℕ) (rest : Items) where
   pub extensions-item : extensions_of (item_in (message_in d s) s t a e rest)
-      ≡ listed (elim (eqb t extension_tag) [ true ↦ extension_at s a e | false ↦ NoDeclaration ]) ++ extensions_of rest
+      ≡ listed (elim (eqb t extension_tag) [ true ↦ extension_at s a e | false ↦ None ]) ++ extensions_of rest
   extensions-item =
       tagged t extension_tag (extension_at s a e) _ (extensions_of rest)
       (λ other. item-cases (λ f. extensions_of (f rest) ≡ extensions_of rest) s a e refl d t
@@ -160,7 +157,7 @@ module _ (d : ℕ) (s : List ℕ) (t a e : ℕ) (rest : Items) where
       λ h x q. ap extensions_of (item-extension (message_in d s) s t a e rest h (extension_at s a e) refl x q)
 
   pub fields-item : fields_of (item_in (message_in d s) s t a e rest)
-      ≡ listed (elim (eqb t field_tag) [ true ↦ message_field_at s a e | false ↦ NoDeclaration ]) ++ fields_of rest
+      ≡ listed (elim (eqb t field_tag) [ true ↦ message_field_at s a e | false ↦ None ]) ++ fields_of rest
   fields-item =
       tagged t field_tag (message_field_at s a e) _ (fields_of rest)
       (λ other. item-cases (λ f. fields_of (f rest) ≡ fields_of rest) s a e refl d t
@@ -178,7 +175,7 @@ module _ (d : ℕ) (s : List ℕ) (t a e : ℕ) (rest : Items) where
 
   -- a field that is no message has its own alone
   pub every-extension-flat : (t ≡ message_tag → ⊥) → every_extension_of (item_in (message_in d s) s t a e rest)
-      ≡ listed (elim (eqb t extension_tag) [ true ↦ extension_at s a e | false ↦ NoDeclaration ]) ++ every_extension_of rest
+      ≡ listed (elim (eqb t extension_tag) [ true ↦ extension_at s a e | false ↦ None ]) ++ every_extension_of rest
   every-extension-flat o =
       tagged t extension_tag (extension_at s a e) _ (every_extension_of rest)
       (λ other. item-cases (λ f. every_extension_of (f rest) ≡ every_extension_of rest) s a e refl d t
@@ -187,19 +184,19 @@ module _ (d : ℕ) (s : List ℕ) (t a e : ℕ) (rest : Items) where
 
 -- the cases of one field of a sheet
 pub file-cases : (Q : (List File → List File) → Type 0) (s : List ℕ) (t a e : ℕ) → Q (λ r. r)
-    → ((n m : ℕ) → leaf_at package_tag any_bytes s a e ≡ At n m
-    → Q (λ r. file_with (span n m) (span m e) (items_in most_messages s (walk s m e)) ∷ r))
+    → ((q : Span) → leaf_at package_tag any_bytes s a e ≡ Some q
+    → Q (λ r. file_with q (span q.to e) (items_in most_messages s (walk s q.to e)) ∷ r))
     → Q (file_in s t a e)
 unfolding file_in
 file-cases Q s t a e nothing one = go (eqb t file_tag) (leaf_at package_tag any_bytes s a e) refl
   where
-    go : (b : Bool) (l : Leaf) → leaf_at package_tag any_bytes s a e ≡ l
+    go : (b : Bool) (l : Option Span) → leaf_at package_tag any_bytes s a e ≡ l
         → Q (λ r. elim b [
-          | true ↦ on_leaf r l λ n m. file_with (span n m) (span m e) (items_in most_messages s (walk s m e)) ∷ r
+          | true ↦ on_leaf r l λ q.from q.to. file_with q (span q.to e) (items_in most_messages s (walk s q.to e)) ∷ r
           | false ↦ r
         ])
-    go true Not p = nothing
-    go true (At n m) p = one n m p
+    go true None p = nothing
+    go true (Some it1) p = one it1.from it1.to p
     go false l p = nothing
 
 pub every-extension-file : (s : List ℕ) (t a e : ℕ) (rest : List File)

@@ -1,31 +1,25 @@
 -- Where the names and the paths of declarations lie: before the end of the payload that they were read from.
 -- Assumes nothing.
-use Rattle.std.specs.Prelude.{◌≡◌, refl, List, ℕ, ◌≤◌, length}
+use Rattle.std.specs.Prelude.{◌≡◌, refl, List, ℕ, ◌≤◌, length, None, Some, Option}
 use Rattle.basis.specs.Kit.{sym, ◌∙◌}
 use Rattle.basis.proofs.Kit.{arith}
 use Rattle.basis.proofs.Never.{never}
 use Rattle.octets.specs.Octets.{big_at}
-use Rattle.field.specs.declared.Leaf.TheVariants.{At}
 use Rattle.field.specs.declared.Span.{Span}
 use Rattle.field.specs.Leaf.{span, any_bytes, of_size, leaf_at}
 use Rattle.field.proofs.LeafLaws.{leaf-ordered, leaf-inside, on-leaf-some}
-use Rattle.sheet.specs.declared.declaration.Shaped.{Shaped}
-use Rattle.sheet.specs.declared.declaration.Shaped.TheVariants.{Shapes, NoShape}
 use Rattle.sheet.specs.declared.declaration.Declaration.{Declaration}
-use Rattle.sheet.specs.declared.declaration.Declared.{Declared}
-use Rattle.sheet.specs.declared.declaration.Declared.TheVariants.{Declares, NoDeclaration}
 use Rattle.sheet.specs.declared.declaration.Value.{Value}
-use Rattle.sheet.specs.declared.declaration.Valued.{Valued}
-use Rattle.sheet.specs.declared.declaration.Valued.TheVariants.{Values, NoValue}
 use Rattle.sheet.specs.Table.{name_tag, extendee_tag, signed_number_tag}
 use Rattle.sheet.specs.Declaration.{last_at, shape_at, declared_with, extension_at, message_field_at, value_at}
 use Rattle.sheet.proofs.ShapeLaws.{Placed, shape-lies}
+use Rattle.sheet.specs.declared.declaration.Shape.{Shape}
 
-name-lies : (k : ℕ) (s : List ℕ) (a e n m : ℕ) → leaf_at k any_bytes s a e ≡ At n m → Placed e n m
-name-lies k s a e n m p =
+name-lies : (k : ℕ) (s : List ℕ) (a e : ℕ) (q : Span) → leaf_at k any_bytes s a e ≡ Some q → Placed e q.from q.to
+name-lies k s a e q p =
     record {
-      ordered = leaf-ordered k any_bytes s a e (At n m) (sym p) n m refl;
-      inside = leaf-inside k any_bytes s a e (At n m) (sym p) n m refl;
+      ordered = leaf-ordered k any_bytes s a e (Some q) (sym p) q refl;
+      inside = leaf-inside k any_bytes s a e (Some q) (sym p) q refl;
     }
 
 pub record Places (end : ℕ) (d : Declaration) : Type 0 where
@@ -34,45 +28,45 @@ pub record Places (end : ℕ) (d : Declaration) : Type 0 where
   pub path : Placed end d.shape.path.from d.shape.path.to
 
 declared-places : (s : List ℕ) (at end : ℕ) (n x : Span) (d : Declaration) → Placed end n.from n.to → Placed end x.from x.to
-    → (p : Shaped) → p ≡ shape_at s at end → Declares d ≡ declared_with n x p → Places end d
-declared-places s at end n x d i j NoShape q p = never cc
-declared-places s at end n x d i j (Shapes h) q p =
+    → (p : Option Shape) → p ≡ shape_at s at end → Some d ≡ declared_with n x p → Places end d
+declared-places s at end n x d i j None q p = never cc
+declared-places s at end n x d i j (Some h) q p =
     let u : d ≡ record { name = n; extendee = x; shape = h } = cc in
     rw u record { name = i; extendee = j; path = shape-lies s at end h q }
 
-none-declared : (d : Declaration) → Declares d ≡ NoDeclaration → ⊥
+none-declared : (d : Declaration) → Some d ≡ None → ⊥
 none-declared d p = never cc
 
-pub extension-places : (s : List ℕ) (a e : ℕ) (d : Declaration) → Declares d ≡ extension_at s a e → Places e d
+pub extension-places : (s : List ℕ) (a e : ℕ) (d : Declaration) → Some d ≡ extension_at s a e → Places e d
 unfolding extension_at
 extension-places s a e d =
-    on-leaf-some NoDeclaration (Declares d) (leaf_at name_tag any_bytes s a e) _ (Places e d) (none-declared d) λ n extendees y.
-    on-leaf-some NoDeclaration (Declares d) (leaf_at extendee_tag any_bytes s extendees e) _ (Places e d) (none-declared d) λ x shapes z.
+    on-leaf-some None (Some d) (leaf_at name_tag any_bytes s a e) _ (Places e d) (none-declared d) λ n extendees y.
+    on-leaf-some None (Some d) (leaf_at extendee_tag any_bytes s extendees e) _ (Places e d) (none-declared d) λ x shapes z.
     declared-places s shapes e (span n extendees) (span x shapes) d (name-lies name_tag s a e n extendees y)
     (name-lies extendee_tag s extendees e x shapes z) (shape_at s shapes e) refl
 
-pub field-places : (s : List ℕ) (a e : ℕ) (d : Declaration) → Declares d ≡ message_field_at s a e → Places e d
+pub field-places : (s : List ℕ) (a e : ℕ) (d : Declaration) → Some d ≡ message_field_at s a e → Places e d
 unfolding message_field_at
 field-places s a e d =
-    on-leaf-some NoDeclaration (Declares d) (leaf_at name_tag any_bytes s a e) _ (Places e d) (none-declared d) λ n shapes y.
+    on-leaf-some None (Some d) (leaf_at name_tag any_bytes s a e) _ (Places e d) (none-declared d) λ n shapes y.
     declared-places s shapes e (span n shapes) (span 0 0) d (name-lies name_tag s a e n shapes y)
     (record { ordered = omega arith; inside = omega arith }) (shape_at s shapes e) refl
 
-value-name-lies : (s : List ℕ) (a e : ℕ) (v : Value) → Values v ≡ value_at s a e → Placed e v.name.from v.name.to
+value-name-lies : (s : List ℕ) (a e : ℕ) (v : Value) → Some v ≡ value_at s a e → Placed e v.name.from v.name.to
 unfolding value_at
 value-name-lies s a e v =
-    on-leaf-some NoValue (Values v) (leaf_at name_tag any_bytes s a e) _ L none λ n numbers y.
-    on-leaf-some NoValue (Values v) (last_at e (leaf_at signed_number_tag (of_size 4) s numbers e)) _ L none λ k end z p.
+    on-leaf-some None (Some v) (leaf_at name_tag any_bytes s a e) _ L none λ n numbers y.
+    on-leaf-some None (Some v) (last_at e (leaf_at signed_number_tag (of_size 4) s numbers e)) _ L none λ k end z p.
     let u : v ≡ record { name = span n numbers; number = big_at 4 s k } = cc in
     rw u (name-lies name_tag s a e n numbers y)
   where
     L : Type 0
     L = Placed e v.name.from v.name.to
 
-    none : Values v ≡ NoValue → ⊥
+    none : Some v ≡ None → ⊥
     none p = never cc
 
-module _ (s : List ℕ) (a e : ℕ) (r : Declared) (q : r ≡ extension_at s a e) (d : Declaration) (g : r ≡ Declares d) where
+module _ (s : List ℕ) (a e : ℕ) (r : Option Declaration) (q : r ≡ extension_at s a e) (d : Declaration) (g : r ≡ Some d) where
   pub extension-name-ordered : d.name.from ≤ d.name.to
   extension-name-ordered = (extension-places s a e d (sym g ∙ q)).name.ordered
 
@@ -100,7 +94,7 @@ pub ruleset extension-places-laws = (
   extension-path-within,
 )
 
-module _ (s : List ℕ) (a e : ℕ) (r : Declared) (q : r ≡ message_field_at s a e) (d : Declaration) (g : r ≡ Declares d) where
+module _ (s : List ℕ) (a e : ℕ) (r : Option Declaration) (q : r ≡ message_field_at s a e) (d : Declaration) (g : r ≡ Some d) where
   pub field-name-ordered : d.name.from ≤ d.name.to
   field-name-ordered = (field-places s a e d (sym g ∙ q)).name.ordered
 
@@ -115,7 +109,7 @@ module _ (s : List ℕ) (a e : ℕ) (r : Declared) (q : r ≡ message_field_at s
 
 pub ruleset field-places-laws = (field-name-ordered, field-name-within, field-path-ordered, field-path-within)
 
-module _ (s : List ℕ) (a e : ℕ) (r : Valued) (q : r ≡ value_at s a e) (v : Value) (g : r ≡ Values v) where
+module _ (s : List ℕ) (a e : ℕ) (r : Option Value) (q : r ≡ value_at s a e) (v : Value) (g : r ≡ Some v) where
   pub value-name-ordered : v.name.from ≤ v.name.to
   value-name-ordered = (value-name-lies s a e v (sym g ∙ q)).ordered
 

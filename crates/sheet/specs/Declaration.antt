@@ -12,69 +12,63 @@
 --          value_at s a e ==  the enum value whose payload is from a to e
 --
 -- Assumes nothing.
-use Rattle.std.specs.Prelude.{Bool, true, false, ◌||◌, List, ℕ, eqb, get_or}
+use Rattle.std.specs.Prelude.{Bool, true, false, ◌||◌, List, ℕ, eqb, get_or, None, Some, Option}
 use Rattle.basis.specs.First.{only_if}
 use Rattle.octets.specs.Octets.{big_at}
-use Rattle.field.specs.declared.Leaf.{Leaf}
-use Rattle.field.specs.declared.Leaf.TheVariants.{At, Not}
 use Rattle.field.specs.declared.Span.{Span}
 use Rattle.field.specs.Leaf.{span, any_bytes, of_size, on_leaf, leaf_at}
 use Rattle.types.specs.Types.{TYPE_GROUP, TYPE_MESSAGE, TYPE_ENUM}
 use Rattle.sheet.specs.declared.declaration.Shape.{Shape}
-use Rattle.sheet.specs.declared.declaration.Shaped.{Shaped}
-use Rattle.sheet.specs.declared.declaration.Shaped.TheVariants.{Shapes, NoShape}
-use Rattle.sheet.specs.declared.declaration.Declared.{Declared}
-use Rattle.sheet.specs.declared.declaration.Declared.TheVariants.{Declares, NoDeclaration}
-use Rattle.sheet.specs.declared.declaration.Valued.{Valued}
-use Rattle.sheet.specs.declared.declaration.Valued.TheVariants.{Values, NoValue}
 use Rattle.sheet.specs.Table.{name_tag, extendee_tag, number_tag, type_tag, label_tag, type_path_tag, signed_number_tag}
+use Rattle.sheet.specs.declared.declaration.Declaration.{Declaration}
+use Rattle.sheet.specs.declared.declaration.Value.{Value}
 
 -- "16 type path exactly for types 10, 11, 14" [FORM-7]
 unfoldable pub has_type_path : ℕ → Bool
 has_type_path t = eqb t TYPE_GROUP || eqb t TYPE_MESSAGE || eqb t TYPE_ENUM
 
-abbrev pub last_at : ℕ → Leaf → Leaf
-last_at end Not = Not
-last_at end (At a e) = only_if (eqb e end) (At a e) Not
+abbrev pub last_at : ℕ → Option Span → Option Span
+last_at end None = None
+last_at end (Some p) = only_if (eqb p.to end) (Some (span p.from p.to)) None
 
-unfoldable pub type_path_at : (typ : ℕ) (s : List ℕ) (at end : ℕ) → Leaf
+unfoldable pub type_path_at : (typ : ℕ) (s : List ℕ) (at end : ℕ) → Option Span
 type_path_at t s at end = elim (has_type_path t) [
   | true ↦ last_at end (leaf_at type_path_tag any_bytes s at end)
-  | false ↦ only_if (eqb at end) (At 0 0) Not
+  | false ↦ only_if (eqb at end) (Some (span 0 0)) None
 ]
 
 abbrev pub shape : (number typ label from to : ℕ) → Shape
 shape number typ label a e = record { number = number; typ = typ; label = label; path = span a e }
 
 -- "13 number (4 bytes), 14 type, 15 label, 16 type path"; types and labels are one byte [FORM-2, FORM-3]
-unfoldable pub shape_at : (s : List ℕ) (at end : ℕ) → Shaped
+unfoldable pub shape_at : (s : List ℕ) (at end : ℕ) → Option Shape
 shape_at s at end =
-    on_leaf NoShape (leaf_at number_tag (of_size 4) s at end) λ n types.
-    on_leaf NoShape (leaf_at type_tag (of_size 1) s types end) λ t labels.
-    on_leaf NoShape (leaf_at label_tag (of_size 1) s labels end) λ l paths.
-    on_leaf NoShape (type_path_at (get_or s t 0) s paths end) λ a e.
-    Shapes (shape (big_at 4 s n) (get_or s t 0) (get_or s l 0) a e)
+    on_leaf None (leaf_at number_tag (of_size 4) s at end) λ n types.
+    on_leaf None (leaf_at type_tag (of_size 1) s types end) λ t labels.
+    on_leaf None (leaf_at label_tag (of_size 1) s labels end) λ l paths.
+    on_leaf None (type_path_at (get_or s t 0) s paths end) λ a e.
+    Some (shape (big_at 4 s n) (get_or s t 0) (get_or s l 0) a e)
 
-abbrev pub declared_with : (name extendee : Span) → Shaped → Declared
-declared_with name extendee NoShape = NoDeclaration
-declared_with name extendee (Shapes h) = Declares (record { name = name; extendee = extendee; shape = h })
+abbrev pub declared_with : (name extendee : Span) → Option Shape → Option Declaration
+declared_with name extendee None = None
+declared_with name extendee (Some h) = Some (record { name = name; extendee = extendee; shape = h })
 
 -- tag 03: "11, 12 extendee path, 13 number ..": name and extendee, then the shape [FORM-2]
-unfoldable pub extension_at : (s : List ℕ) (from to : ℕ) → Declared
+unfoldable pub extension_at : (s : List ℕ) (from to : ℕ) → Option Declaration
 extension_at s a e =
-    on_leaf NoDeclaration (leaf_at name_tag any_bytes s a e) λ n extendees.
-    on_leaf NoDeclaration (leaf_at extendee_tag any_bytes s extendees e) λ x shapes.
+    on_leaf None (leaf_at name_tag any_bytes s a e) λ n extendees.
+    on_leaf None (leaf_at extendee_tag any_bytes s extendees e) λ x shapes.
     declared_with (span n extendees) (span x shapes) (shape_at s shapes e)
 
 -- tag 05: "as 03 without 12" [FORM-2]
-unfoldable pub message_field_at : (s : List ℕ) (from to : ℕ) → Declared
+unfoldable pub message_field_at : (s : List ℕ) (from to : ℕ) → Option Declaration
 message_field_at s a e =
-    on_leaf NoDeclaration (leaf_at name_tag any_bytes s a e) λ n shapes.
+    on_leaf None (leaf_at name_tag any_bytes s a e) λ n shapes.
     declared_with (span n shapes) (span 0 0) (shape_at s shapes e)
 
 -- tag 06: "11, 17 signed number (4 bytes)" [FORM-2]
-unfoldable pub value_at : (s : List ℕ) (from to : ℕ) → Valued
+unfoldable pub value_at : (s : List ℕ) (from to : ℕ) → Option Value
 value_at s a e =
-    on_leaf NoValue (leaf_at name_tag any_bytes s a e) λ n numbers.
-    on_leaf NoValue (last_at e (leaf_at signed_number_tag (of_size 4) s numbers e)) λ k end.
-    Values (record { name = span n numbers; number = big_at 4 s k })
+    on_leaf None (leaf_at name_tag any_bytes s a e) λ n numbers.
+    on_leaf None (last_at e (leaf_at signed_number_tag (of_size 4) s numbers e)) λ k end.
+    Some (record { name = span n numbers; number = big_at 4 s k })

@@ -20,17 +20,13 @@
 --                     tree_of s == the files of a sheet, in order
 --
 -- Assumes nothing.
-use Rattle.std.specs.Prelude.{true, false, List, [], ◌∷◌, ℕ, zero, suc, eqb, length}
+use Rattle.std.specs.Prelude.{true, false, List, [], ◌∷◌, ℕ, zero, suc, eqb, length, None, Option, Some}
 use Rattle.limits.specs.Figures.{most_messages}
 use Rattle.field.specs.declared.Span.{Span}
 use Rattle.field.specs.Leaf.{span, any_bytes, on_leaf, leaf_at}
 use Rattle.field.specs.Walk.{Walk, done, cut, step, walk}
 use Rattle.sheet.specs.declared.declaration.Declaration.{Declaration}
-use Rattle.sheet.specs.declared.declaration.Declared.{Declared}
-use Rattle.sheet.specs.declared.declaration.Declared.TheVariants.{Declares, NoDeclaration}
 use Rattle.sheet.specs.declared.declaration.Value.{Value}
-use Rattle.sheet.specs.declared.declaration.Valued.{Valued}
-use Rattle.sheet.specs.declared.declaration.Valued.TheVariants.{Values, NoValue}
 use Rattle.sheet.specs.Table.{file_tag, message_tag, extension_tag, enum_tag, field_tag, value_tag, package_tag, name_tag}
 use Rattle.sheet.specs.Declaration.{extension_at, message_field_at, value_at}
 
@@ -48,9 +44,9 @@ pub record File : Type 0 where
   pub body : Span
   pub items : Items
 
-abbrev pub value_onto : Valued → List Value → List Value
-value_onto NoValue rest = rest
-value_onto (Values v) rest = v ∷ rest
+abbrev pub value_onto : Option Value → List Value → List Value
+value_onto None rest = rest
+value_onto (Some v) rest = v ∷ rest
 
 unfoldable pub value_in : (s : List ℕ) (tag from to : ℕ) (rest : List Value) → List Value
 value_in s t a e rest = elim (eqb t value_tag) [ true ↦ value_onto (value_at s a e) rest | false ↦ rest ]
@@ -64,13 +60,13 @@ values_in s (step t a e w) = value_in s t a e (values_in s w)
 abbrev pub enum_in : (s : List ℕ) (from to : ℕ) (rest : Items) → Items
 enum_in s a e rest = on_leaf rest (leaf_at name_tag any_bytes s a e) λ n m. enumeration (span n m) (span m e) (values_in s (walk s m e)) rest
 
-abbrev pub extension_in : Declared → Items → Items
-extension_in NoDeclaration rest = rest
-extension_in (Declares d) rest = extension d rest
+abbrev pub extension_in : Option Declaration → Items → Items
+extension_in None rest = rest
+extension_in (Some d) rest = extension d rest
 
-abbrev pub field_in : Declared → Items → Items
-field_in NoDeclaration rest = rest
-field_in (Declares d) rest = field d rest
+abbrev pub field_in : Option Declaration → Items → Items
+field_in None rest = rest
+field_in (Some d) rest = field d rest
 
 -- one field of a file or a message, where `inner` reads a message
 unfoldable pub item_in : (inner : (from to : ℕ) → Items → Items) (s : List ℕ) (tag from to : ℕ) (rest : Items) → Items

@@ -3,7 +3,7 @@ ghost use Rattle.std.specs.Prelude.{◌≡◌, ◌≤◌, length};
 ghost use Rattle.sheet.specs.Declaration.{has_type_path, type_path_at, shape_at, extension_at, message_field_at, value_at};
 
 use crate::table;
-use field::{Leaf, Span, leaf_at, sized_at};
+use field::{Span, leaf_at, sized_at};
 use types::{TYPE_ENUM, TYPE_GROUP, TYPE_MESSAGE};
 
 // What an extension and a field have after their names.
@@ -16,13 +16,6 @@ pub struct Shape {
     pub path: Span,
 }
 
-// What a reader of shapes answers.
-#[derive(Clone, Copy)]
-pub enum Shaped {
-    Shapes(Shape),
-    NoShape,
-}
-
 // An extension or a field.
 #[derive(Clone, Copy)]
 pub struct Declaration {
@@ -32,25 +25,11 @@ pub struct Declaration {
     pub shape: Shape,
 }
 
-// What a reader of extensions or fields answers.
-#[derive(Clone, Copy)]
-pub enum Declared {
-    Declares(Declaration),
-    NoDeclaration,
-}
-
 // A value of an enum; of its signed number the 32 bits.
 #[derive(Clone, Copy)]
 pub struct Value {
     pub name: Span,
     pub number: u32,
-}
-
-// What a reader of enum values answers.
-#[derive(Clone, Copy)]
-pub enum Valued {
-    Values(Value),
-    NoValue,
 }
 
 // Whether the type is a group, a message or an enum, which have a type path.
@@ -61,48 +40,48 @@ pub fn has_type_path(typ: usize) -> bool
 }
 
 // The type path where the type has one, and nothing after it.
-fn type_path_at(s: &[u8], at: usize, end: usize, typ: u8) -> Leaf
+fn type_path_at(s: &[u8], at: usize, end: usize, typ: u8) -> Option<Span>
     requires { (at ≤ end) × (end ≤ length s.now) }
     ensures { result ≡ type_path_at typ s.now at end }
 {
     if !has_type_path(typ as usize) {
         if at != end {
-            return Leaf::Not;
+            return None;
         }
-        return Leaf::At { from: 0, to: 0 };
+        return Some(Span { from: 0, to: 0 });
     }
-    let Leaf::At { from, to } = leaf_at(s, at, end, table::TYPE_PATH) else {
-        return Leaf::Not;
+    let Some(Span { from, to }) = leaf_at(s, at, end, table::TYPE_PATH) else {
+        return None;
     };
     if to != end {
-        return Leaf::Not;
+        return None;
     }
-    Leaf::At { from: from, to: to }
+    Some(Span { from: from, to: to })
 }
 
 // Number, type, label and type path, from a place on.
-fn shape_at(s: &[u8], at: usize, end: usize) -> Shaped
+fn shape_at(s: &[u8], at: usize, end: usize) -> Option<Shape>
     requires { (at ≤ end) × (end ≤ length s.now) }
     ensures { result ≡ shape_at s.now at end }
 {
-    let Leaf::At { from: n, to: types } = sized_at(s, at, end, table::NUMBER, 4) else {
-        return Shaped::NoShape;
+    let Some(Span { from: n, to: types }) = sized_at(s, at, end, table::NUMBER, 4) else {
+        return None;
     };
-    let Leaf::At {
+    let Some(Span {
         from: t,
         to: labels,
-    } = sized_at(s, types, end, table::TYPE, 1)
+    }) = sized_at(s, types, end, table::TYPE, 1)
     else {
-        return Shaped::NoShape;
+        return None;
     };
-    let Leaf::At { from: l, to: paths } = sized_at(s, labels, end, table::LABEL, 1) else {
-        return Shaped::NoShape;
+    let Some(Span { from: l, to: paths }) = sized_at(s, labels, end, table::LABEL, 1) else {
+        return None;
     };
     let typ = s[t];
-    let Leaf::At { from, to } = type_path_at(s, paths, end, typ) else {
-        return Shaped::NoShape;
+    let Some(Span { from, to }) = type_path_at(s, paths, end, typ) else {
+        return None;
     };
-    Shaped::Shapes(Shape {
+    Some(Shape {
         number: octets::u32_at(s, n),
         typ: typ,
         label: s[l],
@@ -111,28 +90,28 @@ fn shape_at(s: &[u8], at: usize, end: usize) -> Shaped
 }
 
 // The extension whose payload is from..to.
-pub fn extension_at(s: &[u8], from: usize, to: usize) -> Declared
+pub fn extension_at(s: &[u8], from: usize, to: usize) -> Option<Declaration>
     requires { (from ≤ to) × (to ≤ length s.now) }
     ensures { result ≡ extension_at s.now from to }
 {
-    let Leaf::At {
+    let Some(Span {
         from: n,
         to: extendees,
-    } = leaf_at(s, from, to, table::NAME)
+    }) = leaf_at(s, from, to, table::NAME)
     else {
-        return Declared::NoDeclaration;
+        return None;
     };
-    let Leaf::At {
+    let Some(Span {
         from: x,
         to: shapes,
-    } = leaf_at(s, extendees, to, table::EXTENDEE)
+    }) = leaf_at(s, extendees, to, table::EXTENDEE)
     else {
-        return Declared::NoDeclaration;
+        return None;
     };
-    let Shaped::Shapes(shape) = shape_at(s, shapes, to) else {
-        return Declared::NoDeclaration;
+    let Some(shape) = shape_at(s, shapes, to) else {
+        return None;
     };
-    Declared::Declares(Declaration {
+    Some(Declaration {
         name: Span {
             from: n,
             to: extendees,
@@ -146,21 +125,21 @@ pub fn extension_at(s: &[u8], from: usize, to: usize) -> Declared
 }
 
 // The field of a message whose payload is from..to.
-pub fn message_field_at(s: &[u8], from: usize, to: usize) -> Declared
+pub fn message_field_at(s: &[u8], from: usize, to: usize) -> Option<Declaration>
     requires { (from ≤ to) × (to ≤ length s.now) }
     ensures { result ≡ message_field_at s.now from to }
 {
-    let Leaf::At {
+    let Some(Span {
         from: n,
         to: shapes,
-    } = leaf_at(s, from, to, table::NAME)
+    }) = leaf_at(s, from, to, table::NAME)
     else {
-        return Declared::NoDeclaration;
+        return None;
     };
-    let Shaped::Shapes(shape) = shape_at(s, shapes, to) else {
-        return Declared::NoDeclaration;
+    let Some(shape) = shape_at(s, shapes, to) else {
+        return None;
     };
-    Declared::Declares(Declaration {
+    Some(Declaration {
         name: Span {
             from: n,
             to: shapes,
@@ -171,24 +150,24 @@ pub fn message_field_at(s: &[u8], from: usize, to: usize) -> Declared
 }
 
 // The enum value whose payload is from..to.
-pub fn value_at(s: &[u8], from: usize, to: usize) -> Valued
+pub fn value_at(s: &[u8], from: usize, to: usize) -> Option<Value>
     requires { (from ≤ to) × (to ≤ length s.now) }
     ensures { result ≡ value_at s.now from to }
 {
-    let Leaf::At {
+    let Some(Span {
         from: n,
         to: numbers,
-    } = leaf_at(s, from, to, table::NAME)
+    }) = leaf_at(s, from, to, table::NAME)
     else {
-        return Valued::NoValue;
+        return None;
     };
-    let Leaf::At { from: k, to: end } = sized_at(s, numbers, to, table::SIGNED_NUMBER, 4) else {
-        return Valued::NoValue;
+    let Some(Span { from: k, to: end }) = sized_at(s, numbers, to, table::SIGNED_NUMBER, 4) else {
+        return None;
     };
     if end != to {
-        return Valued::NoValue;
+        return None;
     }
-    Valued::Values(Value {
+    Some(Value {
         name: Span {
             from: n,
             to: numbers,

@@ -1,18 +1,15 @@
 -- What a fine sheet's tree is like: every leaf is what 01 allows, and nothing is left out. The final statements stand at the end;
 -- what they say of a file and of each message in it goes on in messageform/proofs/FineLaws.antt.
 -- Assumes nothing.
-use Rattle.std.specs.Prelude.{◌≡◌, refl, Bool, true, false, List, ℕ, suc, ◌+◌, ◌≤◌, ◌<◌, ltb, length}
+use Rattle.std.specs.Prelude.{◌≡◌, refl, Bool, true, false, List, ℕ, suc, ◌+◌, ◌≤◌, ◌<◌, ltb, length, Ok, Option, Some}
 use Rattle.basis.specs.Kit.{sym, ap, ◌∙◌}
 use Rattle.basis.proofs.Kit.{arith}
 use native.Mathlib.Decide.{ℕ_discrete}
 use Rattle.limits.specs.Figures.{most_files, most_messages}
 use Rattle.path.specs.Path.{is_rel_or_empty}
 use Rattle.reply.specs.declared.Refusal.TheVariants.{BadSheet, BeyondLimit}
-use Rattle.reply.specs.declared.Verdict.TheVariants.{Fine}
 use Rattle.reply.proofs.VerdictLaws.{refused-fine, first-fine-front, first-fine-rest}
-use Rattle.field.specs.declared.Field.{Field}
-use Rattle.field.specs.declared.Field.TheVariants.{Whole}
-use Rattle.field.specs.Field.{field_at}
+use Rattle.field.specs.Field.{field_at, field}
 use Rattle.field.specs.Leaf.{any_bytes, on_leaf, leaf_at}
 use Rattle.field.specs.Walk.{Walk, done, cut, step, walk, tags_in}
 use Rattle.form.specs.Each.{each_from}
@@ -26,6 +23,7 @@ use Rattle.sheetform.specs.Fine.{good_files}
 use Rattle.sheetform.proofs.SheetLaws.{file-other, file-early}
 use Rattle.messageform.proofs.FineLaws.{level-fine}
 use Rattle.messageform.proofs.FineItems.{Inside, leaf-fine}
+use Rattle.field.specs.declared.Field.{Field}
 
 -- ---- files
 record FineFiles (s : List ℕ) (w : Walk) (fs : List File) : Type 0 where
@@ -33,7 +31,7 @@ record FineFiles (s : List ℕ) (w : Walk) (fs : List File) : Type 0 where
   whole : length fs ≡ length (tags_in w)
 
 -- A file that is fine has a package, and what it holds is fine.
-pub fine-file : (s : List ℕ) (i a e : ℕ) → judge_file s i file_tag a e ≡ Fine
+pub fine-file : (s : List ℕ) (i a e : ℕ) → judge_file s i file_tag a e ≡ Ok tt
     → Inside (leaf_at package_tag any_bytes s a e) is_rel_or_empty s (λ m. judge_items most_messages false s m e)
 unfolding judge_file
 fine-file s i a e = go (ltb i most_files)
@@ -42,29 +40,29 @@ fine-file s i a e = go (ltb i most_files)
         → elim b [
           | true ↦ on_leaf bad_sheet (leaf_at package_tag is_rel_or_empty s a e) λ n m. judge_items most_messages false s m e
           | false ↦ beyond
-        ] ≡ Fine
+        ] ≡ Ok tt
         → Inside (leaf_at package_tag any_bytes s a e) is_rel_or_empty s (λ m. judge_items most_messages false s m e)
     go true p = leaf-fine package_tag is_rel_or_empty s a e (λ m. judge_items most_messages false s m e) p
     go false p = absurd (refused-fine BeyondLimit p)
 
-file-tagged : (s : List ℕ) (i t a e : ℕ) → judge_file s i t a e ≡ Fine → t ≡ file_tag
+file-tagged : (s : List ℕ) (i t a e : ℕ) → judge_file s i t a e ≡ Ok tt → t ≡ file_tag
 file-tagged s i t a e p = elim (ℕ_discrete t file_tag) [
   | yes y ↦ y
   | no n ↦ absurd (refused-fine BadSheet (file-other s i t a e n ∙ p))
 ]
 
-file-more : (s : List ℕ) (i t a e : ℕ) (w : Walk) (fs : List File) → judge_file s i t a e ≡ Fine → FineFiles s w fs
+file-more : (s : List ℕ) (i t a e : ℕ) (w : Walk) (fs : List File) → judge_file s i t a e ≡ Ok tt → FineFiles s w fs
     → FineFiles s (step t a e w) (file_in s t a e fs)
 unfolding file_in
 file-more s i t a e w fs p h = let y = file-tagged s i t a e p in rw y (at-file (rw y at p))
   where
-    at-file : judge_file s i file_tag a e ≡ Fine → FineFiles s (step file_tag a e w) (file_in s file_tag a e fs)
+    at-file : judge_file s i file_tag a e ≡ Ok tt → FineFiles s (step file_tag a e w) (file_in s file_tag a e fs)
     at-file q =
         let x = fine-file s i a e q in
         let l = level-fine most_messages false s x.to e x.fine in
         rw x.named record { good = rw (x.tested, l.good, h.good); whole = ap suc h.whole }
 
-files-fine : (s : List ℕ) (n : ℕ) (w : Walk) → each_from BadSheet (judge_file s) n w ≡ Fine → FineFiles s w (files_in s w)
+files-fine : (s : List ℕ) (n : ℕ) (w : Walk) → each_from BadSheet (judge_file s) n w ≡ Ok tt → FineFiles s w (files_in s w)
 files-fine s n done p = record { good = refl; whole = refl }
 files-fine s n cut p = absurd (refused-fine BadSheet p)
 files-fine s n (step t a e w) p =
@@ -73,7 +71,7 @@ files-fine s n (step t a e w) p =
     let rest = first-fine-rest (judge n t a e) (each_from BadSheet judge (n + 1) w) p in
     file-more s n t a e w (files_in s w) front (files-fine s (n + 1) w rest)
 
-files-few : (s : List ℕ) (n : ℕ) (w : Walk) → n ≤ most_files → each_from BadSheet (judge_file s) n w ≡ Fine
+files-few : (s : List ℕ) (n : ℕ) (w : Walk) → n ≤ most_files → each_from BadSheet (judge_file s) n w ≡ Ok tt
     → n + length (tags_in w) ≤ most_files
 files-few s n done h p = omega arith
 files-few s n cut h p = absurd (refused-fine BadSheet p)
@@ -86,37 +84,37 @@ files-few s n (step t a e w) h p =
 
 -- ==== the statements
 -- Where a sheet is fine, so are its files.
-pub fine-sheet : (s : List ℕ) → judge_sheet s ≡ Fine → each_from BadSheet (judge_file s) 0 (walk s 0 (length s)) ≡ Fine
+pub fine-sheet : (s : List ℕ) → judge_sheet s ≡ Ok tt → each_from BadSheet (judge_file s) 0 (walk s 0 (length s)) ≡ Ok tt
 unfolding judge_sheet judge_files
 fine-sheet s = first-fine-rest (judge_length s) (judge_files s)
 
 -- Every name, path, number, type and label in the tree of a fine sheet is what 01 allows.
-pub fine-good : (s : List ℕ) → judge_sheet s ≡ Fine → good_files s (tree_of s) ≡ true
+pub fine-good : (s : List ℕ) → judge_sheet s ≡ Ok tt → good_files s (tree_of s) ≡ true
 unfolding tree_of
 fine-good s p = (files-fine s 0 (walk s 0 (length s)) (fine-sheet s p)).good
 
 -- Every field of a fine sheet is a file of its tree.
-pub fine-files : (s : List ℕ) → judge_sheet s ≡ Fine → length (tree_of s) ≡ length (tags_in (walk s 0 (length s)))
+pub fine-files : (s : List ℕ) → judge_sheet s ≡ Ok tt → length (tree_of s) ≡ length (tags_in (walk s 0 (length s)))
 unfolding tree_of
 fine-files s p = (files-fine s 0 (walk s 0 (length s)) (fine-sheet s p)).whole
 
-module _ (s : List ℕ) (n i to : ℕ) (p : each_from BadSheet (judge_file s) n (walk s i to) ≡ Fine) (h : i < to)
-    (r : Field) (q : r ≡ field_at s i to) (t a e : ℕ) (g : r ≡ Whole t a e) where
-  file-opened : each_from BadSheet (judge_file s) n (step t a e (walk s e to)) ≡ Fine
-  file-opened = ap (each_from BadSheet (judge_file s) n) (sym (walk_step s i to h r q t a e g)) ∙ p
+module _ (s : List ℕ) (n i to : ℕ) (p : each_from BadSheet (judge_file s) n (walk s i to) ≡ Ok tt) (h : i < to)
+    (r : Option Field) (q : r ≡ field_at s i to) (f : Field) (g : r ≡ Some f) where
+  file-opened : each_from BadSheet (judge_file s) n (step f.tag f.from f.to (walk s f.to to)) ≡ Ok tt
+  file-opened = ap (each_from BadSheet (judge_file s) n) (sym (walk_step s i to h r q f g)) ∙ p
 
   -- Where fine files have a field, that is fine: so on to every file of a sheet, and by fine-file to what it holds.
-  pub fine-file-at : judge_file s n t a e ≡ Fine
-  fine-file-at = first-fine-front (judge_file s n t a e) (each_from BadSheet (judge_file s) (n + 1) (walk s e to)) file-opened
+  pub fine-file-at : judge_file s n f.tag f.from f.to ≡ Ok tt
+  fine-file-at = first-fine-front (judge_file s n f.tag f.from f.to) (each_from BadSheet (judge_file s) (n + 1) (walk s f.to to)) file-opened
 
   -- It is a file.
-  pub fine-file-tag : t ≡ file_tag
-  fine-file-tag = file-tagged s n t a e fine-file-at
+  pub fine-file-tag : f.tag ≡ file_tag
+  fine-file-tag = file-tagged s n f.tag f.from f.to fine-file-at
 
   -- The files that follow it are fine.
-  pub fine-file-next : each_from BadSheet (judge_file s) (n + 1) (walk s e to) ≡ Fine
-  fine-file-next = first-fine-rest (judge_file s n t a e) (each_from BadSheet (judge_file s) (n + 1) (walk s e to)) file-opened
+  pub fine-file-next : each_from BadSheet (judge_file s) (n + 1) (walk s f.to to) ≡ Ok tt
+  fine-file-next = first-fine-rest (judge_file s n f.tag f.from f.to) (each_from BadSheet (judge_file s) (n + 1) (walk s f.to to)) file-opened
 
 -- A fine sheet has at most 8 files.
-pub fine-few-files : (s : List ℕ) → judge_sheet s ≡ Fine → length (tree_of s) ≤ most_files
+pub fine-few-files : (s : List ℕ) → judge_sheet s ≡ Ok tt → length (tree_of s) ≤ most_files
 fine-few-files s p = omega (arith, fine-files s p, files-few s 0 (walk s 0 (length s)) (omega arith) (fine-sheet s p))

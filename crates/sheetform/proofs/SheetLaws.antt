@@ -1,6 +1,6 @@
 -- The laws of files and sheets: the ways through `check_file`, `check_files`, `check_length` and `check_sheet`.
 -- Assumes nothing.
-use Rattle.std.specs.Prelude.{◌≡◌, refl, Bool, true, false, List, ℕ, ◌+◌, ◌^◌, ◌≤◌, ◌<◌, eqb, ltb, leb, length}
+use Rattle.std.specs.Prelude.{◌≡◌, refl, Bool, true, false, List, ℕ, ◌+◌, ◌^◌, ◌≤◌, ◌<◌, eqb, ltb, leb, length, Err, None, Some, Ok, Option}
 use Rattle.basis.specs.Kit.{sym, ◌∙◌}
 use Rattle.basis.proofs.Kit.{arith, eq-eqb, ne_eqb, lt-ltb, le-ltb}
 use borrow.Author.Tests.{ltb-true, ltb-false, leb-true, leb-false}
@@ -10,22 +10,19 @@ use Rattle.limits.specs.Figures.{most_sheet, most_files, most_messages}
 use Rattle.path.specs.Path.{is_rel_or_empty}
 use Rattle.reply.specs.declared.Refusal.{Refusal}
 use Rattle.reply.specs.declared.Refusal.TheVariants.{BadSheet, BeyondLimit}
-use Rattle.reply.specs.declared.Verdict.{Verdict}
-use Rattle.reply.specs.declared.Verdict.TheVariants.{Fine, Refused}
 use Rattle.reply.proofs.VerdictLaws.{says, first-fine-front}
-use Rattle.field.specs.declared.Leaf.{Leaf}
-use Rattle.field.specs.declared.Leaf.TheVariants.{At, Not}
 use Rattle.field.specs.Walk.{Walk}
-use Rattle.field.specs.Leaf.{leaf_at}
+use Rattle.field.specs.Leaf.{leaf_at, span}
 use Rattle.form.specs.Each.{each_from}
 use Rattle.field.proofs.FieldLaws.{field-ordered}
 use Rattle.field.proofs.LeafLaws.{leaf-inside}
 use Rattle.field.proofs.Rest.{Rest, rest-start}
 use Rattle.form.proofs.EachLaws.{each-from-laws}
 use Rattle.sheet.specs.Table.{file_tag, package_tag}
-use Rattle.reply.specs.Verdicts.{judged, beyond}
+use Rattle.reply.specs.Verdicts.{judged, beyond, Verdict}
 use Rattle.messageform.specs.Form.{bad_sheet, judge_items}
 use Rattle.sheetform.specs.Form.{judge_file, judge_files, judge_length, judge_sheet}
+use Rattle.field.specs.declared.Span.{Span}
 
 -- ---- check_file
 module _ (s : List ℕ) (i t a e : ℕ) where
@@ -38,14 +35,14 @@ module _ (s : List ℕ) (i t a e : ℕ) where
     unfolding judge_file
     file-beyond h = simp (judge_file, eq-eqb t file_tag y, le-ltb i most_files h)
 
-    module _ (h : i < most_files) (r : Leaf) (q : r ≡ leaf_at package_tag is_rel_or_empty s a e) where
-      pub file-unnamed : r ≡ Not → bad_sheet ≡ judge_file s i t a e
+    module _ (h : i < most_files) (r : Option Span) (q : r ≡ leaf_at package_tag is_rel_or_empty s a e) where
+      pub file-unnamed : r ≡ None → bad_sheet ≡ judge_file s i t a e
       unfolding judge_file
       file-unnamed g = simp (judge_file, eq-eqb t file_tag y, lt-ltb i most_files h, ← q, g)
 
-      pub file-items : (n body : ℕ) → r ≡ At n body → (v : Verdict) → v ≡ judge_items most_messages false s body e → v ≡ judge_file s i t a e
+      pub file-items : (u : Span) → r ≡ Some u → (v : Verdict) → v ≡ judge_items most_messages false s u.to e → v ≡ judge_file s i t a e
       unfolding judge_file
-      file-items n body g v p = simp (judge_file, eq-eqb t file_tag y, lt-ltb i most_files h, ← q, g) p
+      file-items u g v p = simp (judge_file, eq-eqb t file_tag y, lt-ltb i most_files h, ← q, g) p
 
 pub ruleset file-laws = (file-other, file-beyond, file-unnamed, file-items, leaf-inside)
 
@@ -58,17 +55,17 @@ unfolding judge_files
 files-start s = rest-start (files s 0) s 0 (length s) (omega arith) (omega arith)
 
 -- a file that is fine is one of the first
-pub file-early : (s : List ℕ) (i t a e : ℕ) → Fine ≡ judge_file s i t a e → i < most_files
+pub file-early : (s : List ℕ) (i t a e : ℕ) → Ok tt ≡ judge_file s i t a e → i < most_files
 unfolding judge_file
 file-early s i t a e = go (eqb t file_tag) (ltb i most_files) refl _
   where
     go : (b b' : Bool) → ltb i most_files ≡ b' → (v : Verdict)
-        → Fine ≡ elim b [ true ↦ elim b' [ true ↦ v | false ↦ beyond ] | false ↦ bad_sheet ] → i < most_files
+        → Ok tt ≡ elim b [ true ↦ elim b' [ true ↦ v | false ↦ beyond ] | false ↦ bad_sheet ] → i < most_files
     go true true p v h = ltb-true i most_files p
     go true false p v h = never cc
     go false b' p v h = never cc
 
-pub file-counted : (s : List ℕ) (i t a e : ℕ) (u : Verdict) → u ≡ judge_file s i t a e → u ≡ Fine → i + 1 < 2 ^ 64
+pub file-counted : (s : List ℕ) (i t a e : ℕ) (u : Verdict) → u ≡ judge_file s i t a e → u ≡ Ok tt → i + 1 < 2 ^ 64
 file-counted s i t a e u q g = omega (arith, file-early s i t a e (sym g ∙ q))
 
 pub ruleset files-laws = (files-start, file-counted, field-ordered, each-from-laws)
@@ -81,15 +78,15 @@ module _ (s : List ℕ) where
   length-is false r p q = q ∙ rw (lt-ltb most_sheet (length s) (leb-false (length s) most_sheet (sym p)))
 
   -- what is fine is short enough
-  pub fine-length : judge_length s ≡ Fine → length s ≤ most_sheet
+  pub fine-length : judge_length s ≡ Ok tt → length s ≤ most_sheet
   unfolding judge_length
   fine-length h = go (ltb most_sheet (length s)) refl h
     where
-      go : (b : Bool) → ltb most_sheet (length s) ≡ b → only_if b beyond Fine ≡ Fine → length s ≤ most_sheet
+      go : (b : Bool) → ltb most_sheet (length s) ≡ b → only_if b beyond (Ok tt) ≡ Ok tt → length s ≤ most_sheet
       go false p q = ltb-false most_sheet (length s) p
       go true p q = never cc
 
-  pub sheet-length : judge_sheet s ≡ Fine → judge_length s ≡ Fine
+  pub sheet-length : judge_sheet s ≡ Ok tt → judge_length s ≡ Ok tt
   unfolding judge_sheet
   sheet-length h = first-fine-front (judge_length s) (judge_files s) h
 
@@ -97,11 +94,11 @@ pub ruleset length-laws = (says, length-is)
 
 -- ---- check_sheet
 module _ (s : List ℕ) (u : Verdict) (q : u ≡ judge_length s) where
-  pub sheet-long : (w : Refusal) → u ≡ Refused w → Refused w ≡ judge_sheet s
+  pub sheet-long : (w : Refusal) → u ≡ Err w → Err w ≡ judge_sheet s
   unfolding judge_sheet
   sheet-long w g = rw (← q, g)
 
-  pub sheet-files : u ≡ Fine → (v : Verdict) → v ≡ judge_files s → v ≡ judge_sheet s
+  pub sheet-files : u ≡ Ok tt → (v : Verdict) → v ≡ judge_files s → v ≡ judge_sheet s
   unfolding judge_sheet
   sheet-files g v p = rw (← q, g) p
 

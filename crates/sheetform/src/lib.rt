@@ -5,62 +5,62 @@ ghost use Rattle.std.specs.Prelude.{◌≡◌, ◌≤◌, length};
 ghost use Rattle.reply.specs.Verdicts.{Says};
 ghost use Rattle.sheetform.specs.Form.{judge_file, judge_files, judge_length, judge_sheet};
 
-use field::{Field, Leaf};
+use field::{Field, Span};
 use limits::{MOST_FILES, MOST_MESSAGES, MOST_SHEET};
 use messageform::check_items;
-use reply::{Refusal, Verdict};
+use reply::Refusal;
 use sheet::table;
 
 // One field of a sheet, which has `index` before it.
-fn check_file(s: &[u8], index: usize, tag: u8, from: usize, to: usize) -> Verdict
+fn check_file(s: &[u8], index: usize, tag: u8, from: usize, to: usize) -> Result<(), Refusal>
     requires { (from ≤ to) × (to ≤ length s.now) }
     ensures { result ≡ judge_file s.now index tag from to }
 {
     if tag != table::FILE {
-        return Verdict::Refused(Refusal::BadSheet);
+        return Err(Refusal::BadSheet);
     }
     if MOST_FILES <= index {
-        return Verdict::Refused(Refusal::BeyondLimit);
+        return Err(Refusal::BeyondLimit);
     }
-    let Leaf::At { from: _, to: body } = form::rel_or_empty_at(s, from, to, table::PACKAGE) else {
-        return Verdict::Refused(Refusal::BadSheet);
+    let Some(Span { from: _, to: body }) = form::rel_or_empty_at(s, from, to, table::PACKAGE) else {
+        return Err(Refusal::BadSheet);
     };
     check_items(s, body, to, MOST_MESSAGES, false)
 }
 
 // The files of a sheet.
-fn check_files(s: &[u8]) -> Verdict
+fn check_files(s: &[u8]) -> Result<(), Refusal>
     ensures { result ≡ judge_files s.now }
 {
     let end = s.len();
     let mut at = 0;
     let mut index = 0;
     while at < end {
-        let Field::Whole { tag, from, to } = field::field_at(s, at, end) else {
-            return Verdict::Refused(Refusal::BadSheet);
+        let Some(Field { tag, from, to }) = field::field_at(s, at, end) else {
+            return Err(Refusal::BadSheet);
         };
-        if let Verdict::Refused(why) = check_file(s, index, tag, from, to) {
-            return Verdict::Refused(why);
+        if let Err(why) = check_file(s, index, tag, from, to) {
+            return Err(why);
         }
         index += 1;
         at = to;
     }
-    Verdict::Fine
+    Ok(())
 }
 
 // Whether a sheet is short enough.
-pub fn check_length(s: &[u8]) -> Verdict
+pub fn check_length(s: &[u8]) -> Result<(), Refusal>
     ensures { Says (judge_length s.now) result }
 {
     reply::judge(s.len() <= MOST_SHEET, Refusal::BeyondLimit)
 }
 
 // Whether a sheet is fine, or its first fault.
-pub fn check_sheet(s: &[u8]) -> Verdict
+pub fn check_sheet(s: &[u8]) -> Result<(), Refusal>
     ensures { Says (judge_sheet s.now) result }
 {
-    if let Verdict::Refused(why) = check_length(s) {
-        return Verdict::Refused(why);
+    if let Err(why) = check_length(s) {
+        return Err(why);
     }
     check_files(s)
 }

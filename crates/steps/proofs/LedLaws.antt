@@ -1,6 +1,6 @@
 -- Where that lies to which a part leads: further on in the request, and in the sheet.
 -- Assumes nothing.
-use Rattle.std.specs.Prelude.{◌≡◌, refl, Bool, true, false, List, ℕ, eqb}
+use Rattle.std.specs.Prelude.{◌≡◌, refl, Bool, true, false, List, ℕ, eqb, Err, None, Some, Ok, Option, Result}
 use Rattle.basis.specs.Kit.{sym}
 use Rattle.basis.proofs.Kit.{arith}
 use mathlib.Core.Path.{subst}
@@ -12,23 +12,19 @@ use Rattle.types.specs.Types.{TYPE_GROUP, TYPE_MESSAGE}
 use Rattle.sheet.specs.declared.declaration.Shape.{Shape}
 use Rattle.scope.specs.declared.lookup.LookupScope.{LookupScope}
 use Rattle.scope.specs.inner.Answers.{InSheet}
-use Rattle.fullname.specs.declared.LookedUp.{LookedUp}
-use Rattle.fullname.specs.declared.LookedUp.TheVariants.{Message as Is, NoMessage}
 use Rattle.request.specs.declared.name.Part.{Part}
-use Rattle.request.specs.declared.name.Parted.{Parted}
-use Rattle.request.specs.declared.name.Parted.TheVariants.{Is as IsPart, NoPart}
 use Rattle.request.specs.Name.{part_at}
 use Rattle.request.proofs.PartLaws.{part-bounds}
 use Rattle.optionform.specs.inner.Parts.{OptionParts}
 use Rattle.optionform.proofs.PartsLaws.{fine-part-next}
 use Rattle.lookups.specs.Lookups.{walking}
 use Rattle.lookups.proofs.LookupLaws.{message-lies}
-use Rattle.steps.specs.declared.Step.{Step}
-use Rattle.steps.specs.declared.Step.TheVariants.{Found, NotFound}
 use Rattle.steps.specs.declared.Reach.{Reach}
 use Rattle.steps.specs.declared.Reach.TheVariants.{Constant, Inside, Nothing, Fails}
 use Rattle.steps.specs.Steps.{why_of}
 use Rattle.steps.specs.inner.Reached.{entered, left_on, followed, behind, stepped, StepLies, Behind, Entered, Led}
+use Rattle.sheet.specs.declared.declaration.Declaration.{Declaration}
+use Rattle.steps.specs.declared.Lack.{Lack}
 
 module _ (s r : List ℕ) (from to : ℕ) where
   pub led-nothing : Led s r from to Nothing
@@ -63,25 +59,25 @@ module _ (s r : List ℕ) (from to : ℕ) where
     unfolding left_on
     led-left o = go (eqb h.typ TYPE_MESSAGE) (eqb h.typ TYPE_GROUP) ((walking s).message (text s h.path)) refl
       where
-        go : (b c : Bool) (u : LookedUp) → u ≡ (walking s).message (text s h.path)
+        go : (b c : Bool) (u : Result LookupScope Refusal) → u ≡ (walking s).message (text s h.path)
             → Led s r from to (elim b [ true ↦ entered h x u | false ↦ elim c [ true ↦ Nothing | false ↦ Fails ExtensionIsNotMessage ] ])
-        go true c (NoMessage w) q = led-fails w
-        go true c (Is p) q = led-inside p o (message-lies s (text s h.path) (Is p) q p refl)
+        go true c (Err w) q = led-fails w
+        go true c (Ok p) q = led-inside p o (message-lies s (text s h.path) (Ok p) q p refl)
         go false true u q = led-nothing
         go false false u q = led-fails ExtensionIsNotMessage
 
-    led-followed : OptionParts r x to → (v : Parted) → Led s r from to (followed (walking s) s h x v)
-    led-followed o NoPart = led-constant
-    led-followed o (IsPart p) = led-left o
+    led-followed : OptionParts r x to → (v : Option Part) → Led s r from to (followed (walking s) s h x v)
+    led-followed o None = led-constant
+    led-followed o (Some p) = led-left o
 
-  pub led-step : OptionParts r from to → (v : Parted) → v ≡ part_at r from to → (p : Part) → v ≡ IsPart p → (u : Step) → StepLies s u
+  pub led-step : OptionParts r from to → (v : Option Part) → v ≡ part_at r from to → (p : Part) → v ≡ Some p → (u : Result Declaration Lack) → StepLies s u
       → (y : Reach) → y ≡ stepped (walking s) s r p.name.to to u → Led s r from to y
   unfolding behind
   led-step k v q p g u l y e = subst (Led s r from to) (sym e) (go u l)
     where
-      go : (u : Step) → StepLies s u → Led s r from to (stepped (walking s) s r p.name.to to u)
-      go (NotFound x) l = led-fails (why_of x)
-      go (Found d) l =
+      go : (u : Result Declaration Lack) → StepLies s u → Led s r from to (stepped (walking s) s r p.name.to to u)
+      go (Err x) l = led-fails (why_of x)
+      go (Ok d) l =
           let b = part-bounds r from to v q p g in
           led-followed d.shape p.name.to
           (record { path = l.lies d refl; further = omega (arith, b.starts, b.ordered); within = b.inside })

@@ -1,6 +1,6 @@
 -- What a part leads to: the ways through `left_on`, `behind`, `why_of`, `led` and `reach_of`, over any look-ups.
 -- Assumes nothing.
-use Rattle.std.specs.Prelude.{◌≡◌, List, ℕ}
+use Rattle.std.specs.Prelude.{◌≡◌, List, ℕ, Err, None, Some, Ok, Option, Result}
 use Rattle.basis.specs.Kit.{sym, ap, ◌∙◌}
 use Rattle.basis.proofs.Kit.{eq-eqb, ne_eqb}
 use Rattle.reply.specs.declared.Refusal.{Refusal}
@@ -10,19 +10,13 @@ use Rattle.types.specs.Types.{TYPE_GROUP, TYPE_MESSAGE}
 use Rattle.sheet.specs.declared.declaration.Declaration.{Declaration}
 use Rattle.sheet.specs.declared.declaration.Shape.{Shape}
 use Rattle.scope.specs.declared.lookup.LookupScope.{LookupScope}
-use Rattle.fullname.specs.declared.LookedUp.{LookedUp}
-use Rattle.fullname.specs.declared.LookedUp.TheVariants.{Message as Is, NoMessage}
 use Rattle.search.specs.declared.extension.Candidate.{Candidate}
 use Rattle.request.specs.declared.name.Part.{Part}
-use Rattle.request.specs.declared.name.Parted.{Parted}
-use Rattle.request.specs.declared.name.Parted.TheVariants.{Is as IsPart, NoPart}
 use Rattle.request.specs.Name.{part_at}
 use Rattle.optionform.proofs.PartsLaws.{fine-part-laws}
 use Rattle.lookups.specs.Lookups.{Lookups}
 use Rattle.steps.specs.declared.Lack.{Lack}
 use Rattle.steps.specs.declared.Lack.TheVariants.{NoField, NoExtension, OtherMessage}
-use Rattle.steps.specs.declared.Step.{Step}
-use Rattle.steps.specs.declared.Step.TheVariants.{Found, NotFound}
 use Rattle.steps.specs.declared.Reach.{Reach}
 use Rattle.steps.specs.declared.Reach.TheVariants.{Constant, Inside, Nothing, Fails}
 use Rattle.steps.specs.Steps.{why_of, step_of}
@@ -32,15 +26,15 @@ use Rattle.steps.specs.inner.Reached.{message, entered, left_on, followed, behin
 
 -- ---- left_on
 module _ (L : Lookups) (s : List ℕ) (h : Shape) (at t : ℕ) (k : t ≡ h.typ) where
-  module _ (x : t ≡ TYPE_MESSAGE) (v : LookedUp) (q : v ≡ L.message (text s h.path)) where
+  module _ (x : t ≡ TYPE_MESSAGE) (v : Result LookupScope Refusal) (q : v ≡ L.message (text s h.path)) where
     left-entered : left_on L s h at ≡ entered h at v
     unfolding left_on
     left-entered = simp (left_on, ← k, eq-eqb t TYPE_MESSAGE x, q)
 
-    pub left-none : (w : Refusal) → v ≡ NoMessage w → Fails w ≡ left_on L s h at
+    pub left-none : (w : Refusal) → v ≡ Err w → Fails w ≡ left_on L s h at
     left-none w g = sym (left-entered ∙ ap (entered h at) g)
 
-    pub left-inside : (p : LookupScope) → v ≡ Is p → Inside h p at ≡ left_on L s h at
+    pub left-inside : (p : LookupScope) → v ≡ Ok p → Inside h p at ≡ left_on L s h at
     left-inside p g = sym (left-entered ∙ ap (entered h at) g)
 
   module _ (x : t ≡ TYPE_MESSAGE → ⊥) where
@@ -55,15 +49,15 @@ module _ (L : Lookups) (s : List ℕ) (h : Shape) (at t : ℕ) (k : t ≡ h.typ)
 pub ruleset left-laws = (left-none, left-inside, left-group, left-scalar)
 
 -- ---- behind
-module _ (L : Lookups) (s r : List ℕ) (h : Shape) (at end : ℕ) (v : Parted) (q : v ≡ part_at r at end) where
+module _ (L : Lookups) (s r : List ℕ) (h : Shape) (at end : ℕ) (v : Option Part) (q : v ≡ part_at r at end) where
   behind-followed : behind L s r h at end ≡ followed L s h at v
   unfolding behind
   behind-followed = ap (followed L s h at) (sym q)
 
-  pub behind-constant : v ≡ NoPart → Constant h at ≡ behind L s r h at end
+  pub behind-constant : v ≡ None → Constant h at ≡ behind L s r h at end
   behind-constant g = sym (behind-followed ∙ ap (followed L s h at) g)
 
-  pub behind-part : (p : Part) → v ≡ IsPart p → (u : Reach) → u ≡ left_on L s h at → u ≡ behind L s r h at end
+  pub behind-part : (p : Part) → v ≡ Some p → (u : Reach) → u ≡ left_on L s h at → u ≡ behind L s r h at end
   behind-part p g u e = e ∙ sym (behind-followed ∙ ap (followed L s h at) g)
 
 pub ruleset behind-laws = (behind-constant, behind-part)
@@ -82,25 +76,25 @@ module _ (l : Lack) where
 pub ruleset why-laws = (why-field, why-extension, why-other)
 
 -- ---- led
-module _ (L : Lookups) (s r : List ℕ) (from to : ℕ) (v : Step) where
-  pub led-fails : (l : Lack) → v ≡ NotFound l → (w : Refusal) → w ≡ why_of l → Fails w ≡ stepped L s r from to v
+module _ (L : Lookups) (s r : List ℕ) (from to : ℕ) (v : Result Declaration Lack) where
+  pub led-fails : (l : Lack) → v ≡ Err l → (w : Refusal) → w ≡ why_of l → Fails w ≡ stepped L s r from to v
   led-fails l z w e = ap Fails e ∙ sym (ap (stepped L s r from to) z)
 
-  pub led-behind : (d : Declaration) → v ≡ Found d → (y : Reach) → y ≡ behind L s r d.shape from to → y ≡ stepped L s r from to v
+  pub led-behind : (d : Declaration) → v ≡ Ok d → (y : Reach) → y ≡ behind L s r d.shape from to → y ≡ stepped L s r from to v
   led-behind d z y o = o ∙ sym (ap (stepped L s r from to) z)
 
 pub ruleset led-laws = (led-fails, led-behind, step-path-ordered, step-path-within)
 
 -- ---- reach_of
-module _ (L : Lookups) (s r scope n : List ℕ) (c : LookupScope) (from to : ℕ) (v : Parted) (q : v ≡ part_at r from to) where
+module _ (L : Lookups) (s r scope n : List ℕ) (c : LookupScope) (from to : ℕ) (v : Option Part) (q : v ≡ part_at r from to) where
   reach-first : reach_of L s r scope (message n c) from to ≡ first_part L s r scope (message n c) to v
   unfolding reach_of
   reach-first = ap (first_part L s r scope (message n c) to) (sym q)
 
-  pub reach-none : v ≡ NoPart → Nothing ≡ reach_of L s r scope (message n c) from to
+  pub reach-none : v ≡ None → Nothing ≡ reach_of L s r scope (message n c) from to
   reach-none g = sym (reach-first ∙ ap (first_part L s r scope (message n c) to) g)
 
-  pub reach-led : (p : Part) → v ≡ IsPart p → (u : Step) → u ≡ step_of L s r scope (message n c) p → (y : Reach)
+  pub reach-led : (p : Part) → v ≡ Some p → (u : Result Declaration Lack) → u ≡ step_of L s r scope (message n c) p → (y : Reach)
       → y ≡ stepped L s r p.name.to to u → y ≡ reach_of L s r scope (message n c) from to
   reach-led p g u e y o =
       o ∙ sym (reach-first ∙ ap (first_part L s r scope (message n c) to) g ∙ ap (stepped L s r p.name.to to) (sym e))

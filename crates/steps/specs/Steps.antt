@@ -7,7 +7,7 @@
 --        step_of m p == what the part p comes to in the message m
 --
 -- Assumes nothing.
-use Rattle.std.specs.Prelude.{true, false, List, ℕ}
+use Rattle.std.specs.Prelude.{true, false, List, ℕ, Err, Ok, Result}
 use Rattle.basis.specs.First.{told}
 use Rattle.reply.specs.declared.Refusal.{Refusal}
 use Rattle.reply.specs.declared.Refusal.TheVariants.{WrongExtensionType, UnknownFieldName}
@@ -18,8 +18,7 @@ use Rattle.request.specs.declared.name.Part.{Part}
 use Rattle.lookups.specs.Lookups.{Lookups, Message, field_named}
 use Rattle.steps.specs.declared.Lack.{Lack}
 use Rattle.steps.specs.declared.Lack.TheVariants.{NoField, NoExtension, OtherMessage}
-use Rattle.steps.specs.declared.Step.{Step}
-use Rattle.steps.specs.declared.Step.TheVariants.{Found, NotFound}
+use Rattle.sheet.specs.declared.declaration.Declaration.{Declaration}
 
 -- 01, Replies: 9, "direct part"; 4, "no candidate has it"; 5, "other extendee". Here alone the lack of a part becomes a refusal.
 -- [STEP-5, SEARCH-6, SEARCH-7]
@@ -28,15 +27,15 @@ why_of NoField = UnknownFieldName
 why_of (NoExtension w) = w
 why_of (OtherMessage c) = WrongExtensionType
 
-abbrev pub step_extension : Compared → Step
-step_extension (Extends c) = Found c.found.declaration
-step_extension (ExtendsOther c) = NotFound (OtherMessage c)
-step_extension (Refused w) = NotFound (NoExtension w)
+abbrev pub step_extension : Compared → Result Declaration Lack
+step_extension (Extends c) = Ok c.found.declaration
+step_extension (ExtendsOther c) = Err (OtherMessage c)
+step_extension (Refused w) = Err (NoExtension w)
 
 module _ (L : Lookups) (s r scope : List ℕ) where
   -- "a direct part as a field, an extension part by search from the request's scope" [STEP-5, STEP-6]
-  unfoldable pub step_of : Message → Part → Step
+  unfoldable pub step_of : Message → Part → Result Declaration Lack
   step_of m p = elim p.extension [
     | true ↦ step_extension (L.extension scope m.name (text r p.name))
-    | false ↦ told (NotFound NoField) Found (field_named s (text r p.name) m.place)
+    | false ↦ told (Err NoField) Ok (field_named s (text r p.name) m.place)
   ]

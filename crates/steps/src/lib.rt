@@ -12,12 +12,11 @@ ghost use Rattle.lookups.specs.Lookups.{walking};
 ghost use Rattle.steps.specs.Steps.{why_of, step_extension, step_of};
 ghost use Rattle.steps.specs.inner.Reached.{message as message_of, left_on, behind as behind_of, stepped, StepLies, Led, reach_of};
 
-use fullname::LookedUp;
 use reply::Refusal;
-use request::name::{Part, Parted, part_at};
+use request::name::{Part, part_at};
 use scope::lookup::LookupScope;
 use search::extension::{Candidate, Compared};
-use sheet::declaration::{Declaration, Declared, Shape};
+use sheet::declaration::{Declaration, Shape};
 use types::{TYPE_GROUP, TYPE_MESSAGE};
 
 // Why a name part comes to nothing, with the fact behind it: no field of that name in the message reached; the search's own refusal; the
@@ -27,13 +26,6 @@ pub enum Lack {
     NoField,
     NoExtension(Refusal),
     OtherMessage(Candidate),
-}
-
-// What a name part comes to.
-#[derive(Clone, Copy)]
-pub enum Step {
-    Found(Declaration),
-    NotFound(Lack),
 }
 
 // What a part leads to: the constant behind it, on a field of that shape; more parts, inside the message of that path and place, in a record
@@ -54,15 +46,15 @@ pub enum Reach {
 }
 
 // What an extension part comes to, by what its search comes to.
-fn step_extension(searched: Compared) -> Step
+fn step_extension(searched: Compared) -> Result<Declaration, Lack>
     ensures { result ≡ step_extension searched }
 {
     match searched {
-        Compared::Refused(why) => Step::NotFound(Lack::NoExtension(why)),
-        Compared::ExtendsOther(first) => Step::NotFound(Lack::OtherMessage(first)),
+        Compared::Refused(why) => Err(Lack::NoExtension(why)),
+        Compared::ExtendsOther(first) => Err(Lack::OtherMessage(first)),
         Compared::Extends(first) => {
             let declaration = first.found.declaration;
-            Step::Found(declaration)
+            Ok(declaration)
         }
     }
 }
@@ -75,7 +67,7 @@ pub fn step_of(
     message: &[u8],
     place: LookupScope,
     part: Part,
-) -> Step
+) -> Result<Declaration, Lack>
     requires scope_value { is_rel_or_empty scope.now ≡ true }
     requires in_sheet { InSheet sheet.now place }
     requires lies_2 { Lies part.name request.now }
@@ -89,10 +81,10 @@ pub fn step_of(
     if part.extension {
         return step_extension(lookups::extension(sheet, scope, message, &request[from..to]));
     }
-    let Declared::Declares(field) = lookups::field_named(sheet, place, &request[from..to]) else {
-        return Step::NotFound(Lack::NoField);
+    let Some(field) = lookups::field_named(sheet, place, &request[from..to]) else {
+        return Err(Lack::NoField);
     };
-    Step::Found(field)
+    Ok(field)
 }
 
 // What parts left on a field of that shape lead to.
@@ -103,8 +95,8 @@ fn left_on(sheet: &[u8], shape: Shape, from: usize) -> Reach
     let typ = octets::wide(shape.typ);
     if typ == TYPE_MESSAGE {
         return match lookups::message_at(sheet, shape.path) {
-            LookedUp::NoMessage(why) => Reach::Fails(why),
-            LookedUp::Message(place) => Reach::Inside {
+            Err(why) => Reach::Fails(why),
+            Ok(place) => Reach::Inside {
                 shape: shape,
                 place: place,
                 from: from,
@@ -123,7 +115,7 @@ pub fn behind(sheet: &[u8], request: &[u8], shape: Shape, from: usize, to: usize
     requires lies { Lies shape.path sheet.now }
     ensures { result ≡ behind_of (walking sheet.now) sheet.now request.now shape from to }
 {
-    let Parted::Is(_) = part_at(request, from, to) else {
+    let Some(_) = part_at(request, from, to) else {
         return Reach::Constant {
             shape: shape,
             from: from,
@@ -144,14 +136,14 @@ pub fn why_of(lack: Lack) -> Refusal
 }
 
 // What a part that came to `step` and ends at `from` leads to.
-fn led(sheet: &[u8], request: &[u8], step: Step, from: usize, to: usize) -> Reach
+fn led(sheet: &[u8], request: &[u8], step: Result<Declaration, Lack>, from: usize, to: usize) -> Reach
     requires from_le_to { (from ≤ to) × (to ≤ length request.now) }
     requires step_lies { StepLies sheet.now step }
     ensures { result ≡ stepped (walking sheet.now) sheet.now request.now from to step }
 {
     match step {
-        Step::NotFound(lack) => Reach::Fails(why_of(lack)),
-        Step::Found(declaration) => {
+        Err(lack) => Reach::Fails(why_of(lack)),
+        Ok(declaration) => {
             let shape = declaration.shape;
             behind(sheet, request, shape, from, to)
         }
@@ -176,7 +168,7 @@ pub fn reach_of(
         (message_of message.now place) from to }
     ensures lies { Led sheet.now request.now from to result }
 {
-    let Parted::Is(part) = part_at(request, from, to) else {
+    let Some(part) = part_at(request, from, to) else {
         return Reach::Nothing;
     };
     let step = step_of(sheet, request, scope, message, place, part);

@@ -22,15 +22,15 @@ pub enum Taken {
 }
 
 // Of a number that nothing declares.
-pub fn take_unknown(payload: Payload) -> Taken
+pub fn take_unknown(payload: Option<Payload>) -> Taken
     requires { PayloadIn most_option_bytes payload }
     ensures { result ≡ unknown_taken payload }
 {
-    let Payload::Whole {
+    let Some(Payload {
         at,
         size,
         number: _,
-    } = payload
+    }) = payload
     else {
         return Taken::Wrong(Refusal::BadBytes);
     };
@@ -45,18 +45,18 @@ pub fn take_unknown(payload: Payload) -> Taken
 
 // Of a number that is declared by this type.
 #[tactic(auto, using(crate::proofs::TakenLaws::known_laws))]
-pub fn take_known(typ: usize, wire: u8, payload: Payload) -> Taken
+pub fn take_known(typ: usize, wire: u8, payload: Option<Payload>) -> Taken
     requires { PayloadIn most_option_bytes payload }
     ensures { result ≡ known_taken typ wire payload }
 {
     if wire_of(typ) != wire {
         return Taken::Wrong(Refusal::WireMismatch);
     }
-    let Payload::Whole {
+    let Some(Payload {
         at,
         size,
         number: said,
-    } = payload
+    }) = payload
     else {
         return Taken::Wrong(Refusal::BadBytes);
     };

@@ -4,7 +4,7 @@
 --                                      says what the fields that are left come to
 --
 -- Assumes nothing.
-use Rattle.std.specs.Prelude.{◌≡◌, refl, List, ℕ, ◌+◌, ◌-◌, ◌≤◌, length}
+use Rattle.std.specs.Prelude.{◌≡◌, refl, List, ℕ, ◌+◌, ◌-◌, ◌≤◌, length, Err, Ok, Result}
 use Rattle.basis.specs.Kit.{sym, ap, ◌∙◌}
 use Rattle.basis.proofs.Kit.{arith}
 use native.Mathlib.Nat.{add-zero}
@@ -15,8 +15,6 @@ use Rattle.reply.specs.declared.Refusal.{Refusal}
 use Rattle.field.specs.Walk.{Walk, walk}
 use Rattle.field.proofs.FieldLaws.{field-reads}
 use Rattle.field.proofs.Rest.{Rest}
-use Rattle.records.specs.declared.Wrote.{Wrote}
-use Rattle.records.specs.declared.Wrote.TheVariants.{Next, Refused}
 use Rattle.records.specs.Records.{Recs, nil, append, encode}
 use Rattle.records.specs.Made.{Made, made, wrong, after, both}
 use Rattle.records.specs.inner.Emits.{bytes_most, wrote_of, Emits, Roomy}
@@ -48,7 +46,7 @@ module _ (v : Made Refusal) (F : Walk → Made Refusal) (s : List ℕ) (from to 
   pub front-after : (m' : List ℕ) → length m' ≡ length m → length m' ≡ length l
   front-after m' e = e ∙ front_length
 
-  pub front-whole : v ≡ after k.front (made nil) → Emits wrote_of v (bytes_most (to - from)) l at m (Next p)
+  pub front-whole : v ≡ after k.front (made nil) → Emits wrote_of v (bytes_most (to - from)) l at m (Ok p)
   front-whole x =
       emits-laid wrote-tells k.front p k.laid (x ∙ ap made (append-nil-right k.front))
       (omega (arith, k.few, k.rest.within)) refl
@@ -61,15 +59,15 @@ module _ (v : Made Refusal) (F : Walk → Made Refusal) (s : List ℕ) (from to 
     pub front_less : n + 3 ≤ to - from
     front_less = omega (arith, k.few)
 
-    module _ (x : Made Refusal) (m' : List ℕ) (y : Wrote) (u : Emits wrote_of x (bytes_most (3 + n)) m p m' y)
+    module _ (x : Made Refusal) (m' : List ℕ) (y : Result ℕ Refusal) (u : Emits wrote_of x (bytes_most (3 + n)) m p m' y)
         (first : v ≡ after k.front (both x (F (walk s e to)))) where
-      pub front-refused : (w : Refusal) → y ≡ Refused w → Emits wrote_of v (bytes_most (to - from)) l at m' y
+      pub front-refused : (w : Refusal) → y ≡ Err w → Emits wrote_of v (bytes_most (to - from)) l at m' y
       front-refused w z =
           let o : v ≡ wrong w =
           first ∙ ap (λ (b : Made Refusal). after k.front (both b (F (walk s e to)))) (emits-refused wrote-tells x w u z) in
           refuses wrote-tells w o z
 
-      pub front-next : (q : ℕ) → y ≡ Next q → Front v F s from to e l m' at q
+      pub front-next : (q : ℕ) → y ≡ Ok q → Front v F s from to e l m' at q
       front-next q z =
           let f = emits-next wrote-tells x q u z in
           let same = encode-append k.front f.recs in

@@ -4,7 +4,7 @@
 --       Aims s g <-> the type path of the field, where the target is one, is a place of the sheet
 --
 -- Assumes nothing.
-use Rattle.std.specs.Prelude.{◌≡◌, refl, Bool, true, false, List, ℕ, zero, suc, ◌+◌, ◌-◌, ◌*◌, ◌≤◌, ◌<◌, eqb, length, Option}
+use Rattle.std.specs.Prelude.{◌≡◌, refl, Bool, true, false, List, ℕ, zero, suc, ◌+◌, ◌-◌, ◌*◌, ◌≤◌, ◌<◌, eqb, length, Option, Err, None, Some, Ok, Result}
 use Rattle.basis.specs.Kit.{sym, ap, ◌∙◌}
 use mathlib.Core.Option as option
 use Rattle.basis.proofs.Kit.{arith, eq-eqb, ne_eqb}
@@ -13,94 +13,84 @@ use mathlib.Core.Path.{subst}
 use Rattle.basis.specs.First.{told}
 use Rattle.reply.specs.declared.Refusal.{Refusal}
 use Rattle.reply.specs.declared.Refusal.TheVariants.{UnknownFieldName}
-use Rattle.field.specs.declared.Field.TheVariants.{Whole}
 use Rattle.field.specs.Leaf.{span, text, Lies}
 use Rattle.field.specs.Walk.{Walk, done, cut, step, walk}
 use Rattle.field.proofs.FieldLaws.{field-bounds}
 use Rattle.field.proofs.Rest.{rest_end}
 use Rattle.sheet.specs.declared.declaration.Declaration.{Declaration}
-use Rattle.sheet.specs.declared.declaration.Declared.{Declared}
-use Rattle.sheet.specs.declared.declaration.Declared.TheVariants.{Declares, NoDeclaration}
 use Rattle.sheet.specs.declared.declaration.Shape.{Shape}
 use Rattle.scope.specs.declared.lookup.LookupScope.{LookupScope}
 use Rattle.scope.specs.inner.Answers.{InSheet, declared}
 use Rattle.request.specs.declared.constant.Constant.{Constant}
 use Rattle.request.specs.declared.constant.Constant.TheVariants.{Bool as BoolOf, Integer, Float as FloatOf, NotANumber}
 use Rattle.request.specs.declared.constant.Constant.TheVariants.{Text, Ident, Message as MessageOf, List as ListOf}
-use Rattle.request.specs.declared.constant.Held.{Held}
-use Rattle.request.specs.declared.constant.Held.TheVariants.{Holds, NoConstant}
 use Rattle.request.specs.Table.{pair_field_tag, pair_extension_tag}
 use Rattle.request.specs.Constant.{constant_of, is_pair_name}
 use Rattle.request.specs.Tree.{PairName, unnamed, by_field, by_extension, by_url, pair_name_of, none, ConstantReader, pairs_in, grown, if_held}
 use Rattle.request.specs.Tree.{constant_in}
 use Rattle.pair.specs.declared.Pair.{Pair}
-use Rattle.pair.specs.declared.Paired.{Paired}
-use Rattle.pair.specs.declared.Paired.TheVariants.{Pairs, NoPair}
 use Rattle.pair.specs.inner.Pair.{pair_at}
 use Rattle.pair.proofs.PairLaws.{Pairless, broken, alone, cut_short, unnamed as misnamed, rest-pairless, rest-pair}
 use Rattle.pair.proofs.PairLaws.{pair-fields, pair-places, pair-constant-inside}
-use Rattle.records.specs.declared.Wrote.{Wrote}
-use Rattle.records.specs.declared.Wrote.TheVariants.{Next, Refused}
 use Rattle.records.specs.Records.{nil}
 use Rattle.records.specs.Made.{Made, made, wrong, after, both}
 use Rattle.records.specs.inner.Emits.{bytes_most, wrote_of, Emits, Roomy}
 use Rattle.records.proofs.EmitsLaws.{wrote-tells, refuses, writes-none}
 use Rattle.lookups.specs.Lookups.{Lookups, field_named}
 use Rattle.lookups.proofs.LookupLaws.{field-named-lies}
-use Rattle.values.specs.declared.Target.{Target}
-use Rattle.values.specs.declared.Target.TheVariants.{On, Passed, Unknown}
 use Rattle.values.specs.Values.{on, within, Asked, field, passed, refused, asked, on_asked, records}
 use Rattle.values.specs.inner.Writers.{held_at, held_target, target_of, value_made, pairs_made, pair_made}
 use Rattle.values.proofs.FrontLaws.{Front, front-start, front_length, front-after, front-whole, front-room, front_less}
 use Rattle.values.proofs.FrontLaws.{front-refused, front-next}
 use Rattle.values.proofs.ValueLaws.{constant-first}
+use Rattle.field.specs.Field.{field}
 
 -- ---- target_of
-module _ (s r : List ℕ) (c : LookupScope) (d : ℕ) (x : Pair) (u : Held)
+module _ (s r : List ℕ) (c : LookupScope) (d : ℕ) (x : Pair) (u : Option Constant)
     (q : u ≡ held_at d r x.tag x.constant.from x.constant.to) where
   target-held : held_target s r c x u ≡ target_of s r c d x
   unfolding target_of
   target-held = ap (held_target s r c x) q
 
-  pub target_none : u ≡ NoConstant → Passed ≡ target_of s r c d x
+  pub target_none : u ≡ None → Ok None ≡ target_of s r c d x
   target_none g = sym (ap (held_target s r c x) g) ∙ target-held
 
-  module _ (k : Constant) (g : u ≡ Holds k) where
+  module _ (k : Constant) (g : u ≡ Some k) where
     target-with : (b : Bool) → eqb x.by pair_field_tag ≡ b
         → elim b [
-          | true ↦ told (Unknown UnknownFieldName) (λ d. On d.shape) (field_named s (text r x.name) c)
-          | false ↦ Passed
+          | true ↦ told (Err UnknownFieldName) (λ d. Ok (Some d.shape)) (field_named s (text r x.name) c)
+          | false ↦ Ok None
         ]
         ≡ target_of s r c d x
     target-with b e = rw (← e) (sym (ap (held_target s r c x) g) ∙ target-held)
 
-    pub target-other : (x.by ≡ pair_field_tag → ⊥) → Passed ≡ target_of s r c d x
+    pub target-other : (x.by ≡ pair_field_tag → ⊥) → Ok None ≡ target_of s r c d x
     target-other o = target-with false (ne_eqb x.by pair_field_tag o)
 
-    module _ (o : x.by ≡ pair_field_tag) (v : Declared) (e : v ≡ declared (field_named s (text r x.name) c)) where
-      pub target-unknown : v ≡ NoDeclaration → Unknown UnknownFieldName ≡ target_of s r c d x
+    module _ (o : x.by ≡ pair_field_tag) (v : Option Declaration) (e : v ≡ declared (field_named s (text r x.name) c)) where
+      pub target-unknown : v ≡ None → Err UnknownFieldName ≡ target_of s r c d x
       target-unknown z = go (field_named s (text r x.name) c) e ∙ target-with true (eq-eqb x.by pair_field_tag o)
         where
           go : (y : Option Declaration) → v ≡ declared y
-              → Unknown UnknownFieldName ≡ told (Unknown UnknownFieldName) (λ (d : Declaration). On d.shape) y
+              → Err UnknownFieldName ≡ told (Err UnknownFieldName) (λ (d : Declaration). Ok (Some d.shape)) y
           go option.none e = refl
           go (option.some f) e = never cc
 
-      pub target_is : (f : Declaration) → v ≡ Declares f → On f.shape ≡ target_of s r c d x
+      pub target_is : (f : Declaration) → v ≡ Some f → Ok (Some f.shape) ≡ target_of s r c d x
       target_is f z = go (field_named s (text r x.name) c) e ∙ target-with true (eq-eqb x.by pair_field_tag o)
         where
           go : (y : Option Declaration) → v ≡ declared y
-              → On f.shape ≡ told (Unknown UnknownFieldName) (λ (d : Declaration). On d.shape) y
+              → Ok (Some f.shape) ≡ told (Err UnknownFieldName) (λ (d : Declaration). Ok (Some d.shape)) y
           go option.none e = never cc
           go (option.some f') e = let y : f ≡ f' = cc in rw y
 
 pub ruleset target-laws = (target_none, target-other, target-unknown, target_is)
 
 -- ---- what a pair comes to, by its target
-abbrev on_target : Target → (Shape → Made Refusal) → Made Refusal
-on_target (On h) f = f h
-on_target Passed f = made nil
-on_target (Unknown w) f = wrong w
+abbrev on_target : Result (Option Shape) Refusal → (Shape → Made Refusal) → Made Refusal
+on_target (Ok (Some h)) f = f h
+on_target (Ok None) f = made nil
+on_target (Err w) f = wrong w
 
 asked-alone : (a : Asked) (f : Shape → Made Refusal) → both (on_asked a f) (made nil) ≡ on_asked a λ h. both (f h) (made nil)
 asked-alone (field h) f = refl
@@ -122,7 +112,7 @@ module _ (L : Lookups) (s r : List ℕ) (c : LookupScope) where
   grown-asked inner n (ListOf p) = asked-alone (asked s r (within c) n) _
 
   asked-target : (x : Pair) (k : Constant) (f : Shape → Made Refusal)
-      → on_asked (asked s r (within c) (pair_name_of x.by x.name)) f ≡ on_target (held_target s r c x (Holds k)) f
+      → on_asked (asked s r (within c) (pair_name_of x.by x.name)) f ≡ on_target (held_target s r c x (Some k)) f
   asked-target x k f = go (eqb x.by pair_field_tag) (eqb x.by pair_extension_tag) (field_named s (text r x.name) c) refl
     where
       go : (b b' : Bool) (o : Option Declaration) → field_named s (text r x.name) c ≡ o
@@ -131,8 +121,8 @@ module _ (L : Lookups) (s r : List ℕ) (c : LookupScope) where
             | false ↦ elim b' [ true ↦ by_extension x.name | false ↦ by_url x.name ]
           ])) f
           ≡ on_target (elim b [
-            | true ↦ told (Unknown UnknownFieldName) (λ d. On d.shape) (field_named s (text r x.name) c)
-            | false ↦ Passed
+            | true ↦ told (Err UnknownFieldName) (λ d. Ok (Some d.shape)) (field_named s (text r x.name) c)
+            | false ↦ Ok None
           ]) f
       go true b' option.none e = rw e
       go true b' (option.some d) e = rw e
@@ -145,11 +135,11 @@ module _ (L : Lookups) (s r : List ℕ) (c : LookupScope) where
     unfolding pair_made target_of held_at value_made
     pair-target = go d
       where
-        held : (d : ℕ) (u : Held)
+        held : (d : ℕ) (u : Option Constant)
             → records L s r (within c) (if_held (constant_in d r) r (pair_name_of x.by x.name) none u)
             ≡ on_target (held_target s r c x u) λ h. records L s r (on h) (if_held (constant_in d r) r unnamed none u)
-        held d NoConstant = refl
-        held d (Holds k) = grown-asked (constant_in d r) (pair_name_of x.by x.name) k ∙ asked-target x k _
+        held d None = refl
+        held d (Some k) = grown-asked (constant_in d r) (pair_name_of x.by x.name) k ∙ asked-target x k _
 
         go : (d : ℕ)
             → records L s r (within c) (constant_in d r (pair_name_of x.by x.name) x.tag x.constant.from x.constant.to none)
@@ -159,44 +149,44 @@ module _ (L : Lookups) (s r : List ℕ) (c : LookupScope) where
         go (suc d) = held d (constant_of r x.tag x.constant.from x.constant.to)
 
     -- ---- put_pair
-    module _ (v : Target) (q : v ≡ target_of s r c d x) where
+    module _ (v : Result (Option Shape) Refusal) (q : v ≡ target_of s r c d x) where
       pair-on : pair_made L s r c d x ≡ on_target v λ h. value_made L s r h d x.tag x.constant.from x.constant.to
       pair-on = pair-target ∙ rw (← q)
 
-      pub pair-passed : v ≡ Passed → (n : ℕ) (l : List ℕ) (at : ℕ) → Emits wrote_of (pair_made L s r c d x) n l at l (Next at)
+      pub pair-passed : v ≡ Ok None → (n : ℕ) (l : List ℕ) (at : ℕ) → Emits wrote_of (pair_made L s r c d x) n l at l (Ok at)
       pair-passed g n l at = writes-none wrote-tells (pair-on ∙ rw g) refl
 
-      pub pair-unknown : (w : Refusal) → v ≡ Unknown w → (n : ℕ) (l : List ℕ) (at : ℕ)
-          → Emits wrote_of (pair_made L s r c d x) n l at l (Refused w)
+      pub pair-unknown : (w : Refusal) → v ≡ Err w → (n : ℕ) (l : List ℕ) (at : ℕ)
+          → Emits wrote_of (pair_made L s r c d x) n l at l (Err w)
       pair-unknown w g n l at = refuses wrote-tells w (pair-on ∙ rw g) refl
 
-      pub pair-value : (h : Shape) → v ≡ On h → (n : ℕ) (l : List ℕ) (at : ℕ) (l' : List ℕ) (y : Wrote)
+      pub pair-value : (h : Shape) → v ≡ Ok (Some h) → (n : ℕ) (l : List ℕ) (at : ℕ) (l' : List ℕ) (y : Result ℕ Refusal)
           → Emits wrote_of (value_made L s r h d x.tag x.constant.from x.constant.to) n l at l' y
           → Emits wrote_of (pair_made L s r c d x) n l at l' y
       pair-value h g n l at l' y u =
           subst (λ (m : Made Refusal). Emits wrote_of m n l at l' y) (sym (pair-on ∙ rw g)) u
 
 -- the field that is named is one of the sheet
-abbrev Aims : List ℕ → Target → Type 0
-Aims s (On h) = Lies h.path s
-Aims s Passed = Unit {0}
-Aims s (Unknown w) = Unit {0}
+abbrev Aims : List ℕ → Result (Option Shape) Refusal → Type 0
+Aims s (Ok (Some h)) = Lies h.path s
+Aims s (Ok None) = Unit {0}
+Aims s (Err w) = Unit {0}
 
 module _ (s r : List ℕ) (c : LookupScope) (l : InSheet s c) (x : Pair) where
-  held-aims : (u : Held) → Aims s (held_target s r c x u)
-  held-aims NoConstant = tt
-  held-aims (Holds k) = go (eqb x.by pair_field_tag) (field_named s (text r x.name) c) refl
+  held-aims : (u : Option Constant) → Aims s (held_target s r c x u)
+  held-aims None = tt
+  held-aims (Some k) = go (eqb x.by pair_field_tag) (field_named s (text r x.name) c) refl
     where
       go : (b : Bool) (o : Option Declaration) → field_named s (text r x.name) c ≡ o
           → Aims s (elim b [
-            | true ↦ told (Unknown UnknownFieldName) (λ d. On d.shape) (field_named s (text r x.name) c)
-            | false ↦ Passed
+            | true ↦ told (Err UnknownFieldName) (λ d. Ok (Some d.shape)) (field_named s (text r x.name) c)
+            | false ↦ Ok None
           ])
       go false o e = tt
       go true option.none e = rw e tt
       go true (option.some f) e = rw e (field-named-lies s c l (text r x.name) f e)
 
-  module _ (d : ℕ) (v : Target) (q : v ≡ target_of s r c d x) (h : Shape) (g : v ≡ On h) where
+  module _ (d : ℕ) (v : Result (Option Shape) Refusal) (q : v ≡ target_of s r c d x) (h : Shape) (g : v ≡ Ok (Some h)) where
     target-lies : Lies h.path s
     unfolding target_of
     target-lies = subst (Aims s) (sym q ∙ g) (held-aims (held_at d r x.tag x.constant.from x.constant.to))
@@ -210,12 +200,12 @@ module _ (s r : List ℕ) (c : LookupScope) (l : InSheet s c) (x : Pair) where
 pub ruleset pair-laws = (pair-passed, pair-unknown, pair-value, target-ordered, target-within)
 
 -- ---- put_pairs
-pair_size : (r : List ℕ) (i to : ℕ) (x : Paired) → x ≡ pair_at r i to → (z : Pair) → x ≡ Pairs z
+pair_size : (r : List ℕ) (i to : ℕ) (x : Option Pair) → x ≡ pair_at r i to → (z : Pair) → x ≡ Some z
     → i + 6 + (z.constant.to - z.constant.from) ≤ z.constant.to
 pair_size r i to x q z g =
     let f = pair-fields r i to x q z g in
-    let a = field-bounds r i to (Whole z.by z.name.from z.name.to) f.name z.by z.name.from z.name.to refl in
-    let b = field-bounds r z.name.to to (Whole z.tag z.constant.from z.constant.to) f.constant z.tag
+    let a = field-bounds r i to (Some (field z.by z.name.from z.name.to)) f.name z.by z.name.from z.name.to refl in
+    let b = field-bounds r z.name.to to (Some (field z.tag z.constant.from z.constant.to)) f.constant z.tag
     z.constant.from z.constant.to refl in
     omega (arith, a.starts, a.ordered, b.starts, b.ordered)
 
@@ -256,19 +246,19 @@ module _ (L : Lookups) (s r : List ℕ) (c : LookupScope) (d from to : ℕ) wher
   pairs_start = front-start (pairs_of L s r c d) r from to
 
   module _ (v : Made Refusal) (i : ℕ) (l m : List ℕ) (at p : ℕ) (k : Front v (pairs_of L s r c d) r from to i l m at p) where
-    pub pairs_end : to ≤ i → Emits wrote_of v (bytes_most (to - from)) l at m (Next p)
+    pub pairs_end : to ≤ i → Emits wrote_of v (bytes_most (to - from)) l at m (Ok p)
     pairs_end j =
         front-whole v (pairs_of L s r c d) r from to i l m at p k
         (rest_end v (λ w. after k.front (pairs_of L s r c d w)) r to i k.rest j)
 
-    module _ (x : Paired) (q : x ≡ pair_at r i to) where
-      pub pairs-none : i < to → x ≡ NoPair → Emits wrote_of v (bytes_most (to - from)) l at m (Next p)
+    module _ (x : Option Pair) (q : x ≡ pair_at r i to) where
+      pub pairs-none : i < to → x ≡ None → Emits wrote_of v (bytes_most (to - from)) l at m (Ok p)
       pairs-none j g =
           front-whole v (pairs_of L s r c d) r from to i l m at p k
           (rest-pairless v (λ w. after k.front (pairs_of L s r c d w)) r to i k.rest x q j g (after k.front (made nil))
           λ w o. ap (after k.front) (pairless-none w o))
 
-      module _ (z : Pair) (g : x ≡ Pairs z) where
+      module _ (z : Pair) (g : x ≡ Some z) where
         pair-header : i + 3 + (z.constant.to - z.constant.from) ≤ z.constant.to
         pair-header = let h = pair_size r i to x q z g in omega arith
 
@@ -283,19 +273,19 @@ module _ (L : Lookups) (s r : List ℕ) (c : LookupScope) (d from to : ℕ) wher
             pair-header (pair-constant-inside r i to x q z g) in
             omega arith
 
-        module _ (m' : List ℕ) (y : Wrote)
+        module _ (m' : List ℕ) (y : Result ℕ Refusal)
             (u : Emits wrote_of (pair_made L s r c d z) (bytes_most (3 + (z.constant.to - z.constant.from))) m p m' y) where
           pairs_first : v ≡ after k.front (both (pair_made L s r c d z) (pairs_of L s r c d (walk r z.constant.to to)))
           pairs_first =
               rest-pair v (λ w. after k.front (pairs_of L s r c d w)) r to i k.rest x q z g
               ∙ ap (after k.front) (pairs-step z (pair-fields r i to x q z g).named (walk r z.constant.to to))
 
-          pub pairs-refused : (w : Refusal) → y ≡ Refused w → Emits wrote_of v (bytes_most (to - from)) l at m' y
+          pub pairs-refused : (w : Refusal) → y ≡ Err w → Emits wrote_of v (bytes_most (to - from)) l at m' y
           pairs-refused =
               front-refused v (pairs_of L s r c d) r from to i l m at p k (z.constant.to - z.constant.from) z.constant.to pair-header
               (pair-constant-inside r i to x q z g) (pair_made L s r c d z) m' y u pairs_first
 
-          pub pairs_next : (n : ℕ) → y ≡ Next n → Front v (pairs_of L s r c d) r from to z.constant.to l m' at n
+          pub pairs_next : (n : ℕ) → y ≡ Ok n → Front v (pairs_of L s r c d) r from to z.constant.to l m' at n
           pairs_next =
               front-next v (pairs_of L s r c d) r from to i l m at p k (z.constant.to - z.constant.from) z.constant.to pair-header
               (pair-constant-inside r i to x q z g) (pair_made L s r c d z) m' y u pairs_first

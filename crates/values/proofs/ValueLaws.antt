@@ -1,6 +1,6 @@
 -- One constant on a field: what it comes to before what follows it, and the ways through `held_at` and `put_value`.
 -- Assumes nothing.
-use Rattle.std.specs.Prelude.{◌≡◌, refl, List, ℕ, zero, suc, ◌+◌, ◌-◌, ◌^◌, ◌≤◌, ◌<◌, length}
+use Rattle.std.specs.Prelude.{◌≡◌, refl, List, ℕ, zero, suc, ◌+◌, ◌-◌, ◌^◌, ◌≤◌, ◌<◌, length, None, Some, Ok, Option, Result}
 use Rattle.basis.specs.Kit.{sym, ap, ◌∙◌}
 use Rattle.basis.proofs.Kit.{arith}
 use Rattle.basis.proofs.Never.{never}
@@ -11,13 +11,9 @@ use Rattle.sheet.specs.declared.declaration.Shape.{Shape}
 use Rattle.request.specs.declared.constant.Constant.{Constant}
 use Rattle.request.specs.declared.constant.Constant.TheVariants.{Bool as BoolOf, Integer, Float as FloatOf, NotANumber}
 use Rattle.request.specs.declared.constant.Constant.TheVariants.{Text, Ident, Message as MessageOf, List as ListOf}
-use Rattle.request.specs.declared.constant.Held.{Held}
-use Rattle.request.specs.declared.constant.Held.TheVariants.{Holds, NoConstant}
 use Rattle.request.specs.Constant.{constant_of}
 use Rattle.request.specs.Tree.{PairName, unnamed, Constants, none, ConstantReader, grown, if_held, constant_in}
 use Rattle.request.proofs.ConstantLaws.{in-text, in-message, in_list, span-place}
-use Rattle.records.specs.declared.Wrote.{Wrote}
-use Rattle.records.specs.declared.Wrote.TheVariants.{Next}
 use Rattle.records.specs.Made.{Made, both}
 use Rattle.records.specs.inner.Emits.{bytes_most, wrote_of, Emits, Roomy}
 use Rattle.records.proofs.MadeLaws.{both-none, after-nil}
@@ -43,10 +39,10 @@ module _ (L : Lookups) (s r : List ℕ) (k : Holder) (n : PairName) (rest : Cons
   one-first inner (MessageOf p) = rw both-none
   one-first inner (ListOf p) = rw both-none
 
-  held_first : (inner : ConstantReader) (x : Held)
+  held_first : (inner : ConstantReader) (x : Option Constant)
       → records L s r k (if_held inner r n rest x) ≡ both (records L s r k (if_held inner r n none x)) (records L s r k rest)
-  held_first inner NoConstant = sym (after-nil _)
-  held_first inner (Holds c) = one-first inner c
+  held_first inner None = sym (after-nil _)
+  held_first inner (Some c) = one-first inner c
 
   pub constant-first : (d t a e : ℕ)
       → records L s r k (constant_in d r n t a e rest) ≡ both (records L s r k (constant_in d r n t a e none)) (records L s r k rest)
@@ -65,13 +61,13 @@ scalar-alone L s r h inner (MessageOf p) k = never cc
 scalar-alone L s r h inner (ListOf p) k = never cc
 
 -- ---- a constant that was read, its payload from a to e
-module _ (r : List ℕ) (t a e : ℕ) (u : Held) (q : u ≡ constant_of r t a e) where
+module _ (r : List ℕ) (t a e : ℕ) (u : Option Constant) (q : u ≡ constant_of r t a e) where
   abbrev Here : Constant → Kind → Type 0
   Here c Scalar = Unit {0}
   Here c Several = c ≡ ListOf (span a e)
   Here c Message = c ≡ MessageOf (span a e)
 
-  kind-here : (c : Constant) → u ≡ Holds c → Here c (kind_of c)
+  kind-here : (c : Constant) → u ≡ Some c → Here c (kind_of c)
   kind-here (BoolOf b) g = tt
   kind-here (Integer m n) g = tt
   kind-here (FloatOf x) g = tt
@@ -81,7 +77,7 @@ module _ (r : List ℕ) (t a e : ℕ) (u : Held) (q : u ≡ constant_of r t a e)
   kind-here (MessageOf p) g = ap MessageOf (span-place r t a e u q (MessageOf p) g p in-message)
   kind-here (ListOf p) g = ap ListOf (span-place r t a e u q (ListOf p) g p in_list)
 
-  scalar-small : (c : Constant) → u ≡ Holds c → most_scalar c ≤ bytes_most (3 + (e - a))
+  scalar-small : (c : Constant) → u ≡ Some c → most_scalar c ≤ bytes_most (3 + (e - a))
   scalar-small (BoolOf b) g = omega arith
   scalar-small (Integer m n) g = omega arith
   scalar-small (FloatOf x) g = omega arith
@@ -93,11 +89,11 @@ module _ (r : List ℕ) (t a e : ℕ) (u : Held) (q : u ≡ constant_of r t a e)
 
 -- ---- held_at
 module _ (r : List ℕ) (d t a e : ℕ) where
-  pub held_none : d ≡ 0 → NoConstant ≡ held_at d r t a e
+  pub held_none : d ≡ 0 → None ≡ held_at d r t a e
   unfolding held_at
   held_none z = rw z
 
-  pub held-some : (d ≡ 0 → ⊥) → (u : Held) → u ≡ constant_of r t a e → u ≡ held_at d r t a e
+  pub held-some : (d ≡ 0 → ⊥) → (u : Option Constant) → u ≡ constant_of r t a e → u ≡ held_at d r t a e
   unfolding held_at
   held-some z u q = go d z
     where
@@ -108,7 +104,7 @@ module _ (r : List ℕ) (d t a e : ℕ) where
 pub ruleset held-laws = (held_none, held-some)
 
 -- what is held was read, with a level less left
-module _ (r : List ℕ) (d t a e : ℕ) (u : Held) (q : u ≡ held_at d r t a e) (c : Constant) (g : u ≡ Holds c) where
+module _ (r : List ℕ) (d t a e : ℕ) (u : Option Constant) (q : u ≡ held_at d r t a e) (c : Constant) (g : u ≡ Some c) where
   pub held-level : 1 ≤ d
   unfolding held_at
   held-level = go d q
@@ -129,7 +125,7 @@ module _ (r : List ℕ) (d t a e : ℕ) (u : Held) (q : u ≡ held_at d r t a e)
   held-inside j k = read-inside r t a e j k u held-read c g
 
 -- ---- put_value
-module _ (L : Lookups) (s r : List ℕ) (h : Shape) (d t a e : ℕ) (u : Held) (q : u ≡ held_at d r t a e) where
+module _ (L : Lookups) (s r : List ℕ) (h : Shape) (d t a e : ℕ) (u : Option Constant) (q : u ≡ held_at d r t a e) where
   value-held : value_made L s r h d t a e ≡ records L s r (on h) (if_held (constant_in (d - 1) r) r unnamed none u)
   unfolding value_made held_at
   value-held = go d q
@@ -140,14 +136,14 @@ module _ (L : Lookups) (s r : List ℕ) (h : Shape) (d t a e : ℕ) (u : Held) (
       go zero q = rw q
       go (suc d) q = let p : suc d - 1 ≡ d = omega arith in rw (p, q)
 
-  pub value_none : u ≡ NoConstant → (k at : ℕ) (l : List ℕ) → Emits wrote_of (value_made L s r h d t a e) k l at l (Next at)
+  pub value_none : u ≡ None → (k at : ℕ) (l : List ℕ) → Emits wrote_of (value_made L s r h d t a e) k l at l (Ok at)
   value_none g k at l = writes-none wrote-tells (value-held ∙ rw g) refl
 
-  module _ (c : Constant) (g : u ≡ Holds c) where
+  module _ (c : Constant) (g : u ≡ Some c) where
     value-grown : value_made L s r h d t a e ≡ records L s r (on h) (grown (constant_in (d - 1) r) r unnamed none c)
     value-grown = value-held ∙ rw g
 
-    module _ (x : Kind) (o : x ≡ kind_of c) (at : ℕ) (l l' : List ℕ) (y : Wrote) where
+    module _ (x : Kind) (o : x ≡ kind_of c) (at : ℕ) (l l' : List ℕ) (y : Result ℕ Refusal) where
       -- where it comes to m, and m to no more bytes
       value_as : (m : Made Refusal) → value_made L s r h d t a e ≡ m → (k : ℕ) → Emits wrote_of m k l at l' y → k ≤ bytes_most (3 + (e - a))
           → Emits wrote_of (value_made L s r h d t a e) (bytes_most (3 + (e - a))) l at l' y

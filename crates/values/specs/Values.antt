@@ -10,7 +10,7 @@
 --    records L s r k cs == the records of the constants cs, held by k
 --
 -- Assumes nothing.
-use Rattle.std.specs.Prelude.{true, false, List, ℕ, eqb}
+use Rattle.std.specs.Prelude.{true, false, List, ℕ, eqb, Err, Ok, Result}
 use Rattle.basis.specs.First.{told}
 use Rattle.reply.specs.declared.Refusal.{Refusal}
 use Rattle.reply.specs.declared.Refusal.TheVariants.{UnknownFieldName, UnknownEnumValue, MessageFieldRequiresMessageConstant}
@@ -18,20 +18,17 @@ use Rattle.field.specs.Leaf.{text}
 use Rattle.types.specs.Types.{TYPE_MESSAGE}
 use Rattle.sheet.specs.declared.declaration.Shape.{Shape}
 use Rattle.scope.specs.declared.lookup.LookupScope.{LookupScope}
-use Rattle.fullname.specs.declared.LookedUp.{LookedUp}
-use Rattle.fullname.specs.declared.LookedUp.TheVariants.{Message as Is, NoMessage}
 use Rattle.request.specs.declared.constant.Constant.{Constant}
 use Rattle.request.specs.Tree.{PairName, unnamed, by_field, by_extension, by_url, Constants, none, scalar, message, list}
 use Rattle.records.specs.Records.{nil, record_of}
 use Rattle.records.specs.Made.{Made, made, wrong, both, holding}
 use Rattle.lookups.specs.Lookups.{Lookups, field_named}
-use Rattle.scalars.specs.declared.Scalar.{Scalar}
-use Rattle.scalars.specs.declared.Scalar.TheVariants.{Fits, Misfit}
 use Rattle.scalars.specs.Scalars.{scalar_on}
+use Rattle.records.specs.declared.Body.{Body}
 
-abbrev pub made_of : (request : List ℕ) → Shape → Scalar → Made Refusal
-made_of r h (Fits b) = made (record_of r h b)
-made_of r h (Misfit w) = wrong w
+abbrev pub made_of : (request : List ℕ) → Shape → Result Body Refusal → Made Refusal
+made_of r h (Ok b) = made (record_of r h b)
+made_of r h (Err w) = wrong w
 
 -- "A list, in a list too, gives one record an element, never packed." [VALUE-13]
 pub data Holder : Type 0 where
@@ -56,9 +53,9 @@ on_asked (field h) f = f h
 on_asked passed f = made nil
 on_asked (refused w) f = wrong w
 
-abbrev pub reached : (field : ℕ) → LookedUp → (LookupScope → Made Refusal) → Made Refusal
-reached n (NoMessage w) f = wrong w
-reached n (Is p) f = holding n (f p)
+abbrev pub reached : (field : ℕ) → Result LookupScope Refusal → (LookupScope → Made Refusal) → Made Refusal
+reached n (Err w) f = wrong w
+reached n (Ok p) f = holding n (f p)
 
 module _ (L : Lookups) (s : List ℕ) where
   -- "A message constant needs a message type, else 11."; "A type path is looked up only for .. a message constant on a message" [VALUE-8,

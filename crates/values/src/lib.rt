@@ -13,15 +13,14 @@ ghost use Rattle.values.specs.inner.Writers.{most_scalar, kind_of, held_at, targ
 ghost use Rattle.values.specs.inner.Writers.{message_made};
 
 use field::Field;
-use fullname::LookedUp;
-use pair::{Pair, Paired, pair_at};
-use records::{Wrote, enclose, put_record, shortest_head};
+use pair::{Pair, pair_at};
+use records::{enclose, put_record, shortest_head};
 use reply::Refusal;
-use request::constant::{Constant, Held};
+use request::constant::Constant;
 use request::table;
 use scalars::{Scalar, scalar_on};
 use scope::lookup::LookupScope;
-use sheet::declaration::{Declared, Shape};
+use sheet::declaration::Shape;
 use types::TYPE_MESSAGE;
 
 // What a constant is.
@@ -48,12 +47,12 @@ fn kind_of(c: Constant) -> Kind
 }
 
 // The constant of a field, where a level is left for it.
-fn held_at(request: &[u8], left: usize, tag: u8, from: usize, to: usize) -> Held
+fn held_at(request: &[u8], left: usize, tag: u8, from: usize, to: usize) -> Option<Constant>
     requires { (from ≤ to) × (to ≤ length request.now) }
     ensures { result ≡ held_at left request.now tag from to }
 {
     if left == 0 {
-        return Held::NoConstant;
+        return None;
     }
     request::constant::constant_of(request, tag, from, to)
 }
@@ -66,7 +65,7 @@ fn put_scalar(
     constant: Constant,
     out: &mut [u8],
     at: usize,
-) -> Wrote
+) -> Result<usize, Refusal>
     requires inside { Inside constant request.now }
     requires lies { Lies shape.path sheet.now }
     requires request_bound { at + length request.now < 2 ^ 62 }
@@ -74,8 +73,8 @@ fn put_scalar(
         (most_scalar constant) out.old at out.new result }
 {
     match scalar_on(sheet, request, Refusal::UnknownEnumValue, shape, constant) {
-        Scalar::Misfit(why) => Wrote::Refused(why),
-        Scalar::Fits(body) => Wrote::Next(put_record(request, shape, body, out, at)),
+        Err(why) => Err(why),
+        Ok(body) => Ok(put_record(request, shape, body, out, at)),
     }
 }
 
@@ -90,7 +89,7 @@ fn put_message(
     left: usize,
     out: &mut [u8],
     at: usize,
-) -> Wrote
+) -> Result<usize, Refusal>
     requires from_le_to { (from ≤ to) × (to ≤ length request.now) }
     requires lies { Lies shape.path sheet.now }
     requires roomy { Roomy at (3 + (to - from)) request.now }
@@ -99,11 +98,11 @@ fn put_message(
         (bytes_most (3 + (to - from))) out.old at out.new result }
 {
     if octets::wide(shape.typ) != TYPE_MESSAGE {
-        return Wrote::Refused(Refusal::MessageFieldRequiresMessageConstant);
+        return Err(Refusal::MessageFieldRequiresMessageConstant);
     }
     match lookups::message_at(sheet, shape.path) {
-        LookedUp::NoMessage(why) => Wrote::Refused(why),
-        LookedUp::Message(scope) => {
+        Err(why) => Err(why),
+        Ok(scope) => {
             put_inside(sheet, request, shape.number, scope, from, to, left, out, at)
         }
     }
@@ -121,7 +120,7 @@ fn put_inside(
     left: usize,
     out: &mut [u8],
     at: usize,
-) -> Wrote
+) -> Result<usize, Refusal>
     requires from_le_to { (from ≤ to) × (to ≤ length request.now) }
     requires in_sheet { InSheet sheet.now scope }
     requires roomy { Roomy at (3 + (to - from)) request.now }
@@ -131,10 +130,10 @@ fn put_inside(
 {
     let start = at + shortest_head(number);
     let r = put_pairs(sheet, request, scope, from, to, left, out, start);
-    let Wrote::Next(end) = r else {
+    let Ok(end) = r else {
         return r;
     };
-    Wrote::Next(enclose(out, at, number, end - start))
+    Ok(enclose(out, at, number, end - start))
 }
 
 // The pairs of a message.
@@ -148,7 +147,7 @@ fn put_pairs(
     left: usize,
     out: &mut [u8],
     at: usize,
-) -> Wrote
+) -> Result<usize, Refusal>
     requires from_le_to { (from ≤ to) × (to ≤ length request.now) }
     requires in_sheet { InSheet sheet.now scope }
     requires roomy { Roomy at (to - from) request.now }
@@ -158,53 +157,45 @@ fn put_pairs(
     let mut p = at;
     let mut i = from;
     while i < to {
-        let Paired::Pairs(pair) = pair_at(request, i, to) else {
-            return Wrote::Next(p);
+        let Some(pair) = pair_at(request, i, to) else {
+            return Ok(p);
         };
         let r = put_pair(sheet, request, scope, pair, left, out, p);
-        let Wrote::Next(q) = r else {
+        let Ok(q) = r else {
             return r;
         };
         p = q;
         i = pair.constant.to;
     }
-    Wrote::Next(p)
-}
-
-// What a pair's constant is written on.
-#[derive(Clone, Copy)]
-pub enum Target {
-    On(Shape),
-    Passed,
-    Unknown(Refusal),
+    Ok(p)
 }
 
 // The field that a pair names, where it has a constant.
-fn target_of(sheet: &[u8], request: &[u8], scope: LookupScope, pair: Pair, left: usize) -> Target
+fn target_of(sheet: &[u8], request: &[u8], scope: LookupScope, pair: Pair, left: usize) -> Result<Option<Shape>, Refusal>
     requires lies { Lies pair.name request.now }
     requires lies_2 { Lies pair.constant request.now }
     requires in_sheet { InSheet sheet.now scope }
     ensures { result ≡ target_of sheet.now request.now scope left pair }
 {
-    let Held::Holds(_) = held_at(
+    let Some(_) = held_at(
         request,
         left,
         pair.tag,
         pair.constant.from,
         pair.constant.to,
     ) else {
-        return Target::Passed;
+        return Ok(None);
     };
     if pair.by != table::PAIR_FIELD {
-        return Target::Passed;
+        return Ok(None);
     }
     let a = pair.name.from;
     let e = pair.name.to;
-    let Declared::Declares(d) = lookups::field_named(sheet, scope, &request[a..e]) else {
-        return Target::Unknown(Refusal::UnknownFieldName);
+    let Some(d) = lookups::field_named(sheet, scope, &request[a..e]) else {
+        return Err(Refusal::UnknownFieldName);
     };
     let shape = d.shape;
-    Target::On(shape)
+    Ok(Some(shape))
 }
 
 // One pair: a field by its name; a name of another kind writes nothing.
@@ -217,7 +208,7 @@ fn put_pair(
     left: usize,
     out: &mut [u8],
     at: usize,
-) -> Wrote
+) -> Result<usize, Refusal>
     requires lies { Lies pair.name request.now }
     requires lies_2 { Lies pair.constant request.now }
     requires in_sheet { InSheet sheet.now scope }
@@ -226,7 +217,7 @@ fn put_pair(
         (bytes_most (3 + (pair.constant.to - pair.constant.from))) out.old at out.new result }
 {
     match target_of(sheet, request, scope, pair, left) {
-        Target::On(shape) => put_value(
+        Ok(Some(shape)) => put_value(
             sheet,
             request,
             shape,
@@ -237,8 +228,8 @@ fn put_pair(
             out,
             at,
         ),
-        Target::Passed => Wrote::Next(at),
-        Target::Unknown(why) => Wrote::Refused(why),
+        Ok(None) => Ok(at),
+        Err(why) => Err(why),
     }
 }
 
@@ -254,7 +245,7 @@ pub fn put_value(
     left: usize,
     out: &mut [u8],
     at: usize,
-) -> Wrote
+) -> Result<usize, Refusal>
     requires from_le_to { (from ≤ to) × (to ≤ length request.now) }
     requires lies { Lies shape.path sheet.now }
     requires roomy { Roomy at (3 + (to - from)) request.now }
@@ -262,8 +253,8 @@ pub fn put_value(
         (value_made (walking sheet.now) sheet.now request.now shape left tag from to)
         (bytes_most (3 + (to - from))) out.old at out.new result }
 {
-    let Held::Holds(c) = held_at(request, left, tag, from, to) else {
-        return Wrote::Next(at);
+    let Some(c) = held_at(request, left, tag, from, to) else {
+        return Ok(at);
     };
     match kind_of(c) {
         Kind::Scalar => put_scalar(sheet, request, shape, c, out, at),
@@ -283,7 +274,7 @@ fn put_list(
     left: usize,
     out: &mut [u8],
     at: usize,
-) -> Wrote
+) -> Result<usize, Refusal>
     requires from_le_to { (from ≤ to) × (to ≤ length request.now) }
     requires lies { Lies shape.path sheet.now }
     requires roomy { Roomy at (to - from) request.now }
@@ -293,20 +284,20 @@ fn put_list(
     let mut p = at;
     let mut i = from;
     while i < to {
-        let Field::Whole {
+        let Some(Field {
             tag,
             from: a,
             to: e,
-        } = field::field_at(request, i, to)
+        }) = field::field_at(request, i, to)
         else {
-            return Wrote::Next(p);
+            return Ok(p);
         };
         let r = put_value(sheet, request, shape, tag, a, e, left, out, p);
-        let Wrote::Next(q) = r else {
+        let Ok(q) = r else {
             return r;
         };
         p = q;
         i = e;
     }
-    Wrote::Next(p)
+    Ok(p)
 }

@@ -1,8 +1,7 @@
 -- Closed cases of specs/: of each rule one that holds, one at the limit and one refused just past it.
 -- Assumes nothing.
-use Rattle.std.specs.Prelude.{◌≡◌, refl, List, [], ◌∷◌, ℕ, ◌-◌, ◌^◌, length}
-use Rattle.varint.specs.declared.Read.TheVariants.{Varint, Bad}
-use Rattle.varint.specs.Varint.{varint_within, varint, read_within, read_varint, at_place, varint_at}
+use Rattle.std.specs.Prelude.{◌≡◌, refl, List, [], ◌∷◌, ℕ, ◌-◌, ◌^◌, length, Some, None}
+use Rattle.varint.specs.Varint.{varint_within, varint, read_within, read_varint, at_place, varint_at, read}
 
 -- a byte nine times over
 abbrev nine : ℕ → List ℕ → List ℕ
@@ -30,33 +29,33 @@ varint-lengths-high : (length (varint (2 ^ 63 - 1)) ≡ 9) × (length (varint (2
 unfolding varint varint_within
 varint-lengths-high = (refl, refl, refl)
 
-read-front : read_varint (0x96 ∷ 0x01 ∷ 0xff ∷ []) ≡ Varint 150 2
+read-front : read_varint (0x96 ∷ 0x01 ∷ 0xff ∷ []) ≡ Some (read 150 2)
 unfolding read_varint read_within
 read-front = refl
 
 -- overlong, also where ten bytes are zero
-read-overlong : (read_varint (0x80 ∷ 0x00 ∷ []) ≡ Varint 0 2) × (read_varint (nine 0x80 (0x00 ∷ [])) ≡ Varint 0 10)
+read-overlong : (read_varint (0x80 ∷ 0x00 ∷ []) ≡ Some (read 0 2)) × (read_varint (nine 0x80 (0x00 ∷ [])) ≡ Some (read 0 10))
 unfolding read_varint read_within
 read-overlong = (refl, refl)
 
 -- ten bytes, of which the last holds one bit
-read-tenth : (read_varint (nine 0xff (0x01 ∷ [])) ≡ Varint (2 ^ 64 - 1) 10) × (read_varint (nine 0xff (0x02 ∷ [])) ≡ Bad)
+read-tenth : (read_varint (nine 0xff (0x01 ∷ [])) ≡ Some (read (2 ^ 64 - 1) 10)) × (read_varint (nine 0xff (0x02 ∷ [])) ≡ None)
 unfolding read_varint read_within
 read-tenth = (refl, refl)
 
 -- eleven bytes
-read-eleventh : (read_varint (nine 0x80 (0x80 ∷ 0x00 ∷ [])) ≡ Bad) × (read_varint (nine 0x80 (0x81 ∷ 0x00 ∷ [])) ≡ Bad)
+read-eleventh : (read_varint (nine 0x80 (0x80 ∷ 0x00 ∷ [])) ≡ None) × (read_varint (nine 0x80 (0x81 ∷ 0x00 ∷ [])) ≡ None)
 unfolding read_varint read_within
 read-eleventh = (refl, refl)
 
-read-cut : (read_varint (0x80 ∷ []) ≡ Bad) × (read_varint (nine 0x80 []) ≡ Bad) × (read_varint [] ≡ Bad)
+read-cut : (read_varint (0x80 ∷ []) ≡ None) × (read_varint (nine 0x80 []) ≡ None) × (read_varint [] ≡ None)
 unfolding read_varint read_within
 read-cut = (refl, refl, refl)
 
-placed-next : (at_place 7 (Varint 150 2) ≡ Varint 150 9) × (at_place 7 Bad ≡ Bad)
+placed-next : (at_place 7 (Some (read 150 2)) ≡ Some (read 150 9)) × (at_place 7 None ≡ None)
 placed-next = (refl, refl)
 
 -- between two places: up to the second, and cut by it
-at-between : (varint_at (0x01 ∷ 0x96 ∷ 0x01 ∷ 0x02 ∷ []) 1 3 ≡ Varint 150 3) × (varint_at (0x01 ∷ 0x96 ∷ 0x01 ∷ 0x02 ∷ []) 1 2 ≡ Bad)
+at-between : (varint_at (0x01 ∷ 0x96 ∷ 0x01 ∷ 0x02 ∷ []) 1 3 ≡ Some (read 150 3)) × (varint_at (0x01 ∷ 0x96 ∷ 0x01 ∷ 0x02 ∷ []) 1 2 ≡ None)
 unfolding varint_at read_varint read_within
 at-between = (refl, refl)

@@ -1,6 +1,6 @@
 -- Varints: what was written is read back, the written form is the shortest that reads as its value, and what is read has its bounds.
 -- Assumes nothing.
-use Rattle.std.specs.Prelude.{◌≡◌, refl, List, [], ◌∷◌, ◌++◌, ℕ, zero, suc, ◌+◌, ◌-◌, ◌*◌, ◌/◌, ◌%◌, ◌^◌, ◌≤◌, ◌<◌, length, drop}
+use Rattle.std.specs.Prelude.{◌≡◌, refl, List, [], ◌∷◌, ◌++◌, ℕ, zero, suc, ◌+◌, ◌-◌, ◌*◌, ◌/◌, ◌%◌, ◌^◌, ◌≤◌, ◌<◌, length, drop, None, Some, Option}
 use Rattle.basis.specs.Kit.{sym, ◌∙◌}
 use Rattle.basis.proofs.Kit.{arith, lt-ltb, le-ltb}
 use mathlib.Core.Path.{subst}
@@ -9,10 +9,9 @@ use native.Mathlib.Decide.{dec_lt}
 use lib.ListN.{length-take}
 use Rattle.limits.specs.Figures.{most_varint}
 use Rattle.octets.specs.Octets.{part}
-use Rattle.varint.specs.declared.Read.{Read}
-use Rattle.varint.specs.declared.Read.TheVariants.{Varint, Bad}
-use Rattle.varint.specs.Varint.{varint_within, varint, continued, read_within, read_varint, at_place, varint_at}
+use Rattle.varint.specs.Varint.{varint_within, varint, continued, read_within, read_varint, at_place, varint_at, read}
 use Rattle.octets.proofs.Bytes.{Bytes, bytes_one, bytes-cons}
+use Rattle.varint.specs.declared.Read.{Read}
 
 -- ---- the definitions as equations
 
@@ -26,15 +25,15 @@ unfolding varint_within
 within_more k v h = rw (varint_within, le-ltb v 128 h)
 
 module _ (b : ℕ) (bs : List ℕ) where
-  pub read-last : b < 2 → read_within zero (b ∷ bs) ≡ Varint b 1
+  pub read-last : b < 2 → read_within zero (b ∷ bs) ≡ Some (read b 1)
   unfolding read_within
   read-last h = rw (read_within, lt-ltb b 2 h)
 
-  pub read-over : 2 ≤ b → read_within zero (b ∷ bs) ≡ Bad
+  pub read-over : 2 ≤ b → read_within zero (b ∷ bs) ≡ None
   unfolding read_within
   read-over h = rw (read_within, le-ltb b 2 h)
 
-  pub read_one : (k : ℕ) → b < 128 → read_within (suc k) (b ∷ bs) ≡ Varint b 1
+  pub read_one : (k : ℕ) → b < 128 → read_within (suc k) (b ∷ bs) ≡ Some (read b 1)
   unfolding read_within
   read_one k h = rw (read_within, lt-ltb b 128 h)
 
@@ -116,7 +115,7 @@ pub data Reads : ℕ → List ℕ → ℕ → ℕ → Type 0 where
   one : {k b : ℕ} {bs : List ℕ} → b < 128 → Reads (suc k) (b ∷ bs) b 1
   more : {k b v w n : ℕ} {bs : List ℕ} → 128 ≤ b → Reads k bs w n → b % 128 + 128 * w ≡ v → Reads (suc k) (b ∷ bs) v (suc n)
 
-reads-within : {k v n : ℕ} {bs : List ℕ} → Reads k bs v n → read_within k bs ≡ Varint v n
+reads-within : {k v n : ℕ} {bs : List ℕ} → Reads k bs v n → read_within k bs ≡ Some (read v n)
 reads-within (last {b} {bs} h) = read-last b bs h
 reads-within (one {k} {b} {bs} h) = read_one b bs k h
 reads-within (more {k} {b} {v} {w} {n} {bs} h r e) = read_more b bs k h ∙ rw (reads-within r, e)
@@ -128,18 +127,18 @@ shortest-reads rest (one h) = one h
 shortest-reads rest (more {k} {v} h r) = more {b = 128 + v % 128} {v = v} (omega arith) (shortest-reads rest r) (omega arith)
 
 -- whatever follows
-pub read-varint : (v : ℕ) (bs : List ℕ) → v < 2 ^ 64 → read_varint (varint v ++ bs) ≡ Varint v (length (varint v))
+pub read-varint : (v : ℕ) (bs : List ℕ) → v < 2 ^ 64 → read_varint (varint v ++ bs) ≡ Some (read v (length (varint v)))
 unfolding read_varint
 read-varint v bs h = reads-within (shortest-reads bs (varint-shortened v h))
 
 -- and back: what is read is read so
-abbrev Unless-bad : ℕ → List ℕ → Read → Type 0
-Unless-bad k bs (Varint v n) = Reads k bs v n
-Unless-bad k bs Bad = Unit {0}
+abbrev Unless-bad : ℕ → List ℕ → Option Read → Type 0
+Unless-bad k bs (Some it) = Reads k bs it.value it.next
+Unless-bad k bs None = Unit {0}
 
-onto-reads : (k b : ℕ) (bs : List ℕ) → 128 ≤ b → (r : Read) → Unless-bad k bs r → Unless-bad (suc k) (b ∷ bs) (continued b r)
-onto-reads k b bs h (Varint v n) r = more h r refl
-onto-reads k b bs h Bad r = tt
+onto-reads : (k b : ℕ) (bs : List ℕ) → 128 ≤ b → (r : Option Read) → Unless-bad k bs r → Unless-bad (suc k) (b ∷ bs) (continued b r)
+onto-reads k b bs h (Some it1) r = more h r refl
+onto-reads k b bs h None r = tt
 
 within-reads : (k : ℕ) (bs : List ℕ) → Unless-bad k bs (read_within k bs)
 unfolding read_within
@@ -183,25 +182,25 @@ reads-shortest (more {k} {b} {v} {w} h r e) = elim (dec_lt v 128) [
   | no g ↦ let q : v / 128 ≡ w = omega arith in rw (within_more k v (omega arith), q) (omega (arith, reads-shortest r))
 ]
 
-module _ (bs : List ℕ) (v n : ℕ) (e : read_varint bs ≡ Varint v n) where
-  varint-reads : Reads (most_varint - 1) bs v n
+module _ (bs : List ℕ) (x : Read) (e : read_varint bs ≡ Some x) where
+  varint-reads : Reads (most_varint - 1) bs x.value x.next
   unfolding read_varint
   varint-reads = rw e at (within-reads (most_varint - 1) bs)
 
-  pub read_small : v < 2 ^ 64
+  pub read_small : x.value < 2 ^ 64
   read_small = reads-small varint-reads
 
-  pub read_some : 1 ≤ n
+  pub read_some : 1 ≤ x.next
   read_some = reads-some varint-reads
 
-  pub read-few : n ≤ most_varint
+  pub read-few : x.next ≤ most_varint
   read-few = reads-few varint-reads
 
-  pub read-inside : n ≤ length bs
+  pub read-inside : x.next ≤ length bs
   read-inside = reads-inside varint-reads
 
   -- the written form is the shortest of all that read as v
-  pub varint-shortest : length (varint v) ≤ n
+  pub varint-shortest : length (varint x.value) ≤ x.next
   unfolding varint
   varint-shortest = reads-shortest varint-reads
 
@@ -211,32 +210,32 @@ record Bounds (at end v next : ℕ) : Type 0 where
   pub inside : next ≤ end
   pub small : v < 2 ^ 64
 
-abbrev Bounded : ℕ → ℕ → Read → Type 0
-Bounded at end (Varint v next) = Bounds at end v next
-Bounded at end Bad = Unit {0}
+abbrev Bounded : ℕ → ℕ → Option Read → Type 0
+Bounded at end (Some it1) = Bounds at end it1.value it1.next
+Bounded at end None = Unit {0}
 
 part-length-le : (s : List ℕ) (at end : ℕ) → length (part s at end) ≤ end - at
 part-length-le s at end = rw (length-take (end - at) (drop at s)) (min-le_left (end - at) (length (drop at s)))
 
-placed-bounded : (s : List ℕ) (at end : ℕ) (r : Read) → read_varint (part s at end) ≡ r → Bounded at end (at_place at r)
-placed-bounded s at end (Varint v n) e =
-    let some = read_some (part s at end) v n e in
-    let few : n ≤ end - at = le_trans (read-inside (part s at end) v n e) (part-length-le s at end) in
-    record { after = omega arith; inside = omega arith; small = read_small (part s at end) v n e }
-placed-bounded s at end Bad e = tt
+placed-bounded : (s : List ℕ) (at end : ℕ) (r : Option Read) → read_varint (part s at end) ≡ r → Bounded at end (at_place at r)
+placed-bounded s at end (Some it1) e =
+    let some = read_some (part s at end) it1.value it1.next e in
+    let few : it1.next ≤ end - at = le_trans (read-inside (part s at end) it1.value it1.next e) (part-length-le s at end) in
+    record { after = omega arith; inside = omega arith; small = read_small (part s at end) it1.value it1.next e }
+placed-bounded s at end None e = tt
 
-module _ (s : List ℕ) (at end : ℕ) (r : Read) (p : r ≡ varint_at s at end) (v next : ℕ) (q : r ≡ Varint v next) where
-  bounds : Bounds at end v next
+module _ (s : List ℕ) (at end : ℕ) (r : Option Read) (p : r ≡ varint_at s at end) (x : Read) (q : r ≡ Some x) where
+  bounds : Bounds at end x.value x.next
   unfolding varint_at
   bounds = subst (Bounded at end) (sym p ∙ q) (placed-bounded s at end (read_varint (part s at end)) refl)
 
-  pub varint-after : at < next
+  pub varint-after : at < x.next
   varint-after = bounds.after
 
-  pub varint-inside : next ≤ end
+  pub varint-inside : x.next ≤ end
   varint-inside = bounds.inside
 
-  pub varint-value : v < 2 ^ 64
+  pub varint-value : x.value < 2 ^ 64
   varint-value = bounds.small
 
 pub ruleset varint-bounds = (varint-after, varint-inside, varint-value)

@@ -1,6 +1,6 @@
 -- The loop of `varint_at`: what is known at its head, and its laws.
 -- Assumes nothing.
-use Rattle.std.specs.Prelude.{◌≡◌, refl, List, ◌∷◌, ℕ, zero, suc, ◌+◌, ◌-◌, ◌*◌, ◌%◌, ◌^◌, ◌≤◌, ◌<◌, length, get_or}
+use Rattle.std.specs.Prelude.{◌≡◌, refl, List, ◌∷◌, ℕ, zero, suc, ◌+◌, ◌-◌, ◌*◌, ◌%◌, ◌^◌, ◌≤◌, ◌<◌, length, get_or, None, Some, Option}
 use Rattle.basis.specs.Kit.{ap, ◌∙◌}
 use Rattle.basis.proofs.Kit.{arith, add-one, w64, Fits}
 use mathlib.Core.Path.{ap₂}
@@ -9,28 +9,27 @@ use native.Mathlib.Numerals.{sub-one}
 use lib.Arith.{digits_lt}
 use Rattle.limits.specs.Figures.{most_varint}
 use Rattle.octets.specs.Octets.{part}
-use Rattle.varint.specs.declared.Read.{Read}
-use Rattle.varint.specs.declared.Read.TheVariants.{Varint, Bad}
-use Rattle.varint.specs.Varint.{continued, read_within, read_varint, varint_at}
+use Rattle.varint.specs.Varint.{continued, read_within, read_varint, varint_at, read}
 use Rattle.octets.proofs.Parts.{part-nil, part-cons}
 use Rattle.varint.proofs.VarintLaws.{read-last, read-over, read_one, read_more}
+use Rattle.varint.specs.declared.Read.{Read}
 
 -- ---- what was read of a varint, and what is read of its rest: k bytes of the value, and the scale of the next
-abbrev pub carried : ℕ → ℕ → ℕ → Read → Read
-carried value scale k (Varint v n) = Varint (value + scale * v) (k + n)
-carried value scale k Bad = Bad
+abbrev pub carried : ℕ → ℕ → ℕ → Option Read → Option Read
+carried value scale k (Some it) = Some (read (value + scale * it.value) (k + it.next))
+carried value scale k None = None
 
-carried-start : (r : Read) → r ≡ carried 0 1 0 r
-carried-start (Varint v n) = ap₂ Varint (omega arith) (omega arith)
-carried-start Bad = refl
+carried-start : (r : Option Read) → r ≡ carried 0 1 0 r
+carried-start (Some it1) = ap₂ Some (read (omega arith) (omega arith))
+carried-start None = refl
 
-carried-onto : (value scale k b : ℕ) (r : Read)
+carried-onto : (value scale k b : ℕ) (r : Option Read)
     → carried value scale k (continued b r) ≡ carried (value + b % 128 * scale) (scale * 128) (k + 1) r
-carried-onto value scale k b (Varint v n) = ap₂ Varint (tidy (b % 128)) (omega arith)
+carried-onto value scale k b (Some it1) = ap₂ Some (read (tidy (b % 128)) (omega arith))
   where
-    tidy : (c : ℕ) → value + scale * (c + 128 * v) ≡ value + c * scale + scale * 128 * v
+    tidy : (c : ℕ) → value + scale * (c + 128 * it1.value) ≡ value + c * scale + scale * 128 * it1.value
     tidy c = rw (mul-add, mul_assoc, mul_comm c scale) (omega arith)
-carried-onto value scale k b Bad = refl
+carried-onto value scale k b None = refl
 
 -- ---- the loop: the scale leaves room for the bytes that may follow, so that no sum wraps
 pub record Scaled (value scale more : ℕ) : Type 0 where
@@ -100,7 +99,7 @@ module _ (value scale more : ℕ) (k : Scaled value scale more) where
         record { room = scale-next scale more k.room n; small = omega arith }
 
 module _ (s : List ℕ) (at end value scale more i : ℕ) (k : Reading s at end value scale more i) where
-  pub reading-end : end ≤ i → Bad ≡ varint_at s at end
+  pub reading-end : end ≤ i → None ≡ varint_at s at end
   unfolding varint_at read_within
   reading-end h = rw (k.rest, part-nil s i end h)
 
@@ -108,14 +107,14 @@ module _ (s : List ℕ) (at end value scale more i : ℕ) (k : Reading s at end 
     head : part s i end ≡ b ∷ part s (suc i) end
     head = part-cons s i end h k.inside ∙ rw e
 
-    got : read_within more (part s i end) ≡ Varint b 1 → Varint (value + b * scale) (i + 1) ≡ varint_at s at end
+    got : read_within more (part s i end) ≡ Some (read b 1) → Some (read (value + b * scale) (i + 1)) ≡ varint_at s at end
     unfolding varint_at
-    got q = rw (k.rest, q) (ap₂ Varint (ap (λ (x : ℕ). value + x) (mul_comm b scale)) (omega (arith, k.from)))
+    got q = rw (k.rest, q) (ap₂ Some (read (ap (λ (x : ℕ). value + x) (mul_comm b scale)) (omega (arith, k.from))))
 
-    pub reading-last : more ≡ 0 → b < 2 → Varint (value + b * scale) (i + 1) ≡ varint_at s at end
+    pub reading-last : more ≡ 0 → b < 2 → Some (read (value + b * scale) (i + 1)) ≡ varint_at s at end
     reading-last z g = got (rw (head, z) (read-last b (part s (suc i) end) g))
 
-    pub reading-over : more ≡ 0 → 2 ≤ b → Bad ≡ varint_at s at end
+    pub reading-over : more ≡ 0 → 2 ≤ b → None ≡ varint_at s at end
     unfolding varint_at
     reading-over z g = rw (k.rest, head, z, read-over b (part s (suc i) end) g)
 
@@ -123,7 +122,7 @@ module _ (s : List ℕ) (at end value scale more i : ℕ) (k : Reading s at end 
       one_fewer : read_within more (part s i end) ≡ read_within (suc (more - 1)) (b ∷ part s (suc i) end)
       one_fewer = ap₂ read_within (omega arith) head
 
-      pub reading-one : b < 128 → Varint (value + b * scale) (i + 1) ≡ varint_at s at end
+      pub reading-one : b < 128 → Some (read (value + b * scale) (i + 1)) ≡ varint_at s at end
       reading-one g = got (one_fewer ∙ read_one b (part s (suc i) end) (more - 1) g)
 
       module _ (g : 128 ≤ b) where

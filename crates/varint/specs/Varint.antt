@@ -10,11 +10,10 @@
 --   varint_at s at end == the varint of s between two places that starts at the first, with the place after it
 --
 -- Assumes nothing.
-use Rattle.std.specs.Prelude.{true, false, List, [], ◌∷◌, ℕ, zero, suc, ◌+◌, ◌-◌, ◌*◌, ◌/◌, ◌%◌, ltb}
+use Rattle.std.specs.Prelude.{true, false, List, [], ◌∷◌, ℕ, zero, suc, ◌+◌, ◌-◌, ◌*◌, ◌/◌, ◌%◌, ltb, None, Some, Option}
 use Rattle.limits.specs.Figures.{most_varint}
 use Rattle.octets.specs.Octets.{part}
 use Rattle.varint.specs.declared.Read.{Read}
-use Rattle.varint.specs.declared.Read.TheVariants.{Varint, Bad}
 
 unfoldable pub varint_within : (most v : ℕ) → List ℕ
 varint_within zero v = v ∷ []
@@ -23,23 +22,26 @@ varint_within (suc k) v = elim (ltb v 128) [ true ↦ v ∷ [] | false ↦ (128 
 unfoldable pub varint : ℕ → List ℕ
 varint v = varint_within (most_varint - 1) v
 
-abbrev pub continued : ℕ → Read → Read
-continued b (Varint v n) = Varint (b % 128 + 128 * v) (suc n)
-continued b Bad = Bad
+abbrev pub read : (value next : ℕ) → Read
+read v n = record { value = v; next = n }
+
+abbrev pub continued : ℕ → Option Read → Option Read
+continued b (Some r) = Some (read (b % 128 + 128 * r.value) (suc r.next))
+continued b None = None
 
 -- the tenth byte holds one bit: above 1 it would pass 64 bits, or an eleventh byte would follow
-unfoldable pub read_within : ℕ → List ℕ → Read
-read_within k [] = Bad
-read_within zero (b ∷ bs) = elim (ltb b 2) [ true ↦ Varint b 1 | false ↦ Bad ]
-read_within (suc k) (b ∷ bs) = elim (ltb b 128) [ true ↦ Varint b 1 | false ↦ continued b (read_within k bs) ]
+unfoldable pub read_within : ℕ → List ℕ → Option Read
+read_within k [] = None
+read_within zero (b ∷ bs) = elim (ltb b 2) [ true ↦ Some (read b 1) | false ↦ None ]
+read_within (suc k) (b ∷ bs) = elim (ltb b 128) [ true ↦ Some (read b 1) | false ↦ continued b (read_within k bs) ]
 
 -- 01, Listing: "Varints may be overlong, up to ten bytes and 64 bits" [WIRE-3]
-unfoldable pub read_varint : List ℕ → Read
+unfoldable pub read_varint : List ℕ → Option Read
 read_varint bs = read_within (most_varint - 1) bs
 
-abbrev pub at_place : ℕ → Read → Read
-at_place at (Varint v n) = Varint v (at + n)
-at_place at Bad = Bad
+abbrev pub at_place : ℕ → Option Read → Option Read
+at_place at (Some x) = Some (read x.value (at + x.next))
+at_place at None = None
 
-unfoldable pub varint_at : (s : List ℕ) (at end : ℕ) → Read
+unfoldable pub varint_at : (s : List ℕ) (at end : ℕ) → Option Read
 varint_at s at end = at_place at (read_varint (part s at end))

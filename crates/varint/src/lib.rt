@@ -8,13 +8,11 @@ ghost use Rattle.varint.specs.Varint.{varint as varint_of, varint_at};
 
 use limits::MOST_VARINT;
 
-// What reading a varint gives.
+// A varint that was read: its value, and the place after its last byte.
 #[derive(Clone, Copy)]
-pub enum Read {
-    // Its value, and the place after its last byte.
-    Varint { value: u64, next: usize },
-    // A tenth byte above 1, an eleventh byte, or the end of the bytes.
-    Bad,
+pub struct Read {
+    pub value: u64,
+    pub next: usize,
 }
 
 // How many bytes the shortest varint of v has. A byte holds seven bits, so that below 128^n a varint has at most n bytes: the limits are the
@@ -69,7 +67,7 @@ pub fn put_varint(out: &mut [u8], at: usize, v: u64) -> usize
 }
 
 // The varint between two places that starts at the first.
-pub fn varint_at(s: &[u8], at: usize, end: usize) -> Read
+pub fn varint_at(s: &[u8], at: usize, end: usize) -> Option<Read>
     requires { (at ≤ end) × (end ≤ length s.now) }
     ensures { result ≡ varint_at s.now at end }
 {
@@ -81,23 +79,23 @@ pub fn varint_at(s: &[u8], at: usize, end: usize) -> Read
         let b = octets::byte_at(s, i) as u64;
         if more == 0 {
             if b < 2 {
-                return Read::Varint {
+                return Some(Read {
                     value: value + b * scale,
                     next: i + 1,
-                };
+                });
             }
-            return Read::Bad;
+            return None;
         }
         if b < 128 {
-            return Read::Varint {
+            return Some(Read {
                 value: value + b * scale,
                 next: i + 1,
-            };
+            });
         }
         value += b % 128 * scale;
         scale *= 128;
         more -= 1;
         i += 1;
     }
-    Read::Bad
+    None
 }

@@ -5,11 +5,11 @@ use field::Field;
 pub fn part(c: &[u8], tag: u8) -> &[u8] {
     let mut at = 0;
     while at < c.len() {
-        let Field::Whole {
+        let Some(Field {
             tag: found,
             from,
             to,
-        } = field::field_at(c, at, c.len())
+        }) = field::field_at(c, at, c.len())
         else {
             return &c[..0];
         };

@@ -27,7 +27,7 @@ fn has_length(given: &[u8], n: usize) -> bool {
 
 // Whether a number is read at the front of these bytes, from n of them.
 fn reads(s: &[u8], v: u64, n: usize) -> bool {
-    let Read::Varint { value, next } = varint_at(s, 0, s.len()) else {
+    let Some(Read { value, next }) = varint_at(s, 0, s.len()) else {
         return false;
     };
     (value == v) & (next == n)

@@ -12,9 +12,8 @@ ghost use Rattle.std.specs.Prelude.{◌≤◌};
 
 use candidates::protobuf_path::candidates;
 use case::{part, word_of};
-use console::input::{Input, MOST_BYTES, field_of};
+use console::input::{MOST_BYTES, field_of};
 use console::output::{hex, number, text};
-use field::Leaf;
 
 const CASE: u8 = 0x60;
 
@@ -73,7 +72,7 @@ fn run(s: &[u8]) {
     let mut held = 0;
     let mut at = 0;
     while at < s.len() {
-        let Leaf::At { from, to } = field_of(s, at, CASE) else {
+        let Some(Span { from, to }) = field_of(s, at, CASE) else {
             return;
         };
         held += example(&s[from..to]);
@@ -85,7 +84,7 @@ fn run(s: &[u8]) {
 
 // Standard input, read into a lent buffer.
 fn run_over(buffer: &mut [u8]) {
-    let Input::Bytes(n) = console::input::read(buffer) else {
+    let Some(n) = console::input::read(buffer) else {
         return;
     };
     run(&buffer[..n]);

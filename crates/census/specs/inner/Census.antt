@@ -17,13 +17,11 @@
 --       files_asked m x o s fs ==  how many the files have
 --
 -- Assumes nothing.
-use Rattle.std.specs.Prelude.{Bool, ◌&&◌, ◌||◌, List, [], ◌∷◌, ℕ, suc, ◌+◌, ◌≤◌, eqb, length, drop}
+use Rattle.std.specs.Prelude.{Bool, ◌&&◌, ◌||◌, List, [], ◌∷◌, ℕ, suc, ◌+◌, ◌≤◌, eqb, length, drop, None, Some, Option}
 use Rattle.basis.specs.First.{only_if}
 use Rattle.basis.specs.Count.{count}
 use Rattle.octets.specs.Octets.{same_bytes}
-use Rattle.field.specs.declared.Leaf.{Leaf}
-use Rattle.field.specs.declared.Leaf.TheVariants.{At, Not}
-use Rattle.field.specs.Leaf.{text}
+use Rattle.field.specs.Leaf.{text, span}
 use Rattle.sheet.specs.declared.declaration.Declaration.{Declaration}
 use Rattle.sheet.specs.Table.{message_tag, extension_tag, enum_tag}
 use Rattle.sheet.specs.Tree as tree
@@ -37,6 +35,7 @@ use Rattle.likeness.specs.declared.Way.TheVariants.{Own, Within, Off}
 use Rattle.likeness.specs.inner.Likes.{Placed, is_like, field_likes, extension_likes}
 use Rattle.census.specs.declared.Asked.{Asked}
 use Rattle.census.specs.declared.Asked.TheVariants.{Bearers, Numbers}
+use Rattle.field.specs.declared.Span.{Span}
 
 abbrev pub bearing : (kind : ℕ) (text : List ℕ) → List Named → ℕ
 bearing k m bs = count (λ b. of_kind k b && bears m b) bs
@@ -76,12 +75,12 @@ own (Bearers k) g (Within at) = 0
 own (Bearers k) g Off = 0
 own (Numbers l) g w = 0
 
-abbrev pub named : Items → Leaf
-named tree.none = Not
-named (tree.message n b i r) = Not
-named (tree.extension d r) = At d.name.from d.name.to
-named (tree.enumeration n b vs r) = At n.from n.to
-named (tree.field d r) = Not
+abbrev pub named : Items → Option Span
+named tree.none = None
+named (tree.message n b i r) = None
+named (tree.extension d r) = Some (span d.name.from d.name.to)
+named (tree.enumeration n b vs r) = Some (span n.from n.to)
+named (tree.field d r) = None
 
 -- what a message holds bears no name that does not go on in it
 abbrev pub open_to : Asked → Way → (from to : ℕ) → ℕ

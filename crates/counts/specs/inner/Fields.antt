@@ -6,15 +6,14 @@
 --     file_count k s t a e == how many of the tag k a field of a sheet holds, itself counted
 --
 -- Assumes nothing.
-use Rattle.std.specs.Prelude.{List, [], ℕ, length}
-use Rattle.sheet.specs.declared.declaration.Declared.{Declared}
-use Rattle.sheet.specs.declared.declaration.Declared.TheVariants.{Declares, NoDeclaration}
+use Rattle.std.specs.Prelude.{List, [], ℕ, length, Some, None, Option}
 use Rattle.sheet.specs.Tree.{none, value_in, item_in, message_in, file_in}
 use Rattle.counts.specs.Declarations.{one, items_hold, files_hold}
+use Rattle.sheet.specs.declared.declaration.Declaration.{Declaration}
 
-abbrev pub declared_count : Declared → (want tag : ℕ) → ℕ
-declared_count NoDeclaration k t = 0
-declared_count (Declares d) k t = one k t
+abbrev pub declared_count : Option Declaration → (want tag : ℕ) → ℕ
+declared_count None k t = 0
+declared_count (Some d) k t = one k t
 
 abbrev pub value_count : (s : List ℕ) (tag from to : ℕ) → ℕ
 value_count s t a e = length (value_in s t a e [])

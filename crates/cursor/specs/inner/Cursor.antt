@@ -13,10 +13,8 @@
 --          Nexts L s t c r <-> r is the next of L, or that there is none
 --
 -- Assumes nothing.
-use Rattle.std.specs.Prelude.{◌≡◌, Bool, true, false, List, [], ◌∷◌, ◌++◌, ℕ, suc, ◌-◌, ◌≤◌, ◌<◌, eqb, length, get_or, take, Option, None}
+use Rattle.std.specs.Prelude.{◌≡◌, Bool, true, false, List, [], ◌∷◌, ◌++◌, ℕ, suc, ◌-◌, ◌≤◌, ◌<◌, eqb, length, get_or, take, Option, None, Some}
 use Rattle.limits.specs.Figures.{most_messages}
-use Rattle.field.specs.declared.Leaf.{Leaf}
-use Rattle.field.specs.declared.Leaf.TheVariants.{At as LeafAt, Not}
 use Rattle.field.specs.Leaf.{span, any_bytes, leaf_at, on_leaf}
 use Rattle.field.specs.Walk.{walk}
 use Rattle.path.specs.Path.{Path, dot, split}
@@ -27,9 +25,9 @@ use Rattle.scope.specs.declared.lookup.LookupScope.{LookupScope}
 use Rattle.scope.specs.Scope.{Scope, holding}
 use Rattle.scope.specs.inner.Answers.{InSheet}
 use Rattle.cursor.specs.declared.Cursor.{Cursor}
-use Rattle.cursor.specs.declared.Next.{Next}
-use Rattle.cursor.specs.declared.Next.TheVariants.{At, NoMore}
 use Rattle.scopes.specs.Scopes.{scope_in, scopes_in, scopes_from}
+use Rattle.cursor.specs.declared.Next.{Next}
+use Rattle.field.specs.declared.Span.{Span}
 
 unfoldable pub front_at : (t : List ℕ) (at : ℕ) → Path
 front_at t at = elim (eqb at 0) [ true ↦ [] | false ↦ split (take (at - 1) t) ]
@@ -45,20 +43,23 @@ here s t c = scopes_in s (take (c.next - 1) t) (names_from t c.next) c.file (fil
 unfoldable pub ahead : (s t : List ℕ) → Cursor → List Scope
 ahead s t c = here s t c ++ wider s (front_at t c.next) (names_from t c.next)
 
+abbrev pub next_of : LookupScope → Cursor → Next
+next_of p c = record { scope = p; rest = c }
+
 abbrev pub start_of : (bare : Bool) → Cursor
 start_of true = record { next = 1; at = 0; file = 0 }
 start_of false = record { next = 0; at = 0; file = 0 }
 
-unfoldable pub package_at : (s : List ℕ) (tag from to : ℕ) → Leaf
-package_at s tag a e = elim (eqb tag file_tag) [ true ↦ leaf_at package_tag any_bytes s a e | false ↦ Not ]
+unfoldable pub package_at : (s : List ℕ) (tag from to : ℕ) → Option Span
+package_at s tag a e = elim (eqb tag file_tag) [ true ↦ leaf_at package_tag any_bytes s a e | false ↦ None ]
 
-abbrev pub scope_at : (s t : List ℕ) (next index : ℕ) → Leaf → (end : ℕ) → Option Scope
+abbrev pub scope_at : (s t : List ℕ) (next index : ℕ) → Option Span → (end : ℕ) → Option Scope
 scope_at s t next i l e = on_leaf None l λ n m.
     scope_in s (take (next - 1) t) (names_from t next) i (file_with (span n m) (span m e) (items_in most_messages s (walk s m e)))
 
-pub record Within (l : Leaf) (e : ℕ) : Type 0 where
-  pub ordered : (n m : ℕ) → l ≡ LeafAt n m → n ≤ m
-  pub inside : (n m : ℕ) → l ≡ LeafAt n m → m ≤ e
+pub record Within (l : Option Span) (e : ℕ) : Type 0 where
+  pub ordered : (p : Span) → l ≡ Some p → p.from ≤ p.to
+  pub inside : (p : Span) → l ≡ Some p → p.to ≤ e
 
 pub record Stands (s t : List ℕ) (c : Cursor) : Type 0 where
   pub within : c.at ≤ length s
@@ -71,6 +72,6 @@ pub record Steps (L : Cursor → List Scope) (s t : List ℕ) (c : Cursor) (p : 
   pub stands : Stands s t c'
   pub is : L c ≡ holding s p ∷ L c'
 
-pub record Nexts (L : Cursor → List Scope) (s t : List ℕ) (c : Cursor) (r : Next) : Type 0 where
-  pub some : (p : LookupScope) (c' : Cursor) → r ≡ At p c' → Steps L s t c p c'
-  pub None : r ≡ NoMore → L c ≡ []
+pub record Nexts (L : Cursor → List Scope) (s t : List ℕ) (c : Cursor) (r : Option Next) : Type 0 where
+  pub some : (n : Next) → r ≡ Some n → Steps L s t c n.scope n.rest
+  pub none : r ≡ None → L c ≡ []

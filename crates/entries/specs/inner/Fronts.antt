@@ -14,29 +14,26 @@
 --          FrontLies s at end r <-> the record lies behind `at` and before `end`, a message's path and place in the sheet
 --
 -- Assumes nothing.
-use Rattle.std.specs.Prelude.{◌≡◌, true, false, List, [], ◌∷◌, ℕ, ◌+◌, ◌≤◌, ◌<◌, eqb, Option, None}
+use Rattle.std.specs.Prelude.{◌≡◌, true, false, List, [], ◌∷◌, ℕ, ◌+◌, ◌≤◌, ◌<◌, eqb, Option, None, Err, Some, Ok, Result}
 use Rattle.basis.specs.Kit.{some as is}
 use Rattle.reply.specs.declared.Refusal.{Refusal}
 use Rattle.field.specs.declared.Span.{Span}
 use Rattle.field.specs.Leaf.{text, Lies}
 use Rattle.types.specs.Types.{TYPE_MESSAGE}
 use Rattle.wire.specs.Tag.{number_of, wire_type_of}
-use Rattle.payloads.specs.declared.Payload.{Payload}
 use Rattle.payloads.specs.inner.Placed.{payload_in}
 use Rattle.taken.specs.declared.Taken.{Taken}
 use Rattle.taken.specs.declared.Taken.TheVariants as taken
 use Rattle.taken.specs.inner.Taking.{unknown_taken, known_taken}
 use Rattle.sheet.specs.declared.declaration.Declaration.{Declaration}
-use Rattle.sheet.specs.declared.declaration.Declared.TheVariants.{Declares, NoDeclaration}
 use Rattle.scope.specs.declared.lookup.LookupScope.{LookupScope}
 use Rattle.scope.specs.inner.Answers.{InSheet}
-use Rattle.fullname.specs.declared.LookedUp.{LookedUp}
-use Rattle.fullname.specs.declared.LookedUp.TheVariants.{Message as Found, NoMessage}
 use Rattle.lookups.specs.Lookups.{Lookups, Message}
 use Rattle.entries.specs.declared.Entry.{Entry}
 use Rattle.entries.specs.declared.Front.{Front}
 use Rattle.entries.specs.declared.Front.TheVariants.{Leaf, Inside, Wrong}
 use Rattle.entries.specs.Item.{Item, some, into, wrong, declared}
+use Rattle.payloads.specs.declared.Payload.{Payload}
 
 abbrev pub message : (name : List ℕ) → LookupScope → Message
 message n p = record { name = n; place = p }
@@ -50,15 +47,15 @@ unknown_front k w (taken.Record at size v next) = Leaf (record {
   place = at;
   size = size;
   value = v;
-  by = NoDeclaration;
+  by = None;
 }) next
 
-unfoldable pub unknown_of : (number wire : ℕ) → Payload → Front
+unfoldable pub unknown_of : (number wire : ℕ) → Option Payload → Front
 unknown_of k w p = unknown_front k w (unknown_taken p)
 
-abbrev pub on_message : Entry → Span → LookedUp → Front
-on_message e p (NoMessage w) = Wrong w
-on_message e p (Found q) = Inside e p q
+abbrev pub on_message : Entry → Span → Result LookupScope Refusal → Front
+on_message e p (Err w) = Wrong w
+on_message e p (Ok q) = Inside e p q
 
 unfoldable pub entered_of : Lookups → (s : List ℕ) → Entry → Span → Front
 entered_of L s e p = on_message e p (L.message (text s p))
@@ -71,7 +68,7 @@ entry_of d k w at size v = record {
   place = at;
   size = size;
   value = v;
-  by = Declares d;
+  by = Some d;
 }
 
 abbrev pub known_front : Lookups → (s : List ℕ) → Declaration → (number wire : ℕ) → Taken → Front
@@ -81,10 +78,10 @@ known_front L s d k w (taken.Record at size v next) = elim (eqb d.shape.typ TYPE
   | false ↦ Leaf (entry_of d k w at size v) next
 ]
 
-unfoldable pub known_of : Lookups → (s : List ℕ) → Declaration → (number wire : ℕ) → Payload → Front
+unfoldable pub known_of : Lookups → (s : List ℕ) → Declaration → (number wire : ℕ) → Option Payload → Front
 known_of L s d k w p = known_front L s d k w (known_taken d.shape.typ w p)
 
-abbrev pub by_declared : Lookups → (s : List ℕ) → Option Declaration → (number wire : ℕ) → Payload → Front
+abbrev pub by_declared : Lookups → (s : List ℕ) → Option Declaration → (number wire : ℕ) → Option Payload → Front
 by_declared L s None k w p = unknown_of k w p
 by_declared L s (is d) k w p = known_of L s d k w p
 

@@ -19,15 +19,13 @@
 --               why_not q s t ==  that, of a sheet that is short enough
 --
 -- Assumes nothing.
-use Rattle.std.specs.Prelude.{List, ℕ, ltb, length}
+use Rattle.std.specs.Prelude.{List, ℕ, ltb, length, Some, None, Option}
 use Rattle.basis.specs.First.{only_if}
 use Rattle.limits.specs.Figures.{most_sheet}
 use Rattle.field.specs.declared.Span.{Span}
 use Rattle.field.specs.Leaf.{span, text, Lies}
 use Rattle.field.specs.Walk.{walk}
 use Rattle.sheet.specs.declared.declaration.Declaration.{Declaration}
-use Rattle.sheet.specs.declared.declaration.Declared.{Declared}
-use Rattle.sheet.specs.declared.declaration.Declared.TheVariants.{Declares, NoDeclaration}
 use Rattle.sheet.specs.Table.{message_tag, enum_tag, field_tag, value_tag}
 use Rattle.sheet.specs.Tree.{items_in}
 use Rattle.sheet.specs.Members.{fields_of}
@@ -59,9 +57,9 @@ pub data BearerLies (s : List ℕ) : Bearer → Type 0 where
 abbrev pub number_for : (message : List ℕ) → Declaration → Number
 number_for m d = record { for = m; by = d }
 
-abbrev pub on_declared : (Declaration → Reason) → Declared → Reason
-on_declared f NoDeclaration = Yes
-on_declared f (Declares d) = f d
+abbrev pub on_declared : (Declaration → Reason) → Option Declaration → Reason
+on_declared f None = Yes
+on_declared f (Some d) = f d
 
 abbrev pub fields_at : (s : List ℕ) → Span → List Declaration
 fields_at s p = fields_of (items_in 0 s (walk s p.from p.to))

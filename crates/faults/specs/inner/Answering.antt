@@ -4,13 +4,11 @@
 --   stepped_by i x == what the writer of a constant answers, x, as what the step on the i-th part answers
 --
 -- Assumes nothing.
-use Rattle.std.specs.Prelude.{ℕ}
-use Rattle.records.specs.declared.Wrote.{Wrote}
-use Rattle.records.specs.declared.Wrote.TheVariants as wrote
-use Rattle.faults.specs.declared.Stepped.{Stepped}
-use Rattle.faults.specs.declared.Stepped.TheVariants.{Next, Refused}
+use Rattle.std.specs.Prelude.{ℕ, Err, Ok, Result}
 use Rattle.faults.specs.Faults.{fault_at}
+use Rattle.faults.specs.declared.Fault.{Fault}
+use Rattle.reply.specs.declared.Refusal.{Refusal}
 
-abbrev pub stepped_by : (part : ℕ) → Wrote → Stepped
-stepped_by i (wrote.Next n) = Next n
-stepped_by i (wrote.Refused w) = Refused (fault_at i w)
+abbrev pub stepped_by : (part : ℕ) → Result ℕ Refusal → Result ℕ Fault
+stepped_by i (Ok n) = Ok n
+stepped_by i (Err w) = Err (fault_at i w)

@@ -12,48 +12,45 @@
 -- Assumes nothing.
 use Rattle.std.specs.Prelude.{Bool, true, false, List, [], ◌∷◌, ℕ, ◌+◌, eqb, ltb, Option, None, Some}
 use Rattle.basis.specs.First.{only_if}
-use Rattle.sheet.specs.declared.declaration.Declared.{Declared}
-use Rattle.sheet.specs.declared.declaration.Declared.TheVariants.{Declares, NoDeclaration}
 use Rattle.entries.specs.declared.Row.{Row}
-use Rattle.following.specs.declared.Best.{Best}
-use Rattle.following.specs.declared.Best.TheVariants.{Found, NoneYet}
 use Rattle.following.specs.declared.Step.{Step}
 use Rattle.following.specs.inner.Keys.{key_at}
+use Rattle.sheet.specs.declared.declaration.Declaration.{Declaration}
 
-abbrev pub best_of : Option Row → Best
-best_of None = NoneYet
-best_of (Some x) = Found x
+abbrev pub best_of : Option Row → Option Row
+best_of None = None
+best_of (Some x) = Some x
 
 pub record Followed : Type 0 where
   pub matched : ℕ
-  pub best : Best
+  pub best : Option Row
 
 abbrev pub nothing_yet : Followed
-nothing_yet = record { matched = 0; best = NoneYet }
+nothing_yet = record { matched = 0; best = None }
 
-unfoldable pub is_at : (place : ℕ) → Declared → Bool
-is_at p NoDeclaration = false
-is_at p (Declares d) = eqb d.name.from p
+unfoldable pub is_at : (place : ℕ) → Option Declaration → Bool
+is_at p None = false
+is_at p (Some d) = eqb d.name.from p
 
 abbrev pub step : (matched : ℕ) (counts takes : Bool) → Step
 step k c t = record { matched = k; counts = c; takes = t }
 
-abbrev pub after : Step → Best → Row → Followed
-after s b x = record { matched = s.matched; best = only_if s.counts (only_if s.takes (Found x) b) NoneYet }
+abbrev pub after : Step → Option Row → Row → Followed
+after s b x = record { matched = s.matched; best = only_if s.counts (only_if s.takes (Some x) b) None }
 
 -- the levels deeper than the row's are closed by it; a row by the last part's key is taken; one by another part's key opens the level of the
 -- next part, and what was taken before counts no more unless its records are joined
 module _ (words : List ℕ) (count : ℕ) where
-  abbrev pub by_key : (counts : Bool) (level : ℕ) → Declared → Step
+  abbrev pub by_key : (counts : Bool) (level : ℕ) → Option Declaration → Step
   by_key c l y = elim (is_at (key_at words l).place y) [
     | true ↦ elim (eqb (l + 1) count) [ true ↦ step l true true | false ↦ step (l + 1) (only_if (key_at words l).joins c false) false ]
     | false ↦ step l c false
   ]
 
-  abbrev pub at_level : (counts : Bool) (level : ℕ) → Declared → Step
+  abbrev pub at_level : (counts : Bool) (level : ℕ) → Option Declaration → Step
   at_level c l y = elim (ltb l count) [ true ↦ by_key c l y | false ↦ step l c false ]
 
-  unfoldable pub step_of : (matched : ℕ) (counts : Bool) (level : ℕ) → Declared → Step
+  unfoldable pub step_of : (matched : ℕ) (counts : Bool) (level : ℕ) → Option Declaration → Step
   step_of k c l y = elim (ltb k l) [ true ↦ step k c false | false ↦ at_level c l y ]
 
   unfoldable pub follow : Followed → Row → Followed

@@ -5,24 +5,23 @@
 --        due_leaf d ==  the leaf that was due, where it is there
 --
 -- Assumes nothing.
-use Rattle.std.specs.Prelude.{true, false, List, ℕ, eqb, length}
-use Rattle.field.specs.declared.Field.{Field}
-use Rattle.field.specs.declared.Field.TheVariants.{Whole, Cut}
-use Rattle.field.specs.declared.Leaf.{Leaf}
-use Rattle.field.specs.declared.Leaf.TheVariants.{At, Not}
+use Rattle.std.specs.Prelude.{true, false, List, ℕ, eqb, length, None, Some, Option}
 use Rattle.field.specs.Field.{field_at}
 use Rattle.inputs.specs.declared.due.Due.{Due}
 use Rattle.inputs.specs.declared.due.Due.TheVariants.{Here, Other, CutShort, Ended}
+use Rattle.field.specs.Leaf.{span}
+use Rattle.field.specs.declared.Field.{Field}
+use Rattle.field.specs.declared.Span.{Span}
 
-abbrev pub due_of : (tag : ℕ) → Field → Due
-due_of tag Cut = CutShort
-due_of tag (Whole t a e) = elim (eqb t tag) [ true ↦ Here a e | false ↦ Other t ]
+abbrev pub due_of : (tag : ℕ) → Option Field → Due
+due_of tag None = CutShort
+due_of tag (Some f) = elim (eqb f.tag tag) [ true ↦ Here f.from f.to | false ↦ Other f.tag ]
 
 unfoldable pub due_at : (tag : ℕ) (s : List ℕ) (at : ℕ) → Due
 due_at tag s at = elim (eqb at (length s)) [ true ↦ Ended | false ↦ due_of tag (field_at s at (length s)) ]
 
-abbrev pub due_leaf : Due → Leaf
-due_leaf (Here a e) = At a e
-due_leaf (Other t) = Not
-due_leaf CutShort = Not
-due_leaf Ended = Not
+abbrev pub due_leaf : Due → Option Span
+due_leaf (Here a e) = Some (span a e)
+due_leaf (Other t) = None
+due_leaf CutShort = None
+due_leaf Ended = None

@@ -7,12 +7,10 @@
 --          declared_likes f r ==  what f gives of the declaration that a reader answered, 0 where there is none
 --
 -- Assumes nothing.
-use Rattle.std.specs.Prelude.{Bool, ◌&&◌, List, ℕ, eqb}
+use Rattle.std.specs.Prelude.{Bool, ◌&&◌, List, ℕ, eqb, Some, None, Option}
 use Rattle.basis.specs.First.{only_if}
 use Rattle.field.specs.Leaf.{Lies}
 use Rattle.sheet.specs.declared.declaration.Declaration.{Declaration}
-use Rattle.sheet.specs.declared.declaration.Declared.{Declared}
-use Rattle.sheet.specs.declared.declaration.Declared.TheVariants.{Declares, NoDeclaration}
 use Rattle.scope.specs.Scope.{extends}
 use Rattle.names.specs.Contained.{alike}
 use Rattle.likeness.specs.declared.Like.{Like}
@@ -34,6 +32,6 @@ field_likes l o s Off d = 0
 unfoldable pub extension_likes : (m : List ℕ) → Like → (o s : List ℕ) → Declaration → ℕ
 extension_likes m l o s d = only_if (extends s m d && is_like l o s d) 1 0
 
-abbrev pub declared_likes : (Declaration → ℕ) → Declared → ℕ
-declared_likes f NoDeclaration = 0
-declared_likes f (Declares d) = f d
+abbrev pub declared_likes : (Declaration → ℕ) → Option Declaration → ℕ
+declared_likes f None = 0
+declared_likes f (Some d) = f d

@@ -7,7 +7,7 @@
 --   Declares joins n k ws ws' r <-> of parts that come to n, the k-th first, the code's answer is r, with their keys behind the first k of ws
 --
 -- Assumes nothing.
-use Rattle.std.specs.Prelude.{◌≡◌, Bool, List, [], ◌∷◌, map, ℕ, ◌+◌, ◌*◌, ◌^◌, ◌≤◌, length}
+use Rattle.std.specs.Prelude.{◌≡◌, Bool, List, [], ◌∷◌, map, ℕ, ◌+◌, ◌*◌, ◌^◌, ◌≤◌, length, Result}
 use Rattle.reply.specs.declared.Refusal.{Refusal}
 use Rattle.field.specs.Walk.{walk}
 use Rattle.sheet.specs.declared.declaration.Declaration.{Declaration}
@@ -15,18 +15,18 @@ use Rattle.request.specs.declared.name.Part.{Part}
 use Rattle.request.specs.Name.{parts_in}
 use Rattle.optionform.specs.inner.Parts.{NameParts}
 use Rattle.lookups.specs.Lookups.{Lookups}
-use Rattle.steps.specs.declared.Step.{Step}
 use Rattle.following.specs.inner.Keys.{key_of, key_words, keys_from, keys_at}
 use Rattle.naming.specs.declared.Naming.{Naming}
 use Rattle.naming.specs.declared.Naming.TheVariants.{Parts, Group, Refused}
 use Rattle.naming.specs.Name.{Named, names, group, refused_at, of_part, also, on_step, left, declarations}
+use Rattle.steps.specs.declared.Lack.{Lack}
 
 module _ (L : Lookups) (s q : List ℕ) where
   abbrev pub behind_part : (part : ℕ) → Declaration → List Part → Named
   behind_part i d [] = names []
   behind_part i d (o ∷ ps) = left L s q i d λ n. declarations L s q (i + 1) n (o ∷ ps)
 
-  abbrev pub step_part : (part : ℕ) → Step → List Part → Named
+  abbrev pub step_part : (part : ℕ) → Result Declaration Lack → List Part → Named
   step_part i v ps = on_step i v λ d. also d (behind_part i d ps)
 
 pub record Namable (q scope : List ℕ) (at index : ℕ) (words : List ℕ) : Type 0 where

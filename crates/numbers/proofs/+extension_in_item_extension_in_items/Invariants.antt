@@ -1,8 +1,7 @@
 -- `numbers::extension_in_item` and `numbers::extension_in_items` meet their contracts. Each call is nearer to the last level.
 -- Assumes nothing.
-use Rattle.std.specs.Prelude.{◌+◌, ◌-◌, ◌*◌}
+use Rattle.std.specs.Prelude.{◌+◌, ◌-◌, ◌*◌, None}
 use Rattle.field.proofs.Seek.{Seeking}
-use Rattle.sheet.specs.declared.declaration.Declared.TheVariants.{NoDeclaration}
 use Rattle.scope.specs.inner.Steps.{tells_declared, first_of}
 use Rattle.numbers.specs.Number.{is_extension_of}
 use Rattle.numbers.proofs.NumberLaws.{item_where}
@@ -16,7 +15,7 @@ decreases-extension_in_items l = 2 * l.left + 1
 
 abbrev pub invariant-extension_in_items-loop-at : goal.invariant-extension_in_items-loop-at
 invariant-extension_in_items-loop-at l =
-    Seeking NoDeclaration (first_of tells_declared) (item_where (is_extension_of l.s l.message l.number) l.left l.s) l.s l.initial.at l.end l.at
+    Seeking None (first_of tells_declared) (item_where (is_extension_of l.s l.message l.number) l.left l.s) l.s l.initial.at l.end l.at
 
 abbrev pub decreases-extension_in_items-loop-at : goal.decreases-extension_in_items-loop-at
 decreases-extension_in_items-loop-at l = l.end - l.at

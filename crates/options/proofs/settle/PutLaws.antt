@@ -1,22 +1,18 @@
 -- The writers of an option: its constant on the last part, a message that parts go inside, and the step over the parts.
 -- Assumes nothing.
-use Rattle.std.specs.Prelude.{◌≡◌, refl, List, ℕ, ◌+◌, ◌-◌, ◌*◌, ◌<◌}
+use Rattle.std.specs.Prelude.{◌≡◌, refl, List, ℕ, ◌+◌, ◌-◌, ◌*◌, ◌<◌, Err, None, Some, Ok, Option, Result}
 use Rattle.basis.specs.Kit.{sym, ap, ◌∙◌}
 use Rattle.basis.proofs.Kit.{arith}
 use mathlib.Core.Path.{subst}
 use Rattle.basis.proofs.Never.{never}
 use Rattle.limits.specs.Figures.{most_constants}
 use Rattle.reply.specs.declared.Refusal.{Refusal}
-use Rattle.field.specs.declared.Field.{Field}
-use Rattle.field.specs.declared.Field.TheVariants.{Whole, Cut}
-use Rattle.field.specs.Field.{field_at}
+use Rattle.field.specs.Field.{field_at, field}
 use Rattle.field.specs.Leaf.{text}
 use Rattle.field.proofs.FieldLaws.{field-bounds, field-ordered, field-within}
 use Rattle.sheet.specs.declared.declaration.Shape.{Shape}
 use Rattle.scope.specs.declared.lookup.LookupScope.{LookupScope}
 use Rattle.request.specs.Request.{constant_of_field}
-use Rattle.records.specs.declared.Wrote.{Wrote}
-use Rattle.records.specs.declared.Wrote.TheVariants.{Next as Wrote-next, Refused as Wrote-refused}
 use Rattle.records.specs.Records.{nil}
 use Rattle.records.specs.Made.{Made, made, holding}
 use Rattle.records.specs.inner.Emits.{bytes_most, wrote_of, Emits, Roomy}
@@ -26,8 +22,6 @@ use Rattle.lookups.specs.Lookups.{Lookups}
 use Rattle.values.specs.Values.{on, records}
 use Rattle.values.specs.inner.Writers.{value_made}
 use Rattle.faults.specs.declared.Fault.{Fault}
-use Rattle.faults.specs.declared.Stepped.{Stepped}
-use Rattle.faults.specs.declared.Stepped.TheVariants.{Next, Refused}
 use Rattle.steps.specs.declared.Reach.{Reach}
 use Rattle.steps.specs.declared.Reach.TheVariants.{Constant, Inside, Nothing, Fails}
 use Rattle.steps.specs.inner.Reached.{message, reach_of, Led}
@@ -37,8 +31,9 @@ use Rattle.faults.specs.inner.Answering.{stepped_by}
 use Rattle.options.specs.inner.Written.{stepped_of, constant_made, option_made}
 use Rattle.options.proofs.settle.LedPlaces.{led-places}
 use Rattle.options.proofs.settle.OptionLaws.{option-of}
+use Rattle.field.specs.declared.Field.{Field}
 
-pub stepped-tells : Tells stepped_of Next Refused
+pub stepped-tells : Tells stepped_of Ok Err
 unfolding stepped_of
 stepped-tells = record {
   makes = λ at x. refl;
@@ -49,52 +44,52 @@ stepped-tells = record {
 }
 
 -- ---- put_constant
-pub constant-room : (r : List ℕ) (from to : ℕ) (f : Field) → f ≡ field_at r from to → (t a e : ℕ) → f ≡ Whole t a e → (at : ℕ)
-    → Roomy at (to - from) r → Roomy at (3 + (e - a)) r
-constant-room r from to f q t a e g at o =
-    let b = field-bounds r from to f q t a e g in
+pub constant-room : (r : List ℕ) (from to : ℕ) (f : Option Field) → f ≡ field_at r from to → (here : Field) → f ≡ Some here → (at : ℕ)
+    → Roomy at (to - from) r → Roomy at (3 + (here.to - here.from)) r
+constant-room r from to f q here g at o =
+    let b = field-bounds r from to f q here.tag here.from here.to g in
     record { room = omega (arith, o.room, b.starts, b.ordered, b.inside) }
 
-module _ (L : Lookups) (s r : List ℕ) (h : Shape) (from to : ℕ) (f : Field) (q : f ≡ field_at r from to) where
+module _ (L : Lookups) (s r : List ℕ) (h : Shape) (from to : ℕ) (f : Option Field) (q : f ≡ field_at r from to) where
   constant-field : constant_made L s r h from to ≡ records L s r (on h) (constant_of_field r f)
   unfolding constant_made
-  constant-field = ap (λ (y : Field). records L s r (on h) (constant_of_field r y)) (sym q)
+  constant-field = ap (λ (y : Option Field). records L s r (on h) (constant_of_field r y)) (sym q)
 
-  pub constant-cut : f ≡ Cut → (i k : ℕ) (l : List ℕ) (at : ℕ)
-      → Emits stepped_of (at_part i (constant_made L s r h from to)) k l at l (Next at)
+  pub constant-cut : f ≡ None → (i k : ℕ) (l : List ℕ) (at : ℕ)
+      → Emits stepped_of (at_part i (constant_made L s r h from to)) k l at l (Ok at)
   constant-cut g i k l at =
-      let e : constant_made L s r h from to ≡ made nil = constant-field ∙ ap (λ (y : Field). records L s r (on h) (constant_of_field r y)) g in
+      let e : constant_made L s r h from to ≡ made nil = constant-field ∙ ap (λ (y : Option Field). records L s r (on h) (constant_of_field r y)) g in
       writes-none stepped-tells (ap (at_part i) e) refl
 
-  module _ (t a e : ℕ) (g : f ≡ Whole t a e) where
-    constant-value : constant_made L s r h from to ≡ value_made L s r h most_constants t a e
+  module _ (here : Field) (g : f ≡ Some here) where
+    constant-value : constant_made L s r h from to ≡ value_made L s r h most_constants here.tag here.from here.to
     unfolding value_made
-    constant-value = constant-field ∙ ap (λ (y : Field). records L s r (on h) (constant_of_field r y)) g
+    constant-value = constant-field ∙ ap (λ (y : Option Field). records L s r (on h) (constant_of_field r y)) g
 
-    module _ (l : List ℕ) (at : ℕ) (l' : List ℕ) (y : Wrote)
-        (u : Emits wrote_of (value_made L s r h most_constants t a e) (bytes_most (3 + (e - a))) l at l' y) where
-      constant-next : (n : ℕ) → y ≡ Wrote-next n → (i : ℕ)
-          → Emits stepped_of (at_part i (constant_made L s r h from to)) (bytes_most (to - from)) l at l' (Next n)
+    module _ (l : List ℕ) (at : ℕ) (l' : List ℕ) (y : Result ℕ Refusal)
+        (u : Emits wrote_of (value_made L s r h most_constants here.tag here.from here.to) (bytes_most (3 + (here.to - here.from))) l at l' y) where
+      constant-next : (n : ℕ) → y ≡ Ok n → (i : ℕ)
+          → Emits stepped_of (at_part i (constant_made L s r h from to)) (bytes_most (to - from)) l at l' (Ok n)
       constant-next n z i =
-          let x = emits-next wrote-tells (value_made L s r h most_constants t a e) n u z in
-          let b = field-bounds r from to f q t a e g in
+          let x = emits-next wrote-tells (value_made L s r h most_constants here.tag here.from here.to) n u z in
+          let b = field-bounds r from to f q here g in
           emits-laid stepped-tells x.recs n x.laid (ap (at_part i) (constant-value ∙ x.is))
           (omega (arith, x.few, b.starts, b.ordered, b.inside)) refl
 
-      constant-refused : (w : Refusal) → y ≡ Wrote-refused w → (i : ℕ)
-          → Emits stepped_of (at_part i (constant_made L s r h from to)) (bytes_most (to - from)) l at l' (Refused (fault_at i w))
+      constant-refused : (w : Refusal) → y ≡ Err w → (i : ℕ)
+          → Emits stepped_of (at_part i (constant_made L s r h from to)) (bytes_most (to - from)) l at l' (Err (fault_at i w))
       constant-refused w z i =
           refuses stepped-tells (fault_at i w)
-          (ap (at_part i) (constant-value ∙ emits-refused wrote-tells (value_made L s r h most_constants t a e) w u z)) refl
+          (ap (at_part i) (constant-value ∙ emits-refused wrote-tells (value_made L s r h most_constants here.tag here.from here.to) w u z)) refl
 
-      pub constant-last : (i : ℕ) (z : Stepped) → z ≡ stepped_by i y
+      pub constant-last : (i : ℕ) (z : Result ℕ Fault) → z ≡ stepped_by i y
           → Emits stepped_of (at_part i (constant_made L s r h from to)) (bytes_most (to - from)) l at l' z
       constant-last i z o = rw o (go y refl)
         where
-          go : (x : Wrote) → y ≡ x
+          go : (x : Result ℕ Refusal) → y ≡ x
               → Emits stepped_of (at_part i (constant_made L s r h from to)) (bytes_most (to - from)) l at l' (stepped_by i x)
-          go (Wrote-next n) k = constant-next n k i
-          go (Wrote-refused w) k = constant-refused w k i
+          go (Ok n) k = constant-next n k i
+          go (Err w) k = constant-refused w k i
 
 pub ruleset constant-laws = (constant-cut, constant-room, constant-last, field-ordered, field-within)
 
@@ -108,16 +103,16 @@ pub ruleset put-inside-laws = (inside-laws, stepped-tells, inside-falls)
 module _ (L : Lookups) (s r scope n : List ℕ) (c : LookupScope) (from to : ℕ) (v : Reach)
     (q : v ≡ reach_of L s r scope (message n c) from to) where
   pub option-fails : (w : Refusal) → v ≡ Fails w → (i k : ℕ) (l : List ℕ) (at : ℕ)
-      → Emits stepped_of (option_made L s r scope i (message n c) from to) k l at l (Refused (fault_at i w))
+      → Emits stepped_of (option_made L s r scope i (message n c) from to) k l at l (Err (fault_at i w))
   option-fails w g i k l at =
       refuses stepped-tells (fault_at i w) (option-of L s r scope i (message n c) from to (Fails w) (sym g ∙ q)) refl
 
   pub option-nothing : v ≡ Nothing → (i k : ℕ) (l : List ℕ) (at : ℕ)
-      → Emits stepped_of (option_made L s r scope i (message n c) from to) k l at l (Next at)
+      → Emits stepped_of (option_made L s r scope i (message n c) from to) k l at l (Ok at)
   option-nothing g i k l at =
       writes-none stepped-tells (option-of L s r scope i (message n c) from to Nothing (sym g ∙ q)) refl
 
-  module _ (j : Led s r from to v) (h : Shape) (x : ℕ) (i : ℕ) (l : List ℕ) (at : ℕ) (l' : List ℕ) (y : Stepped) where
+  module _ (j : Led s r from to v) (h : Shape) (x : ℕ) (i : ℕ) (l : List ℕ) (at : ℕ) (l' : List ℕ) (y : Result ℕ Fault) where
     pub option-constant : v ≡ Constant h x
         → Emits stepped_of (at_part i (constant_made L s r h x to)) (bytes_most (to - x)) l at l' y
         → Emits stepped_of (option_made L s r scope i (message n c) from to) (bytes_most (to - from)) l at l' y

@@ -1,6 +1,6 @@
 -- One option: the ways through `settled_built`, `settle_named`, `settle` and `put_set`, over any look-ups.
 -- Assumes nothing.
-use Rattle.std.specs.Prelude.{◌≡◌, refl, Bool, true, false, List, [], ◌∷◌, ℕ, ◌+◌, ◌-◌, ◌≤◌, length, Option, None, Some}
+use Rattle.std.specs.Prelude.{◌≡◌, refl, Bool, true, false, List, [], ◌∷◌, ℕ, ◌+◌, ◌-◌, ◌≤◌, length, Option, None, Some, Err, Ok, Result}
 use Rattle.basis.specs.Kit.{sym, ap, ◌∙◌, sets}
 use Rattle.basis.specs.First.{only_if}
 use Rattle.basis.proofs.Kit.{arith}
@@ -14,8 +14,6 @@ use Rattle.field.specs.Leaf.{text}
 use Rattle.field.specs.Walk.{walk}
 use Rattle.sheet.specs.declared.declaration.Shape.{Shape}
 use Rattle.request.specs.declared.name.Part.{Part}
-use Rattle.request.specs.declared.name.Parted.{Parted}
-use Rattle.request.specs.declared.name.Parted.TheVariants.{Is, NoPart}
 use Rattle.request.specs.Name.{part_at, parts_in, after_parts}
 use Rattle.request.specs.Request.{option_of}
 use Rattle.request.proofs.PartLaws.{parts-nil, parts-cons, after-parts-here, after-parts-next, part-ordered, part-inside, part-within}
@@ -28,8 +26,6 @@ use Rattle.records.specs.inner.Emits.{Emits, Roomy}
 use Rattle.records.proofs.EmitsLaws.{Tells, emits-next, emits-refused, emits-laid, refuses}
 use Rattle.lookups.specs.Lookups.{Lookups}
 use Rattle.faults.specs.declared.Fault.{Fault}
-use Rattle.faults.specs.declared.Stepped.{Stepped}
-use Rattle.faults.specs.declared.Stepped.TheVariants.{Next, Refused}
 use Rattle.options.specs.inner.Written.{constant_at, stepped_of, option_made, Steppable}
 use Rattle.options.proofs.settle.PutLaws.{stepped-tells}
 use Rattle.builtins.specs.declared.Built.{Built}
@@ -81,13 +77,13 @@ settling-tells i n = record {
   apart = λ k w e. never cc;
 }
 
-module _ (m : Made Fault) (k : ℕ) (l : List ℕ) (at : ℕ) (l' : List ℕ) (y : Stepped) (u : Emits stepped_of m k l at l' y) (i : ℕ) where
-  pub named-next : (n : ℕ) → y ≡ Next n → Emits (settling_of i 0) m k l at l' (Gives 0 n)
+module _ (m : Made Fault) (k : ℕ) (l : List ℕ) (at : ℕ) (l' : List ℕ) (y : Result ℕ Fault) (u : Emits stepped_of m k l at l' y) (i : ℕ) where
+  pub named-next : (n : ℕ) → y ≡ Ok n → Emits (settling_of i 0) m k l at l' (Gives 0 n)
   named-next n g =
       let x = emits-next stepped-tells m n u g in
       emits-laid (settling-tells i 0) x.recs n x.laid x.is x.few refl
 
-  pub named-refused : (f : Fault) → y ≡ Refused f → (z : Cause) → z ≡ cause_at i f → Emits (settling_of i 0) m k l at l' (Fails z)
+  pub named-refused : (f : Fault) → y ≡ Err f → (z : Cause) → z ≡ cause_at i f → Emits (settling_of i 0) m k l at l' (Fails z)
   named-refused f g z e = rw e (refuses (settling-tells i 0) f (emits-refused stepped-tells m f u g) refl)
 
 module _ (s r : List ℕ) (h : Start) (option from to at : ℕ) (k : Settleable s r h option from to at) where
@@ -146,37 +142,37 @@ pub ruleset settle-named-laws = (named-next, named-refused, start-laws)
 
 -- ---- what `builtin_part` says of the option: a part alone, or another name
 pub record Alone (r : List ℕ) (from to : ℕ) (p : Part) : Type 0 where
-  pub is : part_at r from to ≡ Is p
-  pub last : part_at r p.name.to to ≡ NoPart
+  pub is : part_at r from to ≡ Some p
+  pub last : part_at r p.name.to to ≡ None
 
-one-whole : (o p : Part) → parted (builtin_part (o ∷ [])) ≡ Is p → o ≡ p
+one-whole : (o p : Part) → parted (builtin_part (o ∷ [])) ≡ Some p → o ≡ p
 one-whole o p = go o.extension
   where
-    go : (b : Bool) → parted (only_if b None (Some o)) ≡ Is p → o ≡ p
+    go : (b : Bool) → parted (only_if b None (Some o)) ≡ Some p → o ≡ p
     go true e = never cc
     go false e = cc
 
 module _ (r : List ℕ) (from to : ℕ) (p : Part) where
-  alone-after : (o : Part) → part_at r from to ≡ Is o → (u : Parted) → part_at r o.name.to to ≡ u
-      → parted (builtin_part (o ∷ parts_in (walk r o.name.to to))) ≡ Is p → Alone r from to p
-  alone-after o e NoPart z t =
-      let c = ap (λ (ps : List Part). parted (builtin_part (o ∷ ps))) (parts-nil r o.name.to to NoPart (sym z) refl) in
+  alone-after : (o : Part) → part_at r from to ≡ Some o → (u : Option Part) → part_at r o.name.to to ≡ u
+      → parted (builtin_part (o ∷ parts_in (walk r o.name.to to))) ≡ Some p → Alone r from to p
+  alone-after o e None z t =
+      let c = ap (λ (ps : List Part). parted (builtin_part (o ∷ ps))) (parts-nil r o.name.to to None (sym z) refl) in
       subst (Alone r from to) (one-whole o p (sym c ∙ t)) (record { is = e; last = z })
-  alone-after o e (Is x) z t =
-      let c = ap (λ (ps : List Part). parted (builtin_part (o ∷ ps))) (parts-cons r o.name.to to (Is x) (sym z) x refl) in
-      let y : NoPart ≡ Is p = sym c ∙ t in
+  alone-after o e (Some x) z t =
+      let c = ap (λ (ps : List Part). parted (builtin_part (o ∷ ps))) (parts-cons r o.name.to to (Some x) (sym z) x refl) in
+      let y : None ≡ Some p = sym c ∙ t in
       never cc
 
-  alone-from : (u : Parted) → part_at r from to ≡ u → parted (builtin_part (parts_in (walk r from to))) ≡ Is p → Alone r from to p
-  alone-from NoPart e t =
-      let c = ap (λ (ps : List Part). parted (builtin_part ps)) (parts-nil r from to NoPart (sym e) refl) in
-      let y : NoPart ≡ Is p = sym c ∙ t in
+  alone-from : (u : Option Part) → part_at r from to ≡ u → parted (builtin_part (parts_in (walk r from to))) ≡ Some p → Alone r from to p
+  alone-from None e t =
+      let c = ap (λ (ps : List Part). parted (builtin_part ps)) (parts-nil r from to None (sym e) refl) in
+      let y : None ≡ Some p = sym c ∙ t in
       never cc
-  alone-from (Is o) e t =
-      let c = ap (λ (ps : List Part). parted (builtin_part ps)) (parts-cons r from to (Is o) (sym e) o refl) in
+  alone-from (Some o) e t =
+      let c = ap (λ (ps : List Part). parted (builtin_part ps)) (parts-cons r from to (Some o) (sym e) o refl) in
       alone-after o e (part_at r o.name.to to) refl (sym c ∙ t)
 
-alone : (r : List ℕ) (from to : ℕ) (v : Parted) → v ≡ parted (builtin_part (parts_in (walk r from to))) → (p : Part) → v ≡ Is p → Alone r from to p
+alone : (r : List ℕ) (from to : ℕ) (v : Option Part) → v ≡ parted (builtin_part (parts_in (walk r from to))) → (p : Part) → v ≡ Some p → Alone r from to p
 alone r from to v q p g = alone-from r from to p (part_at r from to) refl (sym q ∙ g)
 
 -- ---- what the option comes to then
@@ -192,38 +188,38 @@ nothing-set : (m : Made Fault) → set_recs (settled m) ≡ nil
 nothing-set (made x) = refl
 nothing-set (wrong f) = refl
 
-of_none : (o : Option Part) → parted o ≡ NoPart → o ≡ None
+of_none : (o : Option Part) → parted o ≡ None → o ≡ None
 of_none None e = refl
 of_none (Some p) e = never cc
 
-of_some : (o : Option Part) (p : Part) → parted o ≡ Is p → o ≡ Some p
+of_some : (o : Option Part) (p : Part) → parted o ≡ Some p → o ≡ Some p
 of_some None p e = never cc
 of_some (Some x) p e = let y : x ≡ p = cc in ap Some y
 
-module _ (L : Lookups) (s r : List ℕ) (h : Start) (from to : ℕ) (v : Parted) (q : v ≡ parted (builtin_part (parts_in (walk r from to)))) where
-  named-settled : v ≡ NoPart → settled_at L s r h from to ≡ settled (option_made L s r (text r h.scope) 0 (message_of r h) from to)
+module _ (L : Lookups) (s r : List ℕ) (h : Start) (from to : ℕ) (v : Option Part) (q : v ≡ parted (builtin_part (parts_in (walk r from to)))) where
+  named-settled : v ≡ None → settled_at L s r h from to ≡ settled (option_made L s r (text r h.scope) 0 (message_of r h) from to)
   unfolding settled_at settle option_of option_made
   named-settled g = rw (of_none (builtin_part (parts_in (walk r from to))) (sym q ∙ g)) refl
 
-  pub settle-named : v ≡ NoPart → (i k : ℕ) (l : List ℕ) (at : ℕ) (l' : List ℕ) (y : Settling)
+  pub settle-named : v ≡ None → (i k : ℕ) (l : List ℕ) (at : ℕ) (l' : List ℕ) (y : Settling)
       → Emits (settling_of i 0) (option_made L s r (text r h.scope) 0 (message_of r h) from to) k l at l' y
       → Emits (settling_of i (note_in (settled_at L s r h from to))) (others_of (settled_at L s r h from to)) k l at l' y
   settle-named g i k l at l' y u =
       let m = option_made L s r (text r h.scope) 0 (message_of r h) from to in
       rw (named-settled g, no_note m, as-made m) u
 
-  pub set-named : v ≡ NoPart → (l : List ℕ) (at : ℕ) → Laid l at (encode (set_recs (settled_at L s r h from to))) l at
+  pub set-named : v ≡ None → (l : List ℕ) (at : ℕ) → Laid l at (encode (set_recs (settled_at L s r h from to))) l at
   unfolding encode
   set-named g l at =
       let m = option_made L s r (text r h.scope) 0 (message_of r h) from to in
       rw (named-settled g, nothing-set m) (record { next = sym (add-zero at); left = refl })
 
-  module _ (p : Part) (g : v ≡ Is p) (b : Built)
+  module _ (p : Part) (g : v ≡ Some p) (b : Built)
       (e : b ≡ builtin_of L s r (message_of r h) (text r p.name) (constant_at r p.name.to to)) where
     ends : after_parts from (walk r from to) ≡ p.name.to
     ends =
         let a = alone r from to v q p g in
-        after-parts-next r from to (Is p) (sym a.is) p refl ∙ after-parts-here r p.name.to to NoPart (sym a.last) refl
+        after-parts-next r from to (Some p) (sym a.is) p refl ∙ after-parts-here r p.name.to to None (sym a.last) refl
 
     built-settled : settled_at L s r h from to ≡ settled_built r b
     unfolding settled_at settle option_of
@@ -253,20 +249,20 @@ module _ (L : Lookups) (s r : List ℕ) (h : Start) (from to : ℕ) (v : Parted)
         same (Wrong w) = refl
 
 -- ---- what is asked where a part stands alone
-module _ (r : List ℕ) (from to : ℕ) (v : Parted) (q : v ≡ parted (builtin_part (parts_in (walk r from to)))) (p : Part) (g : v ≡ Is p) where
+module _ (r : List ℕ) (from to : ℕ) (v : Option Part) (q : v ≡ parted (builtin_part (parts_in (walk r from to)))) (p : Part) (g : v ≡ Some p) where
   pub alone-ordered : p.name.from ≤ p.name.to
-  alone-ordered = part-ordered r from to (Is p) (sym (alone r from to v q p g).is) p refl
+  alone-ordered = part-ordered r from to (Some p) (sym (alone r from to v q p g).is) p refl
 
   pub alone-inside : p.name.to ≤ to
-  alone-inside = part-inside r from to (Is p) (sym (alone r from to v q p g).is) p refl
+  alone-inside = part-inside r from to (Some p) (sym (alone r from to v q p g).is) p refl
 
   pub alone-within : to ≤ length r → p.name.to ≤ length r
-  alone-within = part-within r from to (Is p) (sym (alone r from to v q p g).is) p refl
+  alone-within = part-within r from to (Some p) (sym (alone r from to v q p g).is) p refl
 
   pub alone-last : OptionParts r from to → LastConstant r p.name.to to
   alone-last o =
       let a = alone r from to v q p g in
-      fine-part-last _ r p.name.to to (fine-part-next _ r from to o (Is p) (sym a.is) p refl) NoPart (sym a.last) refl
+      fine-part-last _ r p.name.to to (fine-part-next _ r from to o (Some p) (sym a.is) p refl) None (sym a.last) refl
 
 pub ruleset settle-laws = (settleable-laws, settle-named, settle-built, alone-ordered, alone-inside, alone-within, alone-last)
 

@@ -12,13 +12,12 @@
 --                                    l, from `at` on, the notes ns are those of the known builtins, and all have at most k bytes
 --
 -- Assumes nothing.
-use Rattle.std.specs.Prelude.{◌≡◌, List, [], ◌∷◌, ℕ, ◌+◌, ◌≤◌, eqb, length, get_or}
+use Rattle.std.specs.Prelude.{◌≡◌, List, [], ◌∷◌, ℕ, ◌+◌, ◌≤◌, eqb, length, get_or, Ok}
 use Rattle.std.proofs.Math.ListN.{get_elem?}
 use Rattle.basis.specs.First.{only_if, told}
 use Rattle.limits.specs.Figures.{most_options}
 use Rattle.octets.specs.inner.Laid.{Laid}
 use Rattle.reply.specs.declared.Refusal.TheVariants.{BadRequest}
-use Rattle.reply.specs.declared.Verdict.TheVariants.{Fine}
 use Rattle.field.specs.Leaf.{text}
 use Rattle.field.specs.Walk.{walk}
 use Rattle.form.specs.Each.{each_from}
@@ -62,7 +61,7 @@ module _ (L : Lookups) (s r : List ℕ) (h : Start) where
 
 pub record FineFrom (r : List ℕ) (h : Start) : Type 0 where
   pub inside : h.options ≤ length r
-  pub fine : each_from BadRequest (judge_option r) 0 (walk r h.options (length r)) ≡ Fine
+  pub fine : each_from BadRequest (judge_option r) 0 (walk r h.options (length r)) ≡ Ok tt
 
 pub data Gathers (made : ℕ → Recs) (k : ℕ) : Gathered → (at : ℕ) (l l' ns : List ℕ) → Settling → Type 0 where
   gives : {ks : List Known} {x : Recs} {at n next : ℕ} {l l' ns : List ℕ} → Laid l at (encode x) l' next → Noted made ns n ks

@@ -9,7 +9,7 @@
 --   Measures s r o ns v <-> v was answered of what the request comes to, o
 --
 -- Assumes nothing.
-use Rattle.std.specs.Prelude.{◌≡◌, List, ℕ, ◌≤◌, length}
+use Rattle.std.specs.Prelude.{◌≡◌, List, ℕ, ◌≤◌, length, Err, None, Some, Ok, Option, Result}
 use Rattle.limits.specs.Figures.{most_options}
 use Rattle.records.specs.Records.{Recs, nil, append, encode}
 use Rattle.records.specs.inner.Emits.{bytes_most}
@@ -23,11 +23,7 @@ use Rattle.options.specs.declared.settle.Settling.TheVariants.{Gives, Fails}
 use Rattle.options.specs.inner.Settling.{Started}
 use Rattle.options.specs.Options.{Gathered, gathered, stopped}
 use Rattle.options.specs.inner.Gathering.{gathered_by, made_at, FineFrom}
-use Rattle.options.specs.declared.measure.Opening.{Opening}
-use Rattle.options.specs.declared.measure.Opening.TheVariants as opening
 use Rattle.options.specs.declared.measure.Measured.{Measured}
-use Rattle.options.specs.declared.measure.Measure.{Measure}
-use Rattle.options.specs.declared.measure.Measure.TheVariants as measure
 use Rattle.options.specs.Steps.{Steps, absent, refused, steps_in, steps_of}
 
 abbrev pub rest_of : Gathered → Recs
@@ -43,10 +39,10 @@ pub record Open (s r : List ℕ) (h : Start) : Type 0 where
   pub started : Started s r h
   pub fine : FineFrom r h
 
-pub data Opens (s r : List ℕ) : Opening → Type 0 where
-  at : {h : Start} → Open s r h → Opens s r (opening.At h)
-  none : steps_of (walking s) s r ≡ absent → Opens s r opening.Absent
-  lost : {e : Cause} → steps_of (walking s) s r ≡ refused e → Opens s r (opening.Refused e)
+pub data Opens (s r : List ℕ) : Result (Option Start) Cause → Type 0 where
+  at : {h : Start} → Open s r h → Opens s r (Ok (Some h))
+  none : steps_of (walking s) s r ≡ absent → Opens s r (Ok None)
+  lost : {e : Cause} → steps_of (walking s) s r ≡ refused e → Opens s r (Err e)
 
 pub record Counted (s r ns : List ℕ) (h : Start) (n : ℕ) : Type 0 where
   pub knowns : List Known
@@ -68,7 +64,7 @@ pub record Ready (s r ns : List ℕ) (m : Measured) : Type 0 where
   pub fine : FineFrom r m.start
   pub length-is : m.length ≡ length (encode (append (known_recs counted.knowns) counted.rest))
 
-pub data Measures (s r : List ℕ) : Steps → (ns : List ℕ) → Measure → Type 0 where
-  fine : {ns : List ℕ} {m : Measured} → Ready s r ns m → Measures s r (steps_in (gathered_by (walking s) s r m.start)) ns (measure.Fine m)
-  none : {ns : List ℕ} → Measures s r absent ns measure.Absent
-  refuses : {ns : List ℕ} {e : Cause} → Measures s r (refused e) ns (measure.Refused e)
+pub data Measures (s r : List ℕ) : Steps → (ns : List ℕ) → Result (Option Measured) Cause → Type 0 where
+  fine : {ns : List ℕ} {m : Measured} → Ready s r ns m → Measures s r (steps_in (gathered_by (walking s) s r m.start)) ns (Ok (Some m))
+  none : {ns : List ℕ} → Measures s r absent ns (Ok None)
+  refuses : {ns : List ℕ} {e : Cause} → Measures s r (refused e) ns (Err e)

@@ -12,15 +12,13 @@
 --   Settleable s r h i a e at <-> the i-th option, whose payload is from a to e, can be settled, and its records written from `at` on
 --
 -- Assumes nothing.
-use Rattle.std.specs.Prelude.{◌≡◌, true, List, ℕ, ◌+◌, ◌-◌, ◌≤◌, length, Option}
+use Rattle.std.specs.Prelude.{◌≡◌, true, List, ℕ, ◌+◌, ◌-◌, ◌≤◌, length, Option, Some, None}
 use Rattle.basis.specs.First.{told}
 use Rattle.limits.specs.Figures.{most_options, most_request}
 use Rattle.path.specs.Path.{is_rel_or_empty}
 use Rattle.field.specs.Leaf.{text, Lies}
 use Rattle.scope.specs.inner.Answers.{InSheet}
 use Rattle.request.specs.declared.name.Part.{Part}
-use Rattle.request.specs.declared.name.Parted.{Parted}
-use Rattle.request.specs.declared.name.Parted.TheVariants.{Is, NoPart}
 use Rattle.request.specs.Request.{option_of}
 use Rattle.optionform.specs.inner.Parts.{OptionParts}
 use Rattle.records.specs.Records.{Recs, nil, encode}
@@ -41,8 +39,8 @@ message_of r h = record { name = text r h.options_type; place = h.place }
 unfoldable pub settled_at : (L : Lookups) (s r : List ℕ) → Start → (from to : ℕ) → Settled
 settled_at L s r h a e = settle L s r (text r h.scope) (message_of r h) (option_of r a e)
 
-abbrev pub parted : Option Part → Parted
-parted = told NoPart Is
+abbrev pub parted : Option Part → Option Part
+parted = told None Some
 
 abbrev pub others_of : Settled → Made Fault
 others_of (known k) = made nil

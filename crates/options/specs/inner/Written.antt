@@ -8,7 +8,7 @@
 --                                   is a path or empty, and the place p of the message reached lies in the sheet s
 --
 -- Assumes nothing.
-use Rattle.std.specs.Prelude.{◌≡◌, true, List, ℕ, ◌+◌, ◌-◌, ◌^◌, ◌≤◌, ◌<◌, length}
+use Rattle.std.specs.Prelude.{◌≡◌, true, List, ℕ, ◌+◌, ◌-◌, ◌^◌, ◌≤◌, ◌<◌, length, Err, Ok, Result}
 use Rattle.reply.specs.declared.Refusal.{Refusal}
 use Rattle.path.specs.Path.{is_rel_or_empty}
 use Rattle.field.specs.Field.{field_at}
@@ -25,13 +25,11 @@ use Rattle.records.specs.Made.{Made, made, wrong}
 use Rattle.lookups.specs.Lookups.{Lookups, Message}
 use Rattle.values.specs.Values.{on, records}
 use Rattle.faults.specs.declared.Fault.{Fault}
-use Rattle.faults.specs.declared.Stepped.{Stepped}
-use Rattle.faults.specs.declared.Stepped.TheVariants.{Next, Refused}
 use Rattle.options.specs.Named.{option_from}
 
-unfoldable pub stepped_of : (at : ℕ) → Made Fault → Stepped
-stepped_of at (made x) = Next (at + length (encode x))
-stepped_of at (wrong f) = Refused f
+unfoldable pub stepped_of : (at : ℕ) → Made Fault → Result ℕ Fault
+stepped_of at (made x) = Ok (at + length (encode x))
+stepped_of at (wrong f) = Err f
 
 abbrev pub constant_at : (r : List ℕ) (at end : ℕ) → Constants
 constant_at r at end = constant_of_field r (field_at r at end)

@@ -7,48 +7,44 @@
 --   member_flaw s w k ns l == what is amiss with a member of the name l, where there is one, among the names ns
 --
 -- Assumes nothing.
-use Rattle.std.specs.Prelude.{true, false, List, [], ◌∷◌, ℕ, eqb}
+use Rattle.std.specs.Prelude.{true, false, List, [], ◌∷◌, ℕ, eqb, None, Some, Option}
 use Rattle.basis.specs.First.{only_if}
 use Rattle.basis.specs.Count.{once}
-use Rattle.field.specs.declared.Leaf.{Leaf}
-use Rattle.field.specs.declared.Leaf.TheVariants.{At, Not}
 use Rattle.field.specs.declared.Span.{Span}
 use Rattle.field.specs.Leaf.{span, text, is_text}
 use Rattle.field.specs.Walk.{Walk, done, cut, step}
-use Rattle.sheet.specs.declared.declaration.Declared.{Declared}
-use Rattle.sheet.specs.declared.declaration.Declared.TheVariants.{Declares, NoDeclaration}
-use Rattle.sheet.specs.declared.declaration.Valued.{Valued}
-use Rattle.sheet.specs.declared.declaration.Valued.TheVariants.{Values, NoValue}
 use Rattle.sheet.specs.Table.{field_tag}
 use Rattle.sheet.specs.Declaration.{message_field_at, value_at}
 use Rattle.reasons.specs.declared.Why.{Why}
 use Rattle.reasons.specs.declared.Reason.{Reason}
 use Rattle.reasons.specs.declared.Reason.TheVariants.{Yes}
 use Rattle.reasons.specs.Reasons.{or_no}
+use Rattle.sheet.specs.declared.declaration.Declaration.{Declaration}
+use Rattle.sheet.specs.declared.declaration.Value.{Value}
 
-abbrev pub field_name : Declared → Leaf
-field_name NoDeclaration = Not
-field_name (Declares d) = At d.name.from d.name.to
+abbrev pub field_name : Option Declaration → Option Span
+field_name None = None
+field_name (Some d) = Some (span d.name.from d.name.to)
 
-abbrev pub value_name : Valued → Leaf
-value_name NoValue = Not
-value_name (Values v) = At v.name.from v.name.to
+abbrev pub value_name : Option Value → Option Span
+value_name None = None
+value_name (Some v) = Some (span v.name.from v.name.to)
 
-unfoldable pub member_at : (want : ℕ) (s : List ℕ) (tag from to : ℕ) → Leaf
+unfoldable pub member_at : (want : ℕ) (s : List ℕ) (tag from to : ℕ) → Option Span
 member_at k s t a e = elim (eqb t k) [
   | true ↦ only_if (eqb k field_tag) (field_name (message_field_at s a e)) (value_name (value_at s a e))
-  | false ↦ Not
+  | false ↦ None
 ]
 
-abbrev pub leaf_onto : Leaf → List Span → List Span
-leaf_onto Not ns = ns
-leaf_onto (At a e) ns = span a e ∷ ns
+abbrev pub leaf_onto : Option Span → List Span → List Span
+leaf_onto None ns = ns
+leaf_onto (Some p) ns = span p.from p.to ∷ ns
 
 abbrev pub members_in : (want : ℕ) (s : List ℕ) → Walk → List Span
 members_in k s done = []
 members_in k s cut = []
 members_in k s (step t a e w) = leaf_onto (member_at k s t a e) (members_in k s w)
 
-unfoldable pub member_flaw : (s : List ℕ) → Why → (index : ℕ) → List Span → Leaf → Reason
-member_flaw s w k ns Not = Yes
-member_flaw s w k ns (At a e) = or_no (once (is_text s (text s (span a e))) ns) w k (span a e)
+unfoldable pub member_flaw : (s : List ℕ) → Why → (index : ℕ) → List Span → Option Span → Reason
+member_flaw s w k ns None = Yes
+member_flaw s w k ns (Some l) = or_no (once (is_text s (text s (span l.from l.to))) ns) w k (span l.from l.to)

@@ -8,14 +8,12 @@
 --             Roomy at n r <-> what n bytes of the request r come to, from `at` on, is far from the largest numbers
 --
 -- Assumes nothing.
-use Rattle.std.specs.Prelude.{◌≡◌, List, ℕ, ◌+◌, ◌*◌, ◌^◌, ◌≤◌, ◌<◌, length}
+use Rattle.std.specs.Prelude.{◌≡◌, List, ℕ, ◌+◌, ◌*◌, ◌^◌, ◌≤◌, ◌<◌, length, Err, Ok, Result}
 use Rattle.basis.specs.Kit.{sets}
 use Rattle.reply.specs.declared.Refusal.{Refusal}
 use Rattle.field.specs.Leaf.{Lies}
 use Rattle.records.specs.declared.Body.{Body}
 use Rattle.records.specs.declared.Body.TheVariants.{Bits, Bytes}
-use Rattle.records.specs.declared.Wrote.{Wrote}
-use Rattle.records.specs.declared.Wrote.TheVariants.{Next, Refused}
 use Rattle.records.specs.Records.{Recs, encode}
 use Rattle.records.specs.Made.{Made, made, wrong}
 
@@ -27,9 +25,9 @@ InBody (Bytes p) r = Lies p r
 abbrev pub bytes_most : ℕ → ℕ
 bytes_most n = 7 * n
 
-unfoldable pub wrote_of : (at : ℕ) → Made Refusal → Wrote
-wrote_of at (made x) = Next (at + length (encode x))
-wrote_of at (wrong w) = Refused w
+unfoldable pub wrote_of : (at : ℕ) → Made Refusal → Result ℕ Refusal
+wrote_of at (made x) = Ok (at + length (encode x))
+wrote_of at (wrong w) = Err w
 
 pub record Emits {W A : Type 0} (answers : ℕ → Made W → A) (m : Made W) (k : ℕ) (l : List ℕ) (at : ℕ) (l' : List ℕ) (r : A) : Type 0 where
   pub answer : r ≡ answers at m

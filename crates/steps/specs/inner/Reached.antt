@@ -9,7 +9,7 @@
 --   Led s r a e v <-> what the part at a place leads to, v, stands further on, and lies in the sheet s and the request r
 --
 -- Assumes nothing.
-use Rattle.std.specs.Prelude.{◌≡◌, true, false, List, ℕ, ◌+◌, ◌≤◌, eqb}
+use Rattle.std.specs.Prelude.{◌≡◌, true, false, List, ℕ, ◌+◌, ◌≤◌, eqb, Err, None, Some, Ok, Option, Result}
 use Rattle.reply.specs.declared.Refusal.TheVariants.{ExtensionIsNotMessage}
 use Rattle.field.specs.Leaf.{text, Lies}
 use Rattle.types.specs.Types.{TYPE_GROUP, TYPE_MESSAGE}
@@ -17,25 +17,22 @@ use Rattle.sheet.specs.declared.declaration.Declaration.{Declaration}
 use Rattle.sheet.specs.declared.declaration.Shape.{Shape}
 use Rattle.scope.specs.declared.lookup.LookupScope.{LookupScope}
 use Rattle.scope.specs.inner.Answers.{InSheet}
-use Rattle.fullname.specs.declared.LookedUp.{LookedUp}
-use Rattle.fullname.specs.declared.LookedUp.TheVariants.{Message as Is, NoMessage}
-use Rattle.request.specs.declared.name.Parted.{Parted}
-use Rattle.request.specs.declared.name.Parted.TheVariants.{Is as IsPart, NoPart}
 use Rattle.request.specs.Name.{part_at}
 use Rattle.optionform.specs.inner.Parts.{OptionParts}
 use Rattle.lookups.specs.Lookups.{Lookups, Message}
-use Rattle.steps.specs.declared.Step.{Step}
-use Rattle.steps.specs.declared.Step.TheVariants.{Found, NotFound}
 use Rattle.steps.specs.declared.Reach.{Reach}
 use Rattle.steps.specs.declared.Reach.TheVariants.{Constant, Inside, Nothing, Fails}
 use Rattle.steps.specs.Steps.{why_of, step_of}
+use Rattle.reply.specs.declared.Refusal.{Refusal}
+use Rattle.request.specs.declared.name.Part.{Part}
+use Rattle.steps.specs.declared.Lack.{Lack}
 
 abbrev pub message : (name : List ℕ) → LookupScope → Message
 message n p = record { name = n; place = p }
 
-abbrev pub entered : Shape → (from : ℕ) → LookedUp → Reach
-entered h at (NoMessage w) = Fails w
-entered h at (Is p) = Inside h p at
+abbrev pub entered : Shape → (from : ℕ) → Result LookupScope Refusal → Reach
+entered h at (Err w) = Fails w
+entered h at (Ok p) = Inside h p at
 
 module _ (L : Lookups) (s : List ℕ) where
   unfoldable pub left_on : Shape → (from : ℕ) → Reach
@@ -44,28 +41,28 @@ module _ (L : Lookups) (s : List ℕ) where
     | false ↦ elim (eqb h.typ TYPE_GROUP) [ true ↦ Nothing | false ↦ Fails ExtensionIsNotMessage ]
   ]
 
-  abbrev pub followed : Shape → (from : ℕ) → (next : Parted) → Reach
-  followed h at NoPart = Constant h at
-  followed h at (IsPart p) = left_on h at
+  abbrev pub followed : Shape → (from : ℕ) → (next : Option Part) → Reach
+  followed h at None = Constant h at
+  followed h at (Some p) = left_on h at
 
 module _ (L : Lookups) (s r : List ℕ) where
   unfoldable pub behind : Shape → (from to : ℕ) → Reach
   behind h at end = followed L s h at (part_at r at end)
 
-  abbrev pub stepped : (from to : ℕ) → Step → Reach
-  stepped at end (NotFound l) = Fails (why_of l)
-  stepped at end (Found d) = behind d.shape at end
+  abbrev pub stepped : (from to : ℕ) → Result Declaration Lack → Reach
+  stepped at end (Err l) = Fails (why_of l)
+  stepped at end (Ok d) = behind d.shape at end
 
 module _ (L : Lookups) (s r scope : List ℕ) where
-  abbrev pub first_part : Message → (to : ℕ) → Parted → Reach
-  first_part m end NoPart = Nothing
-  first_part m end (IsPart p) = stepped L s r p.name.to end (step_of L s r scope m p)
+  abbrev pub first_part : Message → (to : ℕ) → Option Part → Reach
+  first_part m end None = Nothing
+  first_part m end (Some p) = stepped L s r p.name.to end (step_of L s r scope m p)
 
   unfoldable pub reach_of : Message → (from to : ℕ) → Reach
   reach_of m from to = first_part m to (part_at r from to)
 
-pub record StepLies (s : List ℕ) (v : Step) : Type 0 where
-  pub lies : (d : Declaration) → v ≡ Found d → Lies d.shape.path s
+pub record StepLies (s : List ℕ) (v : Result Declaration Lack) : Type 0 where
+  pub lies : (d : Declaration) → v ≡ Ok d → Lies d.shape.path s
 
 -- what stands behind a part: its header has three bytes
 pub record Behind (s : List ℕ) (from to : ℕ) (h : Shape) (at : ℕ) : Type 0 where

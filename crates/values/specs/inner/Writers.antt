@@ -11,7 +11,7 @@
 --    message_made h d a e == a message constant on a field of the shape h
 --
 -- Assumes nothing.
-use Rattle.std.specs.Prelude.{true, false, List, ℕ, zero, suc, ◌+◌, ◌-◌, eqb}
+use Rattle.std.specs.Prelude.{true, false, List, ℕ, zero, suc, ◌+◌, ◌-◌, eqb, Err, None, Some, Ok, Option, Result}
 use Rattle.basis.specs.First.{told}
 use Rattle.limits.specs.Figures.{most_varint}
 use Rattle.reply.specs.declared.Refusal.{Refusal}
@@ -23,8 +23,6 @@ use Rattle.scope.specs.declared.lookup.LookupScope.{LookupScope}
 use Rattle.request.specs.declared.constant.Constant.{Constant}
 use Rattle.request.specs.declared.constant.Constant.TheVariants.{Bool as BoolOf, Integer, Float as FloatOf, NotANumber}
 use Rattle.request.specs.declared.constant.Constant.TheVariants.{Text, Ident, Message as MessageOf, List as ListOf}
-use Rattle.request.specs.declared.constant.Held.{Held}
-use Rattle.request.specs.declared.constant.Held.TheVariants.{Holds, NoConstant}
 use Rattle.request.specs.Table.{pair_field_tag}
 use Rattle.request.specs.Constant.{constant_of}
 use Rattle.request.specs.Tree.{none, unnamed, pair_name_of, elements_in, pairs_in, constant_in}
@@ -33,8 +31,6 @@ use Rattle.records.specs.Made.{Made}
 use Rattle.lookups.specs.Lookups.{Lookups, field_named}
 use Rattle.values.specs.declared.Kind.{Kind}
 use Rattle.values.specs.declared.Kind.TheVariants.{Scalar, List as Several, Message}
-use Rattle.values.specs.declared.Target.{Target}
-use Rattle.values.specs.declared.Target.TheVariants.{On, Passed, Unknown}
 use Rattle.values.specs.Values.{on, within, in_message, records}
 
 -- a tag and a varint, or a tag, a length and the bytes
@@ -58,18 +54,18 @@ kind_of (Ident p) = Scalar
 kind_of (MessageOf p) = Message
 kind_of (ListOf p) = Several
 
-unfoldable pub held_at : (left : ℕ) (r : List ℕ) (tag from to : ℕ) → Held
-held_at zero r t a e = NoConstant
+unfoldable pub held_at : (left : ℕ) (r : List ℕ) (tag from to : ℕ) → Option Constant
+held_at zero r t a e = None
 held_at (suc d) r t a e = constant_of r t a e
 
-abbrev pub held_target : (s r : List ℕ) → LookupScope → Pair → Held → Target
-held_target s r c x NoConstant = Passed
-held_target s r c x (Holds k) = elim (eqb x.by pair_field_tag) [
-  | true ↦ told (Unknown UnknownFieldName) (λ d. On d.shape) (field_named s (text r x.name) c)
-  | false ↦ Passed
+abbrev pub held_target : (s r : List ℕ) → LookupScope → Pair → Option Constant → Result (Option Shape) Refusal
+held_target s r c x None = Ok None
+held_target s r c x (Some k) = elim (eqb x.by pair_field_tag) [
+  | true ↦ told (Err UnknownFieldName) (λ d. Ok (Some d.shape)) (field_named s (text r x.name) c)
+  | false ↦ Ok None
 ]
 
-unfoldable pub target_of : (s r : List ℕ) → LookupScope → (left : ℕ) → Pair → Target
+unfoldable pub target_of : (s r : List ℕ) → LookupScope → (left : ℕ) → Pair → Result (Option Shape) Refusal
 target_of s r c d x = held_target s r c x (held_at d r x.tag x.constant.from x.constant.to)
 
 module _ (L : Lookups) (s r : List ℕ) where

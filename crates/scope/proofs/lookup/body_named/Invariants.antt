@@ -1,13 +1,12 @@
 -- `scope::lookup::body_named` meets its contract.
 -- Assumes nothing.
-use Rattle.std.specs.Prelude.{◌-◌}
-use Rattle.field.specs.declared.Leaf.TheVariants.{Not}
+use Rattle.std.specs.Prelude.{◌-◌, None}
 use Rattle.scope.specs.inner.Steps.{tells_leaf, first_of, body_at}
 use Rattle.field.proofs.Seek.{Seeking}
 use Rattle.scope.proofs.lookup.body_named.Given as goal
 
 abbrev pub invariant-loop-at : goal.invariant-loop-at
-invariant-loop-at l = Seeking Not (first_of tells_leaf) (body_at l.want l.name l.s) l.s l.initial.at l.end l.at
+invariant-loop-at l = Seeking None (first_of tells_leaf) (body_at l.want l.name l.s) l.s l.initial.at l.end l.at
 
 abbrev pub decreases-loop-at : goal.decreases-loop-at
 decreases-loop-at l = l.end - l.at
