@@ -55,8 +55,8 @@ module _ (s : List ℕ) (at end : ℕ) (r : Option Field) (q : r ≡ field_at s 
 -- ---- `field_at` is a reader that every loop over siblings can have
 pub field-reads : Reads field_at
 field-reads = record {
-  ahead = λ s at end t a e g.
-      let b = field-bounds s at end (Some (field t a e)) (sym g) t a e refl in
+  ahead = λ s at end f g.
+      let b = field-bounds s at end (Some f) (sym g) f refl in
       record { starts = omega (arith, b.starts); ordered = b.ordered; inside = b.inside };
 }
 

@@ -46,7 +46,7 @@ module _ (k : ℕ) (good : List ℕ → Bool) (s : List ℕ) (at end : ℕ) (r :
     (g : r ≡ Some p) where
   pub leaf-bounds : Bounds at end p.from p.to
   unfolding leaf_at
-  leaf-bounds = leaf-inv k good s at end p.from p.to (field_at s at end) refl (sym g ∙ q)
+  leaf-bounds = leaf-inv k good s at end p (field_at s at end) refl (sym g ∙ q)
 
   pub leaf-ordered : p.from ≤ p.to
   leaf-ordered = leaf-bounds.ordered
@@ -86,7 +86,7 @@ module _ (k : ℕ) (good : List ℕ → Bool) (s : List ℕ) (at end : ℕ) wher
     module _ (p : Span) (g : r ≡ Some p) (b : Bool) (x : b ≡ good (part s p.from p.to)) where
       leaf-open : leaf_at k good s at end ≡ only_if b (Some p) None
       unfolding leaf_at
-      leaf-open = any_same (field_at s at end) p.from p.to (sym g ∙ q) b x
+      leaf-open = any_same (field_at s at end) p (sym g ∙ q) b x
 
       pub leaf-bad : b ≡ false → None ≡ leaf_at k good s at end
       leaf-bad y = rw (leaf-open, y)
@@ -136,11 +136,11 @@ leaf-dropped k good s q (Some it1) p = go (eqb it1.tag k) (good (part s it1.from
 module _ (k : ℕ) (good : List ℕ → Bool) (s : List ℕ) (at end : ℕ) (q : Span) (p : leaf_at k good s at end ≡ Some q) where
   pub leaf-tested : good (part s q.from q.to) ≡ true
   unfolding leaf_at
-  leaf-tested = leaf-passed k good s q.from q.to (field_at s at end) (sym p)
+  leaf-tested = leaf-passed k good s q (field_at s at end) (sym p)
 
   pub leaf-untested : leaf_at k any_bytes s at end ≡ Some q
   unfolding leaf_at
-  leaf-untested = sym (leaf-dropped k good s q.from q.to (field_at s at end) (sym p))
+  leaf-untested = sym (leaf-dropped k good s q (field_at s at end) (sym p))
 
 module _ (s : List ℕ) (u : Span) (r : Option Span) (g : r ≡ Some u) (k at end : ℕ) where
   pub size_holds : (n : ℕ) → r ≡ leaf_at k (of_size n) s at end → end ≤ length s → u.from + n ≤ length s
@@ -149,7 +149,7 @@ module _ (s : List ℕ) (u : Span) (r : Option Span) (g : r ≡ Some u) (k at en
       let o : u.from ≤ u.to = leaf-ordered k (of_size n) s at end r q u g in
       let i : u.to ≤ length s = leaf-within k (of_size n) s at end r q u g h in
       let l : length (part s u.from u.to) ≡ u.to - u.from = part_length s u.from u.to i in
-      let p : length (part s u.from u.to) ≡ n = eqb-true (length (part s u.from u.to)) n (leaf-passed k (of_size n) s u.from u.to (field_at s at end) (sym g ∙ q)) in
+      let p : length (part s u.from u.to) ≡ n = eqb-true (length (part s u.from u.to)) n (leaf-passed k (of_size n) s u (field_at s at end) (sym g ∙ q)) in
       omega arith
 
   pub byte-holds : r ≡ leaf_at k (of_size 1) s at end → end ≤ length s → u.from < length s

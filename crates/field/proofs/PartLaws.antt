@@ -39,10 +39,10 @@ span-inside t p l = go (leb p.from p.to) refl (leb p.to (length t)) refl
 
 module _ (t : List ℕ) (p : Span) (r : Option Span) (q : r ≡ span_in t p) (u : Span) (g : r ≡ Some u) where
   pub span-ordered : u.from ≤ u.to
-  span-ordered = (span-inside t p u.from u.to (sym g ∙ q)).ordered
+  span-ordered = (span-inside t p u (sym g ∙ q)).ordered
 
   pub span-within : u.to ≤ length t
-  span-within = (span-inside t p u.from u.to (sym g ∙ q)).within
+  span-within = (span-inside t p u (sym g ∙ q)).within
 
 -- ---- none_of: no bytes, wherever they start
 pub empty-part : (s : List ℕ) (a : ℕ) → part s a a ≡ []

@@ -31,7 +31,7 @@ pub record Reads (next : Reader) : Type 0 where
 module _ {next : Reader} (reads : Reads next) (s : List ℕ) (at end : ℕ) (r : Option Field) (q : r ≡ next s at end) (f : Field)
     (g : r ≡ Some f) where
   pub reads-ahead : Ahead at end f.from f.to
-  reads-ahead = reads.ahead s at end f.tag f.from f.to (sym q ∙ g)
+  reads-ahead = reads.ahead s at end f (sym q ∙ g)
 
   pub reads-ordered : f.from ≤ f.to
   reads-ordered = reads-ahead.ordered

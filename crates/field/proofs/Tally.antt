@@ -89,7 +89,7 @@ total f (step t a e w) = f t a e + total f w
 pub tally-next : {next : Reader} (v : ℕ) (f : ℕ → ℕ → ℕ → ℕ) (s : List ℕ) (from to n i : ℕ) → TallyBy next v (total f) s from to n i
     → i < to → (r : Option Field) → r ≡ next s i to → (here : Field) → r ≡ Some here
     → (u : ℕ) → u ≡ f here.tag here.from here.to → u ≤ here.to - here.from + 1 → TallyBy next v (total f) s from to (n + u) here.to
-tally-next v f s from to n i k h r q here g u p b = tally-more v (total f) s from to n i k h r q here.tag here.from here.to g u (rw p) b
+tally-next v f s from to n i k h r q here g u p b = tally-more v (total f) s from to n i k h r q here g u (rw p) b
 
 pub ruleset tally-loop = (tally-few, tally-end, tally-cut, tally-fits, tally-next)
 

@@ -58,7 +58,7 @@ module _ {next : Reader} (reads : Reads next) (s : List ℕ) (at end : ℕ) wher
     pub walk-by-step : (f : Field) → r ≡ Some f → walk_by next s at end ≡ step f.tag f.from f.to (walk_by next s f.to end)
     unfolding walk_by
     walk-by-step f g =
-        let b : Ahead at end f.from f.to = reads-ahead reads s at end r q f.tag f.from f.to g in
+        let b : Ahead at end f.from f.to = reads-ahead reads s at end r q f g in
         rw (walk-open reads s end at h, ← q, g)
         (ap (step f.tag f.from f.to) (walk-fuel reads s end (end - at) (end - f.to) f.to (omega (arith, b.starts, b.ordered)) (omega arith)))
 
