@@ -56,9 +56,7 @@ fn builtin_on(sheet: &[u8], request: &[u8], shape: Shape, tag: u8, from: usize, 
     ensures { result ≡ builtin_on (walking sheet.now) sheet.now request.now shape
         (constant_in most_constants request.now unnamed tag from to no_constant) }
 {
-    let Some(constant) = constant_of(request, tag, from, to) else {
-        return Err(Refusal::UnsupportedExtensionType);
-    };
+    let Some(constant) = constant_of(request, tag, from, to) else { return Err(Refusal::UnsupportedExtensionType); };
     if is_plain(octets::wide(shape.typ)) {
         return scalar_on(
             sheet,
@@ -118,9 +116,7 @@ pub fn builtin_of(
     if is_skipped(message, &request[a..e]) {
         return Built::Skipped;
     }
-    let Some(found) = lookups::field_named(sheet, place, &request[a..e]) else {
-        return Built::Wrong(Refusal::BuiltinOptionNotFound);
-    };
+    let Some(found) = lookups::field_named(sheet, place, &request[a..e]) else { return Built::Wrong(Refusal::BuiltinOptionNotFound); };
     builtin_field(sheet, request, found, tag, from, to)
 }
 

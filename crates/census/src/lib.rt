@@ -95,9 +95,7 @@ fn name_at(s: &[u8], tag: u8, item: Span) -> Option<Span>
     if tag != table::EXTENSION {
         return None;
     }
-    let Some(d) = extension_at(s, item.from, item.to) else {
-        return None;
-    };
+    let d = extension_at(s, item.from, item.to)?;
     Some(Span {
         from: d.name.from,
         to: d.name.to,
@@ -111,10 +109,8 @@ fn bears(s: &[u8], tag: u8, item: Span, text: &[u8], way: Way, asked: Asked) -> 
     ensures { (result ≡ on_leaf 0 (named (item_at 0 s.now tag item.from item.to))
         λ n b. own_of asked tag (onward_of text.now way (text_of s.now (span n b)))) × (result ≤ 1) }
 {
-    let Some(Span { from, to }) = name_at(s, tag, item) else {
-        return 0;
-    };
-    let next = onward(text, way, &s[from..to]);
+    let Some(place) = name_at(s, tag, item) else { return 0; };
+    let next = onward(text, way, &s[place.from..place.to]);
     own(asked, tag, next)
 }
 
@@ -159,14 +155,9 @@ fn in_item(
     if !((tag == table::MESSAGE) & (0 < left)) {
         return in_other(s, tag, item, text, way, o, asked);
     }
-    let Some(Span { from, to: body }) = leaf_at(s, item.from, item.to, table::NAME) else {
-        return 0;
-    };
-    let inside = Span {
-        from: body,
-        to: item.to,
-    };
-    let next = onward(text, way, &s[from..body]);
+    let Some(name) = leaf_at(s, item.from, item.to, table::NAME) else { return 0; };
+    let inside = Span { from: name.to, to: item.to };
+    let next = onward(text, way, &s[name.from..name.to]);
     own(asked, table::MESSAGE, next) + in_items(s, inside, left - 1, text, next, o, asked)
 }
 
@@ -191,12 +182,10 @@ fn in_items(
     let mut n = 0;
     let mut p = body.from;
     while p < end {
-        let Some(Field { tag, from, to }) = field_at(s, p, end) else {
-            return n;
-        };
-        let item = Span { from: from, to: to };
-        n += in_item(s, tag, item, left, text, way, o, asked);
-        p = to;
+        let Some(field) = field_at(s, p, end) else { return n; };
+        let item = Span { from: field.from, to: field.to };
+        n += in_item(s, field.tag, item, left, text, way, o, asked);
+        p = field.to;
     }
     n
 }
@@ -225,14 +214,9 @@ fn in_file(s: &[u8], tag: u8, item: Span, text: &[u8], o: &[u8], asked: Asked) -
     if tag != table::FILE {
         return 0;
     }
-    let Some(Span { from, to: body }) = leaf_at(s, item.from, item.to, table::PACKAGE) else {
-        return 0;
-    };
-    let inside = Span {
-        from: body,
-        to: item.to,
-    };
-    let way = file_way(text, &s[from..body]);
+    let Some(package) = leaf_at(s, item.from, item.to, table::PACKAGE) else { return 0; };
+    let inside = Span { from: package.to, to: item.to };
+    let way = file_way(text, &s[package.from..package.to]);
     in_items(s, inside, MOST_MESSAGES, text, way, o, asked)
 }
 
@@ -245,12 +229,10 @@ fn in_files(s: &[u8], text: &[u8], o: &[u8], asked: Asked) -> usize
     let mut n = 0;
     let mut p = 0;
     while p < end {
-        let Some(Field { tag, from, to }) = field_at(s, p, end) else {
-            return n;
-        };
-        let item = Span { from: from, to: to };
-        n += in_file(s, tag, item, text, o, asked);
-        p = to;
+        let Some(field) = field_at(s, p, end) else { return n; };
+        let item = Span { from: field.from, to: field.to };
+        n += in_file(s, field.tag, item, text, o, asked);
+        p = field.to;
     }
     n
 }

@@ -41,18 +41,9 @@ fn check_elements(s: &[u8], from: usize, to: usize, left: usize) -> Result<(), R
 {
     let mut at = from;
     while at < to {
-        let Some(Field {
-            tag,
-            from: a,
-            to: e,
-        }) = field::field_at(s, at, to)
-        else {
-            return Err(Refusal::BadRequest);
-        };
-        if let Err(why) = check_constant(s, tag, a, e, left) {
-            return Err(why);
-        }
-        at = e;
+        let Some(field) = field::field_at(s, at, to) else { return Err(Refusal::BadRequest); };
+        check_constant(s, field.tag, field.from, field.to, left)?;
+        at = field.to;
     }
     Ok(())
 }
@@ -65,23 +56,19 @@ fn check_pairs(s: &[u8], from: usize, to: usize, left: usize) -> Result<(), Refu
 {
     let mut at = from;
     while at < to {
-        let Some(p) = pair_at(s, at, to) else {
-            return Err(Refusal::BadRequest);
-        };
+        let Some(p) = pair_at(s, at, to) else { return Err(Refusal::BadRequest); };
         let a = p.name.from;
         let e = p.name.to;
         if !good_pair_name(p.by, &s[a..e]) {
             return Err(Refusal::BadRequest);
         }
-        if let Err(why) = check_constant(
+        check_constant(
             s,
             p.tag,
             p.constant.from,
             p.constant.to,
             left,
-        ) {
-            return Err(why);
-        }
+        )?;
         at = p.constant.to;
     }
     Ok(())

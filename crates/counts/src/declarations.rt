@@ -25,9 +25,7 @@ fn count_value(s: &[u8], tag: u8, from: usize, to: usize) -> usize
     if tag != table::VALUE {
         return 0;
     }
-    let Some(_) = value_at(s, from, to) else {
-        return 0;
-    };
+    let Some(_) = value_at(s, from, to) else { return 0; };
     1
 }
 
@@ -39,16 +37,9 @@ fn count_values(s: &[u8], from: usize, to: usize) -> usize
     let mut n = 0;
     let mut at = from;
     while at < to {
-        let Some(Field {
-            tag,
-            from: a,
-            to: e,
-        }) = field::field_at(s, at, to)
-        else {
-            return n;
-        };
-        n += count_value(s, tag, a, e);
-        at = e;
+        let Some(field) = field::field_at(s, at, to) else { return n; };
+        n += count_value(s, field.tag, field.from, field.to);
+        at = field.to;
     }
     n
 }
@@ -58,19 +49,15 @@ fn count_enum(s: &[u8], from: usize, to: usize, want: u8) -> usize
     requires { (from ≤ to) × (to ≤ length s.now) }
     ensures { (result ≡ items_hold want (enum_in s.now from to none)) × (result ≤ to - from + 1) }
 {
-    let Some(Span { from: _, to: body }) = leaf_at(s, from, to, table::NAME) else {
-        return 0;
-    };
-    one(want, table::ENUM) + one(want, table::VALUE) * count_values(s, body, to)
+    let Some(name) = leaf_at(s, from, to, table::NAME) else { return 0; };
+    one(want, table::ENUM) + one(want, table::VALUE) * count_values(s, name.to, to)
 }
 
 // 1 where there is a declaration and its tag is wanted.
 fn count_declared(d: Option<Declaration>, tag: u8, want: u8) -> usize
     ensures { (result ≡ declared_count d want tag) × (result ≤ 1) }
 {
-    let Some(_) = d else {
-        return 0;
-    };
+    let Some(_) = d else { return 0; };
     one(want, tag)
 }
 
@@ -104,10 +91,8 @@ fn count_message(s: &[u8], from: usize, to: usize, left: usize, want: u8) -> usi
     if left == 0 {
         return 0;
     }
-    let Some(Span { from: _, to: body }) = leaf_at(s, from, to, table::NAME) else {
-        return 0;
-    };
-    one(want, table::MESSAGE) + count_items(s, body, to, left - 1, want)
+    let Some(name) = leaf_at(s, from, to, table::NAME) else { return 0; };
+    one(want, table::MESSAGE) + count_items(s, name.to, to, left - 1, want)
 }
 
 // What a file or a message holds between two places, with `left` levels of messages left.
@@ -119,16 +104,9 @@ fn count_items(s: &[u8], from: usize, to: usize, left: usize, want: u8) -> usize
     let mut n = 0;
     let mut at = from;
     while at < to {
-        let Some(Field {
-            tag,
-            from: a,
-            to: e,
-        }) = field::field_at(s, at, to)
-        else {
-            return n;
-        };
-        n += count_item(s, tag, a, e, left, want);
-        at = e;
+        let Some(field) = field::field_at(s, at, to) else { return n; };
+        n += count_item(s, field.tag, field.from, field.to, left, want);
+        at = field.to;
     }
     n
 }
@@ -141,10 +119,8 @@ fn count_file(s: &[u8], tag: u8, from: usize, to: usize, want: u8) -> usize
     if tag != table::FILE {
         return 0;
     }
-    let Some(Span { from: _, to: body }) = leaf_at(s, from, to, table::PACKAGE) else {
-        return 0;
-    };
-    one(want, table::FILE) + count_items(s, body, to, MOST_MESSAGES, want)
+    let Some(package) = leaf_at(s, from, to, table::PACKAGE) else { return 0; };
+    one(want, table::FILE) + count_items(s, package.to, to, MOST_MESSAGES, want)
 }
 
 // How many declarations of this tag, files too, the sheet has.
@@ -155,11 +131,9 @@ pub fn count(s: &[u8], want: u8) -> usize
     let mut n = 0;
     let mut at = 0;
     while at < end {
-        let Some(Field { tag, from, to }) = field::field_at(s, at, end) else {
-            return n;
-        };
-        n += count_file(s, tag, from, to, want);
-        at = to;
+        let Some(field) = field::field_at(s, at, end) else { return n; };
+        n += count_file(s, field.tag, field.from, field.to, want);
+        at = field.to;
     }
     n
 }

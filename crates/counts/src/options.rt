@@ -18,9 +18,7 @@ fn count_parts_at(s: &[u8], from: usize, to: usize) -> usize
     let mut n = 0;
     let mut at = from;
     while at < to {
-        let Some(p) = part_at(s, at, to) else {
-            return n;
-        };
+        let Some(p) = part_at(s, at, to) else { return n; };
         n += 1;
         at = p.name.to;
     }
@@ -31,20 +29,16 @@ fn count_parts_at(s: &[u8], from: usize, to: usize) -> usize
 pub fn count_options(s: &[u8]) -> usize
     ensures { result ≡ length (request_of s.now).options }
 {
-    let Some(h) = heading_of(s) else {
-        return 0;
-    };
+    let Some(h) = heading_of(s) else { return 0; };
     let end = s.len();
     let mut n = 0;
     let mut at = h.options;
     while at < end {
-        let Some(Field { tag, from: _, to }) = field::field_at(s, at, end) else {
-            return n;
-        };
-        if tag == table::OPTION {
+        let Some(field) = field::field_at(s, at, end) else { return n; };
+        if field.tag == table::OPTION {
             n += 1;
         }
-        at = to;
+        at = field.to;
     }
     n
 }
@@ -53,20 +47,16 @@ pub fn count_options(s: &[u8]) -> usize
 pub fn count_parts(s: &[u8]) -> usize
     ensures { result ≡ parts_of (request_of s.now).options }
 {
-    let Some(h) = heading_of(s) else {
-        return 0;
-    };
+    let Some(h) = heading_of(s) else { return 0; };
     let end = s.len();
     let mut n = 0;
     let mut at = h.options;
     while at < end {
-        let Some(Field { tag, from, to }) = field::field_at(s, at, end) else {
-            return n;
-        };
-        if tag == table::OPTION {
-            n += count_parts_at(s, from, to);
+        let Some(field) = field::field_at(s, at, end) else { return n; };
+        if field.tag == table::OPTION {
+            n += count_parts_at(s, field.from, field.to);
         }
-        at = to;
+        at = field.to;
     }
     n
 }

@@ -60,9 +60,7 @@ fn follow(s: &[u8], names: &[u8], next: usize, scope: LookupScope) -> Option<Loo
     let mut at = next;
     while at <= names.len() {
         let end = component_end(names, at);
-        let Some(inner) = down(s, reached, &names[at..end]) else {
-            return None;
-        };
+        let inner = down(s, reached, &names[at..end])?;
         reached = inner;
         at = end + 1;
     }
@@ -84,9 +82,7 @@ fn package_at(s: &[u8], tag: u8, from: usize, to: usize) -> Option<Span>
 fn files_in(package_name: Option<Span>) -> usize
     ensures { (result ≡ on_leaf 0 package_name (λ n m. 1)) × (result ≤ 1) }
 {
-    let Some(Span { from: _, to: _ }) = package_name else {
-        return 0;
-    };
+    let Some(_) = package_name else { return 0; };
     1
 }
 
@@ -103,10 +99,8 @@ fn scope_at(
     requires { Within package_name to × (to ≤ length s.now) × (next ≤ suc (length names.now)) }
     ensures { result ≡ placed (scope_at s.now names.now next file package_name to) }
 {
-    let Some(Span { from, to: body }) = package_name else {
-        return None;
-    };
-    if !octets::same(before(names, next), &s[from..body]) {
+    let place = package_name?;
+    if !octets::same(before(names, next), &s[place.from..place.to]) {
         return None;
     }
     follow(
@@ -116,7 +110,7 @@ fn scope_at(
         LookupScope {
             file: file,
             message: false,
-            body: Span { from: body, to: to },
+            body: Span { from: place.to, to: to },
             left: MOST_MESSAGES,
         },
     )
@@ -132,14 +126,12 @@ fn next_here(s: &[u8], names: &[u8], cursor: Cursor) -> Option<Next>
     let mut at = cursor.at;
     let mut file = cursor.file;
     while at < end {
-        let Some(Field { tag, from, to }) = field::field_at(s, at, end) else {
-            return None;
-        };
-        let package_name = package_at(s, tag, from, to);
+        let field = field::field_at(s, at, end)?;
+        let package_name = package_at(s, field.tag, field.from, field.to);
         let index = file;
         file = index + files_in(package_name);
-        at = to;
-        if let Some(scope) = scope_at(s, package_name, to, names, cursor.next, index) {
+        at = field.to;
+        if let Some(scope) = scope_at(s, package_name, field.to, names, cursor.next, index) {
             return Some(Next {
                 scope: scope,
                 rest: Cursor {

@@ -56,9 +56,7 @@ pub fn is_field(s: &[u8], from: usize, to: usize) -> bool
     requires { (from ≤ to) × (to ≤ length s.now) }
     ensures { result ≡ is_field s.now from to }
 {
-    let Some(d) = sheet::declaration::message_field_at(s, from, to) else {
-        return false;
-    };
+    let Some(d) = sheet::declaration::message_field_at(s, from, to) else { return false; };
     good_field(s, d)
 }
 
@@ -67,9 +65,7 @@ pub fn is_extension(s: &[u8], from: usize, to: usize) -> bool
     requires { (from ≤ to) × (to ≤ length s.now) }
     ensures { result ≡ is_extension s.now from to }
 {
-    let Some(d) = sheet::declaration::extension_at(s, from, to) else {
-        return false;
-    };
+    let Some(d) = sheet::declaration::extension_at(s, from, to) else { return false; };
     let x = d.extendee.from;
     let end = d.extendee.to;
     is_rel_path(&s[x..end]) & good_field(s, d)
@@ -80,9 +76,7 @@ pub fn is_value(s: &[u8], from: usize, to: usize) -> bool
     requires { (from ≤ to) × (to ≤ length s.now) }
     ensures { result ≡ is_value s.now from to }
 {
-    let Some(v) = sheet::declaration::value_at(s, from, to) else {
-        return false;
-    };
+    let Some(v) = sheet::declaration::value_at(s, from, to) else { return false; };
     let n = v.name.from;
     let end = v.name.to;
     is_ident(&s[n..end])

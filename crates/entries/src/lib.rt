@@ -178,11 +178,9 @@ pub fn front_at(
         (message_of message.now place) at (part bytes.now at end)) result }
     ensures lies { FrontLies sheet.now at end result }
 {
-    let Some(Read { value: tag, next }) = varint_at(bytes, at, end) else {
-        return Front::Wrong(Refusal::BadBytes);
-    };
-    if !tag_good(tag) {
+    let Some(read) = varint_at(bytes, at, end) else { return Front::Wrong(Refusal::BadBytes); };
+    if !tag_good(read.value) {
         return Front::Wrong(Refusal::BadBytes);
     }
-    behind_tag(sheet, message, place, bytes, tag, next, end)
+    behind_tag(sheet, message, place, bytes, read.value, read.next, end)
 }

@@ -56,9 +56,7 @@ fn field_reason(
         (λ d. number_reason question s.now newer.now index (number_for message.now d))
         (declaration_at field_tag s.now tag item.from item.to) }
 {
-    let Some(d) = declaration_at(s, tag, item.from, item.to, table::FIELD) else {
-        return Reason::Yes;
-    };
+    let Some(d) = declaration_at(s, tag, item.from, item.to, table::FIELD) else { return Reason::Yes; };
     number_reason(s, message, d, newer, question, index)
 }
 
@@ -79,15 +77,13 @@ fn fields_reason(
     let end = body.to;
     let mut p = body.from;
     while p < end {
-        let Some(Field { tag, from, to }) = field_at(s, p, end) else {
-            return Reason::Yes;
-        };
-        let item = Span { from: from, to: to };
-        let found = field_reason(s, tag, item, message, newer, question, index);
+        let Some(field) = field_at(s, p, end) else { return Reason::Yes; };
+        let item = Span { from: field.from, to: field.to };
+        let found = field_reason(s, field.tag, item, message, newer, question, index);
         let Reason::Yes = found else {
             return found;
         };
-        p = to;
+        p = field.to;
     }
     Reason::Yes
 }

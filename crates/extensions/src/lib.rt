@@ -25,13 +25,11 @@ fn first_extension(s: &[u8], names: &[u8], cursor: Cursor, name: &[u8]) -> Resul
 {
     let mut c = cursor;
     loop {
-        let Some(Next { scope, rest }) = next_scope(s, names, c) else {
-            return Err(Refusal::ExtensionNotFound);
-        };
-        c = rest;
-        if let Some(d) = declaration_named(s, scope, table::EXTENSION, name) {
+        let Some(next) = next_scope(s, names, c) else { return Err(Refusal::ExtensionNotFound); };
+        c = next.rest;
+        if let Some(d) = declaration_named(s, next.scope, table::EXTENSION, name) {
             return Ok(Found {
-                file: scope.file,
+                file: next.scope.file,
                 declaration: d,
             });
         }

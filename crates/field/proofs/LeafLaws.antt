@@ -107,9 +107,9 @@ module _ (k : ℕ) (s : List ℕ) (at end : ℕ) (r : Option Span) (q : r ≡ le
       let l = part_length s p.from p.to (leaf-within k any_bytes s at end r q p g h) in
       leaf-good k (of_size n) s at end r q p g true (rw l (sym (eq-eqb (p.to - p.from) n x))) refl
 
-pub ruleset leaf-any-laws = (leaf-cut, leaf-other, leaf-any)
+pub ruleset leaf_any_laws = (leaf-cut, leaf-other, leaf-any)
 
-pub ruleset sized-laws = (leaf-none, size-other, size_same, leaf-ordered)
+pub ruleset sized_laws = (leaf-none, size-other, size_same, leaf-ordered)
 
 -- ---- what a leaf passed
 leaf-passed : (k : ℕ) (good : List ℕ → Bool) (s : List ℕ) (q : Span) (f : Option Field) → Some q ≡ leaf_of k good s f → good (part s q.from q.to) ≡ true

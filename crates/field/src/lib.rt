@@ -49,18 +49,11 @@ pub fn leaf_at(s: &[u8], at: usize, end: usize, tag: u8) -> Option<Span>
     requires { (at ≤ end) × (end ≤ length s.now) }
     ensures { result ≡ leaf_at tag any_bytes s.now at end }
 {
-    let Some(Field {
-        tag: found,
-        from,
-        to,
-    }) = field_at(s, at, end)
-    else {
-        return None;
-    };
-    if found != tag {
+    let field = field_at(s, at, end)?;
+    if field.tag != tag {
         return None;
     }
-    Some(Span { from: from, to: to })
+    Some(Span { from: field.from, to: field.to })
 }
 
 // A field of this tag whose payload has this length.
@@ -68,11 +61,9 @@ pub fn sized_at(s: &[u8], at: usize, end: usize, tag: u8, size: usize) -> Option
     requires { (at ≤ end) × (end ≤ length s.now) }
     ensures { result ≡ leaf_at tag (of_size size) s.now at end }
 {
-    let Some(Span { from, to }) = leaf_at(s, at, end, tag) else {
-        return None;
-    };
-    if to - from != size {
+    let place = leaf_at(s, at, end, tag)?;
+    if place.to - place.from != size {
         return None;
     }
-    Some(Span { from: from, to: to })
+    Some(place)
 }

@@ -17,15 +17,9 @@ use search::extension::Found;
 fn finding_tested(sheet: &[u8], scope: &[u8], path: &[u8]) -> Result<Found, Refusal>
     ensures { result ≡ finding_tested sheet.now scope.now path.now }
 {
-    if let Err(why) = sheetform::check_length(sheet) {
-        return Err(why);
-    }
-    if let Err(why) = requestform::check_scope(scope) {
-        return Err(why);
-    }
-    if let Err(why) = requestform::check_path(path) {
-        return Err(why);
-    }
+    sheetform::check_length(sheet)?;
+    requestform::check_scope(scope)?;
+    requestform::check_path(path)?;
     lookups::extension_named(sheet, scope, path)
 }
 
@@ -109,11 +103,7 @@ pub fn found_name<'s, 'r>(sheet: &'s [u8], request: &'r [u8], scope: Span, path:
     ensures { PartOf (name_span_for sheet.now request.now scope path)
         sheet.now sheet.entry.ref_ptr.0 sheet.entry.ref_ptr.1 result.now result.ref_ptr.0 result.ref_ptr.1 }
 {
-    let Some(Span { from: a, to: e }) = span_in(request, scope) else {
-        return none_of(sheet);
-    };
-    let Some(Span { from: n, to: m }) = span_in(request, path) else {
-        return none_of(sheet);
-    };
-    name_in(sheet, &request[a..e], &request[n..m])
+    let Some(place) = span_in(request, scope) else { return none_of(sheet); };
+    let Some(held) = span_in(request, path) else { return none_of(sheet); };
+    name_in(sheet, &request[place.from..place.to], &request[held.from..held.to])
 }

@@ -13,13 +13,11 @@ pub fn ident_at(s: &[u8], at: usize, end: usize, tag: u8) -> Option<Span>
     requires { (at ≤ end) × (end ≤ length s.now) }
     ensures { result ≡ leaf_at tag is_ident s.now at end }
 {
-    let Some(Span { from, to }) = leaf_at(s, at, end, tag) else {
-        return None;
-    };
-    if !ident::protobuf_ident::is_ident(&s[from..to]) {
+    let place = leaf_at(s, at, end, tag)?;
+    if !ident::protobuf_ident::is_ident(&s[place.from..place.to]) {
         return None;
     }
-    Some(Span { from: from, to: to })
+    Some(place)
 }
 
 // A path with no leading dot, and not empty.
@@ -27,13 +25,11 @@ pub fn rel_path_at(s: &[u8], at: usize, end: usize, tag: u8) -> Option<Span>
     requires { (at ≤ end) × (end ≤ length s.now) }
     ensures { result ≡ leaf_at tag is_rel_path s.now at end }
 {
-    let Some(Span { from, to }) = leaf_at(s, at, end, tag) else {
-        return None;
-    };
-    if !path::protobuf_rel_path::is_rel_path(&s[from..to]) {
+    let place = leaf_at(s, at, end, tag)?;
+    if !path::protobuf_rel_path::is_rel_path(&s[place.from..place.to]) {
         return None;
     }
-    Some(Span { from: from, to: to })
+    Some(place)
 }
 
 // A path with no leading dot, or empty.
@@ -41,11 +37,9 @@ pub fn rel_or_empty_at(s: &[u8], at: usize, end: usize, tag: u8) -> Option<Span>
     requires { (at ≤ end) × (end ≤ length s.now) }
     ensures { result ≡ leaf_at tag is_rel_or_empty s.now at end }
 {
-    let Some(Span { from, to }) = leaf_at(s, at, end, tag) else {
-        return None;
-    };
-    if !path::protobuf_rel_path::is_rel_or_empty(&s[from..to]) {
+    let place = leaf_at(s, at, end, tag)?;
+    if !path::protobuf_rel_path::is_rel_or_empty(&s[place.from..place.to]) {
         return None;
     }
-    Some(Span { from: from, to: to })
+    Some(place)
 }

@@ -29,14 +29,12 @@ fn next_message(s: &[u8], names: &[u8], cursor: Cursor) -> Option<Next>
 {
     let mut c = cursor;
     loop {
-        let Some(Next { scope, rest }) = next_scope(s, names, c) else {
-            return None;
-        };
-        c = rest;
-        if scope.message {
+        let next = next_scope(s, names, c)?;
+        c = next.rest;
+        if next.scope.message {
             return Some(Next {
-                scope: scope,
-                rest: rest,
+                scope: next.scope,
+                rest: next.rest,
             });
         }
     }
@@ -63,14 +61,12 @@ fn next_enum(s: &[u8], names: &[u8], cursor: Cursor, name: &[u8]) -> Option<Next
 {
     let mut c = cursor;
     loop {
-        let Some(Next { scope, rest }) = next_scope(s, names, c) else {
-            return None;
-        };
-        c = rest;
-        if let Some(Span { from: _, to: _ }) = enum_named(s, scope, name) {
+        let next = next_scope(s, names, c)?;
+        c = next.rest;
+        if let Some(Span { from: _, to: _ }) = enum_named(s, next.scope, name) {
             return Some(Next {
-                scope: scope,
-                rest: rest,
+                scope: next.scope,
+                rest: next.rest,
             });
         }
     }
@@ -81,10 +77,8 @@ fn enum_in(s: &[u8], scope: LookupScope, name: &[u8]) -> Result<Span, Refusal>
     requires { InSheet s.now scope }
     ensures { result ≡ looked_up_enum (collect (enum_named s.now name.now) (holding s.now scope ∷ [])) }
 {
-    let Some(Span { from, to }) = enum_named(s, scope, name) else {
-        return Err(Refusal::MessageNotFound);
-    };
-    Ok(Span { from: from, to: to })
+    let Some(place) = enum_named(s, scope, name) else { return Err(Refusal::MessageNotFound); };
+    Ok(place)
 }
 
 // The one enum of that name in the scopes that are still to come.
@@ -121,9 +115,7 @@ fn value_named_at(s: &[u8], tag: u8, from: usize, to: usize, name: &[u8]) -> Opt
     if tag != table::VALUE {
         return None;
     }
-    let Some(Span { from: _, to: _ }) = named_at(s, from, to, name) else {
-        return None;
-    };
+    named_at(s, from, to, name)?;
     sheet::declaration::value_at(s, from, to)
 }
 
@@ -136,13 +128,11 @@ pub fn value_named(s: &[u8], values: Span, name: &[u8]) -> Option<Value>
     let end = values.to;
     let mut at = values.from;
     while at < end {
-        let Some(Field { tag, from, to }) = field::field_at(s, at, end) else {
-            return None;
-        };
-        if let Some(v) = value_named_at(s, tag, from, to, name) {
+        let field = field::field_at(s, at, end)?;
+        if let Some(v) = value_named_at(s, field.tag, field.from, field.to, name) {
             return Some(v);
         }
-        at = to;
+        at = field.to;
     }
     None
 }

@@ -24,18 +24,11 @@ pub fn due_at(s: &[u8], at: usize, tag: u8) -> Due
     if at == s.len() {
         return Due::Ended;
     }
-    let Some(Field {
-        tag: found,
-        from,
-        to,
-    }) = field::field_at(s, at, s.len())
-    else {
-        return Due::CutShort;
-    };
-    if found != tag {
-        return Due::Other(found);
+    let Some(field) = field::field_at(s, at, s.len()) else { return Due::CutShort; };
+    if field.tag != tag {
+        return Due::Other(field.tag);
     }
-    Due::Here { from: from, to: to }
+    Due::Here { from: field.from, to: field.to }
 }
 
 // The field that was due, where it is there.

@@ -88,9 +88,7 @@ pub fn in_field(s: &[u8], item: Span, way: Way, o: &[u8], like: Like) -> usize
         Way::Within(_) => return 0,
         Way::Off => return 0,
     }
-    let Some(d) = message_field_at(s, item.from, item.to) else {
-        return 0;
-    };
+    let Some(d) = message_field_at(s, item.from, item.to) else { return 0; };
     if is_like(s, d, o, like) { 1 } else { 0 }
 }
 
@@ -101,9 +99,7 @@ pub fn in_extension(s: &[u8], item: Span, message: &[u8], o: &[u8], like: Like) 
     ensures { (result ≡ declared_likes (extension_likes message.now like o.now s.now)
         (extension_at s.now item.from item.to)) × (result ≤ 1) }
 {
-    let Some(d) = extension_at(s, item.from, item.to) else {
-        return 0;
-    };
+    let Some(d) = extension_at(s, item.from, item.to) else { return 0; };
     if extends(s, message, d) {
         if is_like(s, d, o, like) {
             return 1;

@@ -122,15 +122,9 @@ fn list_in(
 fn options_message(sheet: &[u8], options_type: &[u8], bytes: &[u8]) -> Result<LookupScope, Refusal>
     ensures { result ≡ admitted (judge_length sheet.now) sheet.now options_type.now bytes.now }
 {
-    if let Err(why) = sheetform::check_length(sheet) {
-        return Err(why);
-    }
-    if let Err(why) = check_options_type(options_type) {
-        return Err(why);
-    }
-    if let Err(why) = check_bytes(bytes) {
-        return Err(why);
-    }
+    sheetform::check_length(sheet)?;
+    check_options_type(options_type)?;
+    check_bytes(bytes)?;
     lookups::message(sheet, options_type)
 }
 

@@ -25,23 +25,12 @@ fn check_enum(s: &[u8], from: usize, to: usize) -> Result<(), Refusal>
     requires { (from ≤ to) × (to ≤ length s.now) }
     ensures { result ≡ judge_enum s.now from to }
 {
-    let Some(Span { from: _, to: body }) = form::ident_at(s, from, to, table::NAME) else {
-        return Err(Refusal::BadSheet);
-    };
-    let mut at = body;
+    let Some(name) = form::ident_at(s, from, to, table::NAME) else { return Err(Refusal::BadSheet); };
+    let mut at = name.to;
     while at < to {
-        let Some(Field {
-            tag,
-            from: a,
-            to: e,
-        }) = field::field_at(s, at, to)
-        else {
-            return Err(Refusal::BadSheet);
-        };
-        if let Err(why) = check_value(s, tag, a, e) {
-            return Err(why);
-        }
-        at = e;
+        let Some(field) = field::field_at(s, at, to) else { return Err(Refusal::BadSheet); };
+        check_value(s, field.tag, field.from, field.to)?;
+        at = field.to;
     }
     Ok(())
 }
@@ -79,10 +68,8 @@ fn check_message(s: &[u8], from: usize, to: usize, left: usize) -> Result<(), Re
     if left == 0 {
         return Err(Refusal::BeyondLimit);
     }
-    let Some(Span { from: _, to: body }) = form::ident_at(s, from, to, table::NAME) else {
-        return Err(Refusal::BadSheet);
-    };
-    check_items(s, body, to, left - 1, true)
+    let Some(name) = form::ident_at(s, from, to, table::NAME) else { return Err(Refusal::BadSheet); };
+    check_items(s, name.to, to, left - 1, true)
 }
 
 // What a file holds after its package, or a message after its name, with `left` levels of messages left; `fields`: whether fields may
@@ -94,18 +81,9 @@ pub fn check_items(s: &[u8], from: usize, to: usize, left: usize, fields: bool) 
 {
     let mut at = from;
     while at < to {
-        let Some(Field {
-            tag,
-            from: a,
-            to: e,
-        }) = field::field_at(s, at, to)
-        else {
-            return Err(Refusal::BadSheet);
-        };
-        if let Err(why) = check_item(s, tag, a, e, left, fields) {
-            return Err(why);
-        }
-        at = e;
+        let Some(field) = field::field_at(s, at, to) else { return Err(Refusal::BadSheet); };
+        check_item(s, field.tag, field.from, field.to, left, fields)?;
+        at = field.to;
     }
     Ok(())
 }

@@ -43,9 +43,7 @@ fn declaration_named_at(
     ensures { result ≡ whose None tells_declared (λ d. is_text s.now name.now d.name)
         (declaration_at want s.now tag from to) }
 {
-    let Some(Span { from: _, to: _ }) = named_at(s, from, to, name) else {
-        return None;
-    };
+    named_at(s, from, to, name)?;
     if tag != want {
         return None;
     }
@@ -66,13 +64,11 @@ pub fn declaration_named(s: &[u8], scope: LookupScope, want: u8, name: &[u8]) ->
     let end = scope.body.to;
     let mut at = scope.body.from;
     while at < end {
-        let Some(Field { tag, from, to }) = field::field_at(s, at, end) else {
-            return None;
-        };
-        if let Some(d) = declaration_named_at(s, tag, from, to, want, name) {
+        let field = field::field_at(s, at, end)?;
+        if let Some(d) = declaration_named_at(s, field.tag, field.from, field.to, want, name) {
             return Some(d);
         }
-        at = to;
+        at = field.to;
     }
     None
 }

@@ -127,9 +127,7 @@ pub fn declare(
         (message_of message.now place) (parts_in (walk name.now from (length name.now)))) index
         keys.old keys.new result }
 {
-    let Some(part) = part_at(name, from, name.len()) else {
-        return Naming::Parts(index as usize);
-    };
+    let Some(part) = part_at(name, from, name.len()) else { return Naming::Parts(index as usize); };
     let step = step_of(sheet, name, scope, message, place, part);
     declare_step(sheet, name, scope, step, part.name.to, index, keys)
 }

@@ -25,10 +25,8 @@ fn says_number(s: &[u8], at: usize, end: usize, number: u32) -> bool
     requires { (at ≤ end) × (end ≤ length s.now) }
     ensures { result ≡ says_number number s.now at end }
 {
-    let Some(Span { from, to: _ }) = field::sized_at(s, at, end, table::NUMBER, 4) else {
-        return false;
-    };
-    octets::u32_at(s, from) == number
+    let Some(figure) = field::sized_at(s, at, end, table::NUMBER, 4) else { return false; };
+    octets::u32_at(s, figure.from) == number
 }
 
 // Whether a field says this number.
@@ -36,14 +34,8 @@ fn field_says(s: &[u8], item: Span, number: u32) -> bool
     requires { Lies item s.now }
     ensures { result ≡ field_says number s.now item.from item.to }
 {
-    let Some(Span {
-        from: _,
-        to: shapes,
-    }) = field::leaf_at(s, item.from, item.to, table::NAME)
-    else {
-        return false;
-    };
-    says_number(s, shapes, item.to, number)
+    let Some(name) = field::leaf_at(s, item.from, item.to, table::NAME) else { return false; };
+    says_number(s, name.to, item.to, number)
 }
 
 // Whether an extension says this number.
@@ -52,21 +44,9 @@ fn extension_says(s: &[u8], item: Span, number: u32) -> bool
     ensures { result ≡ extension_says number s.now item.from item.to }
 {
     let end = item.to;
-    let Some(Span {
-        from: _,
-        to: extendees,
-    }) = field::leaf_at(s, item.from, end, table::NAME)
-    else {
-        return false;
-    };
-    let Some(Span {
-        from: _,
-        to: shapes,
-    }) = field::leaf_at(s, extendees, end, table::EXTENDEE)
-    else {
-        return false;
-    };
-    says_number(s, shapes, end, number)
+    let Some(name) = field::leaf_at(s, item.from, end, table::NAME) else { return false; };
+    let Some(extendee) = field::leaf_at(s, name.to, end, table::EXTENDEE) else { return false; };
+    says_number(s, extendee.to, end, number)
 }
 
 // The field of a message that a field of its body is, where it is of this number.
@@ -81,9 +61,7 @@ fn field_numbered_at(s: &[u8], tag: u8, item: Span, number: u32) -> Option<Decla
     if !field_says(s, item, number) {
         return None;
     }
-    let Some(d) = declaration_at(s, tag, item.from, item.to, table::FIELD) else {
-        return None;
-    };
+    let d = declaration_at(s, tag, item.from, item.to, table::FIELD)?;
     if d.shape.number != number {
         return None;
     }
@@ -98,14 +76,12 @@ fn field_numbered(s: &[u8], scope: LookupScope, number: u32) -> Option<Declarati
     let end = scope.body.to;
     let mut at = scope.body.from;
     while at < end {
-        let Some(Field { tag, from, to }) = field::field_at(s, at, end) else {
-            return None;
-        };
-        let item = Span { from: from, to: to };
-        if let Some(d) = field_numbered_at(s, tag, item, number) {
+        let field = field::field_at(s, at, end)?;
+        let item = Span { from: field.from, to: field.to };
+        if let Some(d) = field_numbered_at(s, field.tag, item, number) {
             return Some(d);
         }
-        at = to;
+        at = field.to;
     }
     None
 }
@@ -116,9 +92,7 @@ fn extension_read_at(s: &[u8], tag: u8, item: Span, message: &[u8], number: u32)
     ensures { result ≡ whose None tells_declared (is_extension_of s.now message.now number)
         (declaration_at extension_tag s.now tag item.from item.to) }
 {
-    let Some(d) = declaration_at(s, tag, item.from, item.to, table::EXTENSION) else {
-        return None;
-    };
+    let d = declaration_at(s, tag, item.from, item.to, table::EXTENSION)?;
     if d.shape.number != number {
         return None;
     }
@@ -161,13 +135,8 @@ fn extension_in_item(
         return None;
     }
     let end = item.to;
-    let Some(Span { from: _, to: body }) = field::leaf_at(s, item.from, end, table::NAME) else {
-        return None;
-    };
-    let inside = Span {
-        from: body,
-        to: end,
-    };
+    let name = field::leaf_at(s, item.from, end, table::NAME)?;
+    let inside = Span { from: name.to, to: end };
     extension_in_items(s, inside, left - 1, message, number)
 }
 
@@ -181,16 +150,14 @@ fn extension_in_items(s: &[u8], body: Span, left: usize, message: &[u8], number:
     let end = body.to;
     let mut at = body.from;
     while at < end {
-        let Some(Field { tag, from, to }) = field::field_at(s, at, end) else {
-            return None;
-        };
-        let item = Span { from: from, to: to };
-        if may_hold(s, tag, item, number) {
-            if let Some(d) = extension_in_item(s, tag, item, left, message, number) {
+        let field = field::field_at(s, at, end)?;
+        let item = Span { from: field.from, to: field.to };
+        if may_hold(s, field.tag, item, number) {
+            if let Some(d) = extension_in_item(s, field.tag, item, left, message, number) {
                 return Some(d);
             }
         }
-        at = to;
+        at = field.to;
     }
     None
 }
@@ -205,13 +172,8 @@ fn extension_in_file(s: &[u8], tag: u8, item: Span, message: &[u8], number: u32)
         return None;
     }
     let end = item.to;
-    let Some(Span { from: _, to: body }) = field::leaf_at(s, item.from, end, table::PACKAGE) else {
-        return None;
-    };
-    let inside = Span {
-        from: body,
-        to: end,
-    };
+    let package = field::leaf_at(s, item.from, end, table::PACKAGE)?;
+    let inside = Span { from: package.to, to: end };
     extension_in_items(s, inside, MOST_MESSAGES, message, number)
 }
 
@@ -222,14 +184,12 @@ fn extension_numbered(s: &[u8], message: &[u8], number: u32) -> Option<Declarati
     let end = s.len();
     let mut at = 0;
     while at < end {
-        let Some(Field { tag, from, to }) = field::field_at(s, at, end) else {
-            return None;
-        };
-        let item = Span { from: from, to: to };
-        if let Some(d) = extension_in_file(s, tag, item, message, number) {
+        let field = field::field_at(s, at, end)?;
+        let item = Span { from: field.from, to: field.to };
+        if let Some(d) = extension_in_file(s, field.tag, item, message, number) {
             return Some(d);
         }
-        at = to;
+        at = field.to;
     }
     None
 }

@@ -87,11 +87,9 @@ fn check_case(s: &[u8], at: usize) -> usize
         check_sheet(&s[from..to]);
         return to;
     }
-    let Some(Span { from: a, to: e }) = console::input::field_of(s, to, REQUEST) else {
-        return 0;
-    };
-    check_both(&s[from..to], &s[a..e]);
-    e
+    let Some(place) = console::input::field_of(s, to, REQUEST) else { return 0; };
+    check_both(&s[from..to], &s[place.from..place.to]);
+    place.to
 }
 
 // All cases, of which there has to be one.

@@ -25,13 +25,11 @@ fn answer_case(s: &[u8], older: &[u8], newer: &[u8], at: usize) -> usize
     ensures { result ≤ length s.now }
 {
     let told = tell_evolution(older, newer);
-    let Some(Span { from, to }) = leaf_at(s, at, s.len(), REQUEST) else {
-        return at;
-    };
+    let Some(place) = leaf_at(s, at, s.len(), REQUEST) else { return at; };
     if told {
-        tell_request(older, newer, &s[from..to]);
+        tell_request(older, newer, &s[place.from..place.to]);
     }
-    to
+    place.to
 }
 
 // The case at a place, and where the next one starts; 0 where the input is no such fields.
@@ -42,10 +40,8 @@ fn compare_case(s: &[u8], at: usize) -> usize
     let Some(Span { from, to }) = field_of(s, at, SHEET) else {
         return 0;
     };
-    let Some(Span { from: a, to: e }) = field_of(s, to, SHEET) else {
-        return 0;
-    };
-    answer_case(s, &s[from..to], &s[a..e], e)
+    let Some(place) = field_of(s, to, SHEET) else { return 0; };
+    answer_case(s, &s[from..to], &s[place.from..place.to], place.to)
 }
 
 // All cases, of which there has to be one.

@@ -80,14 +80,10 @@ fn find_case(s: &[u8], at: usize) -> usize
     let Some(Span { from, to }) = field_of(s, at, SHEET) else {
         return 0;
     };
-    let Some(Span { from: a, to: e }) = field_of(s, to, SCOPE) else {
-        return 0;
-    };
-    let Some(Span { from: n, to: m }) = field_of(s, e, PATH) else {
-        return 0;
-    };
-    answer(&s[from..to], &s[a..e], &s[n..m]);
-    m
+    let Some(scope) = field_of(s, to, SCOPE) else { return 0; };
+    let Some(place) = field_of(s, scope.to, PATH) else { return 0; };
+    answer(&s[from..to], &s[scope.from..scope.to], &s[place.from..place.to]);
+    place.to
 }
 
 // All cases, of which there has to be one.

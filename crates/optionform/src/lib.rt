@@ -21,9 +21,7 @@ pub fn check_parts(s: &[u8], from: usize, to: usize) -> Result<usize, Refusal>
     let mut at = from;
     let mut n = 0;
     while at < to {
-        let Some(p) = part_at(s, at, to) else {
-            return Ok(at);
-        };
+        let Some(p) = part_at(s, at, to) else { return Ok(at); };
         if MOST_PARTS <= n {
             return Err(Refusal::BeyondLimit);
         }
@@ -43,13 +41,9 @@ fn check_last(s: &[u8], at: usize, end: usize) -> Result<(), Refusal>
     requires { (at ≤ end) × (end ≤ length s.now) }
     ensures { result ≡ judge_last s.now at end }
 {
-    let Some(Field { tag, from, to }) = field::field_at(s, at, end) else {
-        return Err(Refusal::BadRequest);
-    };
-    if let Err(why) = check_constant(s, tag, from, to, MOST_CONSTANTS) {
-        return Err(why);
-    }
-    reply::judge(to == end, Refusal::BadRequest)
+    let Some(field) = field::field_at(s, at, end) else { return Err(Refusal::BadRequest); };
+    check_constant(s, field.tag, field.from, field.to, MOST_CONSTANTS)?;
+    reply::judge(field.to == end, Refusal::BadRequest)
 }
 
 // One field of a request after its heading, which has `index` of them before it.

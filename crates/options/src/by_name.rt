@@ -36,15 +36,8 @@ fn put_constant(
         (at_part part (constant_made (walking sheet.now) sheet.now request.now shape from to))
         (bytes_most (to - from)) out.old at out.new result }
 {
-    let Some(Field {
-        tag,
-        from: a,
-        to: e,
-    }) = field_at(request, from, to)
-    else {
-        return Ok(at);
-    };
-    let wrote = put_value(sheet, request, shape, tag, a, e, MOST_CONSTANTS, out, at);
+    let Some(field) = field_at(request, from, to) else { return Ok(at); };
+    let wrote = put_value(sheet, request, shape, field.tag, field.from, field.to, MOST_CONSTANTS, out, at);
     on_last(part, wrote)
 }
 

@@ -30,9 +30,7 @@ fn open(sheet: &[u8], request: &[u8]) -> Result<Option<Start>, Cause>
     requires { judge_request request.now ≡ Ok tt }
     ensures { Opens sheet.now request.now result }
 {
-    let Some(heading) = heading_of(request) else {
-        return Ok(None);
-    };
+    let Some(heading) = heading_of(request) else { return Ok(None); };
     if request.len() <= heading.options {
         return Ok(None);
     }

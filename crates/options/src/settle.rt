@@ -46,9 +46,7 @@ fn builtin_part(request: &[u8], from: usize, to: usize) -> Option<Part>
     requires { (from ≤ to) × (to ≤ length request.now) }
     ensures { result ≡ parted (builtin_part (parts_in (walk request.now from to))) }
 {
-    let Some(part) = part_at(request, from, to) else {
-        return None;
-    };
+    let part = part_at(request, from, to)?;
     if part.extension {
         return None;
     }
@@ -69,14 +67,7 @@ fn built_at(sheet: &[u8], request: &[u8], start: Start, part: Part, to: usize) -
         (constant_at request.now part.name.to to) }
     ensures inside { InBuilt result request.now }
 {
-    let Some(Field {
-        tag,
-        from: a,
-        to: e,
-    }) = field_at(request, part.name.to, to)
-    else {
-        return Built::Skipped;
-    };
+    let Some(field) = field_at(request, part.name.to, to) else { return Built::Skipped; };
     let name = start.options_type.from;
     let end = start.options_type.to;
     builtin_of(
@@ -85,9 +76,9 @@ fn built_at(sheet: &[u8], request: &[u8], start: Start, part: Part, to: usize) -
         &request[name..end],
         start.place,
         part.name,
-        tag,
-        a,
-        e,
+        field.tag,
+        field.from,
+        field.to,
     )
 }
 
@@ -163,9 +154,7 @@ pub fn settle(
         (others_of (settled_at (walking sheet.now) sheet.now request.now start from to)) (bytes_most (to - from))
         out.old at out.new result }
 {
-    let Some(part) = builtin_part(request, from, to) else {
-        return settle_named(sheet, request, start, option, from, to, out, at);
-    };
+    let Some(part) = builtin_part(request, from, to) else { return settle_named(sheet, request, start, option, from, to, out, at); };
     settled_built(built_at(sheet, request, start, part, to), option, at)
 }
 
@@ -187,8 +176,6 @@ pub fn put_set(
         (encode (set_recs (settled_at (walking sheet.now) sheet.now request.now start from to)))
         out.new result }
 {
-    let Some(part) = builtin_part(request, from, to) else {
-        return at;
-    };
+    let Some(part) = builtin_part(request, from, to) else { return at; };
     put_builtin(request, built_at(sheet, request, start, part, to), out, at)
 }

@@ -33,14 +33,10 @@ fn list_case(s: &[u8], at: usize, words: &mut [u32]) -> usize
     let Some(Span { from, to }) = field_of(s, at, SHEET) else {
         return 0;
     };
-    let Some(Span { from: a, to: e }) = field_of(s, to, OPTIONS_TYPE) else {
-        return 0;
-    };
-    let Some(Span { from: n, to: m }) = field_of(s, e, OPTION_BYTES) else {
-        return 0;
-    };
-    answer_over(&s[from..to], &s[a..e], &s[n..m], words);
-    m
+    let Some(options_type) = field_of(s, to, OPTIONS_TYPE) else { return 0; };
+    let Some(place) = field_of(s, options_type.to, OPTION_BYTES) else { return 0; };
+    answer_over(&s[from..to], &s[options_type.from..options_type.to], &s[place.from..place.to], words);
+    place.to
 }
 
 // All cases, of which there has to be one.

@@ -28,11 +28,9 @@ fn resolve_case(s: &[u8], at: usize, out: &mut [u8]) -> usize
     let Some(Span { from, to }) = field_of(s, at, SHEET) else {
         return 0;
     };
-    let Some(Span { from: a, to: e }) = field_of(s, to, REQUEST) else {
-        return 0;
-    };
-    answer_case(&s[from..to], &s[a..e], out);
-    e
+    let Some(place) = field_of(s, to, REQUEST) else { return 0; };
+    answer_case(&s[from..to], &s[place.from..place.to], out);
+    place.to
 }
 
 // All cases, of which there has to be one.

@@ -28,14 +28,12 @@ fn lower_words(numbering: u32, s: &[u8], at: usize) -> usize
     requires { at ≤ length s.now }
     ensures { result ≤ length s.now }
 {
-    let Some(Span { from, to }) = field_of(s, at, WORDS) else {
-        return 0;
-    };
-    if !console::input::has_words(WORDS, from, to) {
+    let Some(place) = field_of(s, at, WORDS) else { return 0; };
+    if !console::input::has_words(WORDS, place.from, place.to) {
         return 0;
     }
-    lower(numbering, &s[from..to]);
-    to
+    lower(numbering, &s[place.from..place.to]);
+    place.to
 }
 
 // The same, of a case that starts with its numbering.
@@ -43,13 +41,11 @@ fn lower_numbered(s: &[u8], at: usize) -> usize
     requires { at ≤ length s.now }
     ensures { result ≤ length s.now }
 {
-    let Some(Span { from, to }) = field_of(s, at, NUMBERING) else {
-        return 0;
-    };
-    if !console::input::has_size(NUMBERING, from, to, 4) {
+    let Some(place) = field_of(s, at, NUMBERING) else { return 0; };
+    if !console::input::has_size(NUMBERING, place.from, place.to, 4) {
         return 0;
     }
-    lower_words(octets::u32_at(s, from), s, to)
+    lower_words(octets::u32_at(s, place.from), s, place.to)
 }
 
 // The case at a place, and where the next one starts; 0 where the input is no such fields.

@@ -38,17 +38,11 @@ fn query_case(s: &[u8], at: usize) -> usize
     let Some(Span { from, to }) = field_of(s, at, SHEET) else {
         return 0;
     };
-    let Some(Span { from: a, to: e }) = field_of(s, to, OPTIONS_TYPE) else {
-        return 0;
-    };
-    let Some(Span { from: n, to: m }) = field_of(s, e, NAME) else {
-        return 0;
-    };
-    let Some(Span { from: b, to: f }) = field_of(s, m, OPTION_BYTES) else {
-        return 0;
-    };
-    answer(&s[from..to], &s[a..e], &s[n..m], &s[b..f]);
-    f
+    let Some(options_type) = field_of(s, to, OPTIONS_TYPE) else { return 0; };
+    let Some(name) = field_of(s, options_type.to, NAME) else { return 0; };
+    let Some(place) = field_of(s, name.to, OPTION_BYTES) else { return 0; };
+    answer(&s[from..to], &s[options_type.from..options_type.to], &s[name.from..name.to], &s[place.from..place.to]);
+    place.to
 }
 
 // All cases, of which there has to be one.

@@ -28,20 +28,16 @@ fn lower_case(s: &[u8], at: usize) -> usize
     requires { at ≤ length s.now }
     ensures { result ≤ length s.now }
 {
-    let Some(Span { from: k, to: next }) = field_of(s, at, KIND) else {
-        return 0;
-    };
-    if !console::input::has_size(KIND, k, next, 4) {
+    let Some(place) = field_of(s, at, KIND) else { return 0; };
+    if !console::input::has_size(KIND, place.from, place.to, 4) {
         return 0;
     }
-    let Some(Span { from, to }) = field_of(s, next, WORDS) else {
-        return 0;
-    };
-    if !console::input::has_words(WORDS, from, to) {
+    let Some(held) = field_of(s, place.to, WORDS) else { return 0; };
+    if !console::input::has_words(WORDS, held.from, held.to) {
         return 0;
     }
-    lower(octets::u32_at(s, k), &s[from..to]);
-    to
+    lower(octets::u32_at(s, place.from), &s[held.from..held.to]);
+    held.to
 }
 
 // All cases, of which there has to be one.

@@ -35,18 +35,11 @@ pub fn pair_at(s: &[u8], at: usize, end: usize) -> Option<Pair>
     if !is_pair_name(by) {
         return None;
     }
-    let Some(Field {
-        tag,
-        from: a,
-        to: e,
-    }) = field_at(s, to, end)
-    else {
-        return None;
-    };
+    let field = field_at(s, to, end)?;
     Some(Pair {
         by: by,
         name: Span { from: from, to: to },
-        tag: tag,
-        constant: Span { from: a, to: e },
+        tag: field.tag,
+        constant: Span { from: field.from, to: field.to },
     })
 }

@@ -29,9 +29,7 @@ pub struct AnsweredPart<'b> {
 fn check_place(bytes: &[u8], place: usize, length: usize) -> Result<(), Refusal>
     ensures { result ≡ judge_payload bytes.now place length }
 {
-    if let Err(why) = check_bytes(bytes) {
-        return Err(why);
-    }
+    check_bytes(bytes)?;
     if bytes.len() < place {
         return Err(Refusal::BadRequest);
     }

@@ -29,20 +29,18 @@ fn varint_in(s: &[u8], own: bool, at: usize, end: usize) -> Option<Payload>
     requires { (at ≤ end) × (end ≤ length s.now) }
     ensures { result ≡ payload_in (only_if own varint_type len_type) s.now at end }
 {
-    let Some(Read { value, next }) = varint_at(s, at, end) else {
-        return None;
-    };
+    let read = varint_at(s, at, end)?;
     if own {
         return Some(Payload {
             at: at,
-            size: next - at,
-            number: value,
+            size: read.next - at,
+            number: read.value,
         });
     }
-    if value <= (end - next) as u64 {
+    if read.value <= (end - read.next) as u64 {
         return Some(Payload {
-            at: next,
-            size: value as usize,
+            at: read.next,
+            size: read.value as usize,
             number: 0,
         });
     }

@@ -210,18 +210,10 @@ fn options_message(sheet: &[u8], options_type: &[u8], name: &[u8], bytes: &[u8])
     ensures { result ≡ admitted (judge_length sheet.now) sheet.now options_type.now name.now
         bytes.now }
 {
-    if let Err(why) = sheetform::check_length(sheet) {
-        return Err(why);
-    }
-    if let Err(why) = check_options_type(options_type) {
-        return Err(why);
-    }
-    if let Err(why) = check_name(name) {
-        return Err(why);
-    }
-    if let Err(why) = check_bytes(bytes) {
-        return Err(why);
-    }
+    sheetform::check_length(sheet)?;
+    check_options_type(options_type)?;
+    check_name(name)?;
+    check_bytes(bytes)?;
     lookups::message(sheet, options_type)
 }
 

@@ -56,9 +56,7 @@ fn put_ranges(kind: u32, words: &[i32], out: &mut [i32]) -> Result<usize, Cause>
     while i < words.len() {
         let start = words[i];
         let end = words[i + 1];
-        let Some(next) = end_of(kind, end) else {
-            return Err(reply::bare(Refusal::RangeEnd));
-        };
+        let Some(next) = end_of(kind, end) else { return Err(reply::bare(Refusal::RangeEnd)); };
         put_range(out, i, start, next);
         i += 2;
     }

@@ -21,17 +21,13 @@ fn member_at(s: &[u8], tag: u8, item: Span, want: u8) -> Option<Span>
         return None;
     }
     if want == table::FIELD {
-        let Some(d) = message_field_at(s, item.from, item.to) else {
-            return None;
-        };
+        let d = message_field_at(s, item.from, item.to)?;
         return Some(Span {
             from: d.name.from,
             to: d.name.to,
         });
     }
-    let Some(v) = value_at(s, item.from, item.to) else {
-        return None;
-    };
+    let v = value_at(s, item.from, item.to)?;
     Some(Span {
         from: v.name.from,
         to: v.name.to,
@@ -44,10 +40,8 @@ fn one_named(s: &[u8], tag: u8, item: Span, want: u8, name: &[u8]) -> usize
     ensures { (result ≡ count (is_text s.now name.now)
         (leaf_onto (member_at want s.now tag item.from item.to) [])) × (result ≤ 1) }
 {
-    let Some(Span { from, to }) = member_at(s, tag, item, want) else {
-        return 0;
-    };
-    if same(name, &s[from..to]) { 1 } else { 0 }
+    let Some(place) = member_at(s, tag, item, want) else { return 0; };
+    if same(name, &s[place.from..place.to]) { 1 } else { 0 }
 }
 
 // How many members have this name.
@@ -60,12 +54,10 @@ fn count_named(s: &[u8], body: Span, want: u8, name: &[u8]) -> usize
     let mut n = 0;
     let mut p = body.from;
     while p < end {
-        let Some(Field { tag, from, to }) = field_at(s, p, end) else {
-            return n;
-        };
-        let item = Span { from: from, to: to };
-        n += one_named(s, tag, item, want, name);
-        p = to;
+        let Some(field) = field_at(s, p, end) else { return n; };
+        let item = Span { from: field.from, to: field.to };
+        n += one_named(s, field.tag, item, want, name);
+        p = field.to;
     }
     n
 }
@@ -85,11 +77,9 @@ fn flaw_of_member(
     ensures { result ≡ member_flaw s.now why index (members_in want s.now (walk s.now body.from body.to))
         (member_at want s.now tag item.from item.to) }
 {
-    let Some(Span { from, to }) = member_at(s, tag, item, want) else {
-        return Reason::Yes;
-    };
-    let n = count_named(s, body, want, &s[from..to]);
-    or_no(n == 1, why, index, Span { from: from, to: to })
+    let Some(place) = member_at(s, tag, item, want) else { return Reason::Yes; };
+    let n = count_named(s, body, want, &s[place.from..place.to]);
+    or_no(n == 1, why, index, place)
 }
 
 // The first member that shares its name with another.
@@ -101,15 +91,13 @@ pub fn flaw_of_members(s: &[u8], body: Span, want: u8, why: Why, index: usize) -
     let end = body.to;
     let mut p = body.from;
     while p < end {
-        let Some(Field { tag, from, to }) = field_at(s, p, end) else {
-            return Reason::Yes;
-        };
-        let item = Span { from: from, to: to };
+        let Some(field) = field_at(s, p, end) else { return Reason::Yes; };
+        let item = Span { from: field.from, to: field.to };
         if let Reason::No {
             why: w,
             index: i,
             about,
-        } = flaw_of_member(s, tag, item, body, want, why, index)
+        } = flaw_of_member(s, field.tag, item, body, want, why, index)
         {
             return Reason::No {
                 why: w,
@@ -117,7 +105,7 @@ pub fn flaw_of_members(s: &[u8], body: Span, want: u8, why: Why, index: usize) -
                 about: about,
             };
         }
-        p = to;
+        p = field.to;
     }
     Reason::Yes
 }

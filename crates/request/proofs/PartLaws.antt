@@ -78,7 +78,7 @@ module _ (s : List ℕ) (at end : ℕ) (r : Option Part) (q : r ≡ part_at s at
   pub part-bounds : Bounds at end p.name.from p.name.to
   part-bounds =
       let o : PartField s at end p = part_field in
-      field-bounds s at end (Some (field o.tag p.name.from p.name.to)) o.field o.tag p.name.from p.name.to refl
+      field-bounds s at end (Some (field o.tag p.name.from p.name.to)) o.field (field o.tag p.name.from p.name.to) refl
 
   pub part-ordered : p.name.from ≤ p.name.to
   part-ordered = part-bounds.ordered
@@ -103,7 +103,7 @@ module _ (s : List ℕ) (at end : ℕ) (r : Option Part) (q : r ≡ part_at s at
   part_step =
       let o : PartField s at end p = part_field in
       let h : at < end = omega (arith, part-further, part-inside) in
-      walk_step s at end h (Some (field o.tag p.name.from p.name.to)) o.field o.tag p.name.from p.name.to refl
+      walk_step s at end h (Some (field o.tag p.name.from p.name.to)) o.field (field o.tag p.name.from p.name.to) refl
 
 pub ruleset part-places = (part-ordered, part-inside, part-within, part-further, part-less)
 

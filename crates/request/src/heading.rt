@@ -22,23 +22,12 @@ pub fn heading_of(s: &[u8]) -> Option<Heading>
     ensures { result ≡ heading_of s.now }
 {
     let end = s.len();
-    let Some(Span { from: a, to: types }) = leaf_at(s, 0, end, table::SCOPE) else {
-        return None;
-    };
-    let Some(Span {
-        from: m,
-        to: options,
-    }) = leaf_at(s, types, end, table::OPTIONS_TYPE)
-    else {
-        return None;
-    };
+    let scope = leaf_at(s, 0, end, table::SCOPE)?;
+    let options_type = leaf_at(s, scope.to, end, table::OPTIONS_TYPE)?;
     Some(Heading {
-        scope: Span { from: a, to: types },
-        options_type: Span {
-            from: m,
-            to: options,
-        },
-        options: options,
+        scope: scope,
+        options_type: options_type,
+        options: options_type.to,
     })
 }
 
@@ -49,9 +38,7 @@ pub fn after_parts(s: &[u8], from: usize, to: usize) -> usize
 {
     let mut at = from;
     while at < to {
-        let Some(p) = part_at(s, at, to) else {
-            return at;
-        };
+        let Some(p) = part_at(s, at, to) else { return at; };
         at = p.name.to;
     }
     at

@@ -17,19 +17,17 @@ pub fn part_at(s: &[u8], at: usize, end: usize) -> Option<Part>
     requires { (at ≤ end) × (end ≤ length s.now) }
     ensures { result ≡ part_at s.now at end }
 {
-    let Some(Field { tag, from, to }) = field_at(s, at, end) else {
-        return None;
-    };
-    if tag == table::DIRECT_PART {
+    let field = field_at(s, at, end)?;
+    if field.tag == table::DIRECT_PART {
         return Some(Part {
             extension: false,
-            name: Span { from: from, to: to },
+            name: Span { from: field.from, to: field.to },
         });
     }
-    if tag == table::EXTENSION_PART {
+    if field.tag == table::EXTENSION_PART {
         return Some(Part {
             extension: true,
-            name: Span { from: from, to: to },
+            name: Span { from: field.from, to: field.to },
         });
     }
     None

@@ -22,19 +22,10 @@ fn check_options(s: &[u8], from: usize, end: usize) -> Result<(), Refusal>
     let mut at = from;
     let mut index = 0;
     while at < end {
-        let Some(Field {
-            tag,
-            from: a,
-            to: e,
-        }) = field::field_at(s, at, end)
-        else {
-            return Err(Refusal::BadRequest);
-        };
-        if let Err(why) = check_option(s, index, tag, a, e) {
-            return Err(why);
-        }
+        let Some(field) = field::field_at(s, at, end) else { return Err(Refusal::BadRequest); };
+        check_option(s, index, field.tag, field.from, field.to)?;
         index += 1;
-        at = e;
+        at = field.to;
     }
     Ok(())
 }
@@ -47,17 +38,9 @@ pub fn check_request(s: &[u8]) -> Result<(), Refusal>
         return Err(Refusal::BeyondLimit);
     }
     let end = s.len();
-    let Some(Span { from: _, to: types }) = form::rel_or_empty_at(s, 0, end, table::SCOPE) else {
-        return Err(Refusal::BadRequest);
-    };
-    let Some(Span {
-        from: _,
-        to: options,
-    }) = form::rel_path_at(s, types, end, table::OPTIONS_TYPE)
-    else {
-        return Err(Refusal::BadRequest);
-    };
-    check_options(s, options, end)
+    let Some(scope) = form::rel_or_empty_at(s, 0, end, table::SCOPE) else { return Err(Refusal::BadRequest); };
+    let Some(options_type) = form::rel_path_at(s, scope.to, end, table::OPTIONS_TYPE) else { return Err(Refusal::BadRequest); };
+    check_options(s, options_type.to, end)
 }
 
 // Whether a scope that a call is given alone is fine.

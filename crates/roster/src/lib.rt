@@ -62,20 +62,12 @@ fn nth_enum(s: &[u8], item: Span, room: &mut [u8], at: usize, i: usize) -> Nth
     ensures { Finds (declared_in s.now (take at room.old) nowhere_in
         (enum_in s.now item.from item.to none)) i at room.old room.new result }
 {
-    let Some(Span { from, to: body }) = leaf_at(s, item.from, item.to, table::NAME) else {
-        return Nth::Beyond(i);
-    };
+    let Some(own_name) = leaf_at(s, item.from, item.to, table::NAME) else { return Nth::Beyond(i); };
     if i != 0 {
         return Nth::Beyond(i - 1);
     }
-    let name = Span {
-        from: from,
-        to: body,
-    };
-    let values = Span {
-        from: body,
-        to: item.to,
-    };
+    let name = own_name;
+    let values = Span { from: own_name.to, to: item.to };
     let size = put_name(s, name, room, at);
     Nth::Is {
         bearer: Bearer::Enum(values),
@@ -90,9 +82,7 @@ fn nth_extension(s: &[u8], item: Span, room: &mut [u8], at: usize, i: usize) -> 
     ensures { Finds (declared_in s.now (take at room.old) nowhere_in
         (extension_in (extension_at s.now item.from item.to) none)) i at room.old room.new result }
 {
-    let Some(d) = extension_at(s, item.from, item.to) else {
-        return Nth::Beyond(i);
-    };
+    let Some(d) = extension_at(s, item.from, item.to) else { return Nth::Beyond(i); };
     if i != 0 {
         return Nth::Beyond(i - 1);
     }
@@ -144,17 +134,9 @@ fn nth_in_message(s: &[u8], item: Span, left: usize, room: &mut [u8], at: usize,
         return Nth::Beyond(i);
     }
     let end = item.to;
-    let Some(Span { from, to: body }) = leaf_at(s, item.from, end, table::NAME) else {
-        return Nth::Beyond(i);
-    };
-    let name = Span {
-        from: from,
-        to: body,
-    };
-    let within = Span {
-        from: body,
-        to: end,
-    };
+    let Some(own_name) = leaf_at(s, item.from, end, table::NAME) else { return Nth::Beyond(i); };
+    let name = own_name;
+    let within = Span { from: own_name.to, to: end };
     if i == 0 {
         let size = put_name(s, name, room, at);
         return Nth::Is {
@@ -178,11 +160,9 @@ fn nth_in_items(s: &[u8], body: Span, left: usize, room: &mut [u8], at: usize, i
     let mut k = i;
     let mut p = body.from;
     while p < end {
-        let Some(Field { tag, from, to }) = field_at(s, p, end) else {
-            return Nth::Beyond(k);
-        };
-        let item = Span { from: from, to: to };
-        match nth_in_item(s, tag, item, left, room, at, k) {
+        let Some(field) = field_at(s, p, end) else { return Nth::Beyond(k); };
+        let item = Span { from: field.from, to: field.to };
+        match nth_in_item(s, field.tag, item, left, room, at, k) {
             Nth::Is { bearer, size } => {
                 return Nth::Is {
                     bearer: bearer,
@@ -191,7 +171,7 @@ fn nth_in_items(s: &[u8], body: Span, left: usize, room: &mut [u8], at: usize, i
             }
             Nth::Beyond(rest) => k = rest,
         }
-        p = to;
+        p = field.to;
     }
     Nth::Beyond(k)
 }
@@ -207,20 +187,12 @@ fn nth_in_file(s: &[u8], tag: u8, item: Span, room: &mut [u8], i: usize) -> Nth
         return Nth::Beyond(i);
     }
     let end = item.to;
-    let Some(Span { from, to: body }) = leaf_at(s, item.from, end, table::PACKAGE) else {
-        return Nth::Beyond(i);
-    };
-    let within = Span {
-        from: body,
-        to: end,
-    };
-    if from == body {
+    let Some(package) = leaf_at(s, item.from, end, table::PACKAGE) else { return Nth::Beyond(i); };
+    let within = Span { from: package.to, to: end };
+    if package.from == package.to {
         return nth_in_items(s, within, MOST_MESSAGES, room, 0, i);
     }
-    let name = Span {
-        from: from,
-        to: body,
-    };
+    let name = package;
     let size = put_inside(s, name, room, 0);
     nth_in_items(s, within, MOST_MESSAGES, room, size, i)
 }
@@ -234,11 +206,9 @@ pub fn nth_declared(s: &[u8], room: &mut [u8], i: usize) -> Nth
     let mut k = i;
     let mut p = 0;
     while p < end {
-        let Some(Field { tag, from, to }) = field_at(s, p, end) else {
-            return Nth::Beyond(k);
-        };
-        let item = Span { from: from, to: to };
-        match nth_in_file(s, tag, item, room, k) {
+        let Some(field) = field_at(s, p, end) else { return Nth::Beyond(k); };
+        let item = Span { from: field.from, to: field.to };
+        match nth_in_file(s, field.tag, item, room, k) {
             Nth::Is { bearer, size } => {
                 return Nth::Is {
                     bearer: bearer,
@@ -247,7 +217,7 @@ pub fn nth_declared(s: &[u8], room: &mut [u8], i: usize) -> Nth
             }
             Nth::Beyond(rest) => k = rest,
         }
-        p = to;
+        p = field.to;
     }
     Nth::Beyond(k)
 }

@@ -167,9 +167,7 @@ fn ident_on(sheet: &[u8], request: &[u8], unlisted: Refusal, shape: Shape, place
     match lookups::enum_at(sheet, shape.path) {
         Err(why) => Err(why),
         Ok(values) => {
-            let Some(v) = lookups::value_named(sheet, values, &request[from..to]) else {
-                return Err(unlisted);
-            };
+            let Some(v) = lookups::value_named(sheet, values, &request[from..to]) else { return Err(unlisted); };
             Ok(Body::Bits(wire::numbers::widen32(v.number as u64)))
         }
     }

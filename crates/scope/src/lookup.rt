@@ -28,13 +28,11 @@ pub fn named_at(s: &[u8], from: usize, to: usize, name: &[u8]) -> Option<Span>
     requires { (from ≤ to) × (to ≤ length s.now) }
     ensures { result ≡ leaf_at name_tag (same_bytes name.now) s.now from to }
 {
-    let Some(Span { from: n, to: m }) = field::leaf_at(s, from, to, table::NAME) else {
-        return None;
-    };
-    if !octets::same(name, &s[n..m]) {
+    let own_name = field::leaf_at(s, from, to, table::NAME)?;
+    if !octets::same(name, &s[own_name.from..own_name.to]) {
         return None;
     }
-    Some(Span { from: n, to: m })
+    Some(own_name)
 }
 
 // What stands after the name in a field of the tag `want` and of this name.
@@ -45,10 +43,8 @@ fn body_at(s: &[u8], tag: u8, from: usize, to: usize, want: u8, name: &[u8]) -> 
     if tag != want {
         return None;
     }
-    let Some(Span { from: _, to: body }) = named_at(s, from, to, name) else {
-        return None;
-    };
-    Some(Span { from: body, to: to })
+    let place = named_at(s, from, to, name)?;
+    Some(Span { from: place.to, to: to })
 }
 
 // What stands after the name in the first field of that tag and name in the scope.
@@ -79,13 +75,11 @@ pub fn down(s: &[u8], scope: LookupScope, name: &[u8]) -> Option<LookupScope>
     if scope.left == 0 {
         return None;
     }
-    let Some(Span { from, to }) = body_named(s, scope, table::MESSAGE, name) else {
-        return None;
-    };
+    let place = body_named(s, scope, table::MESSAGE, name)?;
     Some(LookupScope {
         file: scope.file,
         message: true,
-        body: Span { from: from, to: to },
+        body: place,
         left: scope.left - 1,
     })
 }

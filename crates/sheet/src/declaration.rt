@@ -50,13 +50,11 @@ fn type_path_at(s: &[u8], at: usize, end: usize, typ: u8) -> Option<Span>
         }
         return Some(Span { from: 0, to: 0 });
     }
-    let Some(Span { from, to }) = leaf_at(s, at, end, table::TYPE_PATH) else {
-        return None;
-    };
-    if to != end {
+    let path = leaf_at(s, at, end, table::TYPE_PATH)?;
+    if path.to != end {
         return None;
     }
-    Some(Span { from: from, to: to })
+    Some(path)
 }
 
 // Number, type, label and type path, from a place on.
@@ -64,28 +62,16 @@ fn shape_at(s: &[u8], at: usize, end: usize) -> Option<Shape>
     requires { (at ≤ end) × (end ≤ length s.now) }
     ensures { result ≡ shape_at s.now at end }
 {
-    let Some(Span { from: n, to: types }) = sized_at(s, at, end, table::NUMBER, 4) else {
-        return None;
-    };
-    let Some(Span {
-        from: t,
-        to: labels,
-    }) = sized_at(s, types, end, table::TYPE, 1)
-    else {
-        return None;
-    };
-    let Some(Span { from: l, to: paths }) = sized_at(s, labels, end, table::LABEL, 1) else {
-        return None;
-    };
-    let typ = s[t];
-    let Some(Span { from, to }) = type_path_at(s, paths, end, typ) else {
-        return None;
-    };
+    let number = sized_at(s, at, end, table::NUMBER, 4)?;
+    let kind = sized_at(s, number.to, end, table::TYPE, 1)?;
+    let label = sized_at(s, kind.to, end, table::LABEL, 1)?;
+    let typ = s[kind.from];
+    let place = type_path_at(s, label.to, end, typ)?;
     Some(Shape {
-        number: octets::u32_at(s, n),
+        number: octets::u32_at(s, number.from),
         typ: typ,
-        label: s[l],
-        path: Span { from: from, to: to },
+        label: s[label.from],
+        path: place,
     })
 }
 
@@ -94,32 +80,12 @@ pub fn extension_at(s: &[u8], from: usize, to: usize) -> Option<Declaration>
     requires { (from ≤ to) × (to ≤ length s.now) }
     ensures { result ≡ extension_at s.now from to }
 {
-    let Some(Span {
-        from: n,
-        to: extendees,
-    }) = leaf_at(s, from, to, table::NAME)
-    else {
-        return None;
-    };
-    let Some(Span {
-        from: x,
-        to: shapes,
-    }) = leaf_at(s, extendees, to, table::EXTENDEE)
-    else {
-        return None;
-    };
-    let Some(shape) = shape_at(s, shapes, to) else {
-        return None;
-    };
+    let name = leaf_at(s, from, to, table::NAME)?;
+    let extendee = leaf_at(s, name.to, to, table::EXTENDEE)?;
+    let shape = shape_at(s, extendee.to, to)?;
     Some(Declaration {
-        name: Span {
-            from: n,
-            to: extendees,
-        },
-        extendee: Span {
-            from: x,
-            to: shapes,
-        },
+        name: name,
+        extendee: extendee,
         shape: shape,
     })
 }
@@ -129,21 +95,10 @@ pub fn message_field_at(s: &[u8], from: usize, to: usize) -> Option<Declaration>
     requires { (from ≤ to) × (to ≤ length s.now) }
     ensures { result ≡ message_field_at s.now from to }
 {
-    let Some(Span {
-        from: n,
-        to: shapes,
-    }) = leaf_at(s, from, to, table::NAME)
-    else {
-        return None;
-    };
-    let Some(shape) = shape_at(s, shapes, to) else {
-        return None;
-    };
+    let name = leaf_at(s, from, to, table::NAME)?;
+    let shape = shape_at(s, name.to, to)?;
     Some(Declaration {
-        name: Span {
-            from: n,
-            to: shapes,
-        },
+        name: name,
         extendee: Span { from: 0, to: 0 },
         shape: shape,
     })
@@ -154,24 +109,13 @@ pub fn value_at(s: &[u8], from: usize, to: usize) -> Option<Value>
     requires { (from ≤ to) × (to ≤ length s.now) }
     ensures { result ≡ value_at s.now from to }
 {
-    let Some(Span {
-        from: n,
-        to: numbers,
-    }) = leaf_at(s, from, to, table::NAME)
-    else {
-        return None;
-    };
-    let Some(Span { from: k, to: end }) = sized_at(s, numbers, to, table::SIGNED_NUMBER, 4) else {
-        return None;
-    };
-    if end != to {
+    let name = leaf_at(s, from, to, table::NAME)?;
+    let number = sized_at(s, name.to, to, table::SIGNED_NUMBER, 4)?;
+    if number.to != to {
         return None;
     }
     Some(Value {
-        name: Span {
-            from: n,
-            to: numbers,
-        },
-        number: octets::u32_at(s, k),
+        name: name,
+        number: octets::u32_at(s, number.from),
     })
 }

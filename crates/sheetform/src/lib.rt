@@ -22,10 +22,8 @@ fn check_file(s: &[u8], index: usize, tag: u8, from: usize, to: usize) -> Result
     if MOST_FILES <= index {
         return Err(Refusal::BeyondLimit);
     }
-    let Some(Span { from: _, to: body }) = form::rel_or_empty_at(s, from, to, table::PACKAGE) else {
-        return Err(Refusal::BadSheet);
-    };
-    check_items(s, body, to, MOST_MESSAGES, false)
+    let Some(package) = form::rel_or_empty_at(s, from, to, table::PACKAGE) else { return Err(Refusal::BadSheet); };
+    check_items(s, package.to, to, MOST_MESSAGES, false)
 }
 
 // The files of a sheet.
@@ -36,14 +34,10 @@ fn check_files(s: &[u8]) -> Result<(), Refusal>
     let mut at = 0;
     let mut index = 0;
     while at < end {
-        let Some(Field { tag, from, to }) = field::field_at(s, at, end) else {
-            return Err(Refusal::BadSheet);
-        };
-        if let Err(why) = check_file(s, index, tag, from, to) {
-            return Err(why);
-        }
+        let Some(field) = field::field_at(s, at, end) else { return Err(Refusal::BadSheet); };
+        check_file(s, index, field.tag, field.from, field.to)?;
         index += 1;
-        at = to;
+        at = field.to;
     }
     Ok(())
 }
@@ -59,8 +53,6 @@ pub fn check_length(s: &[u8]) -> Result<(), Refusal>
 pub fn check_sheet(s: &[u8]) -> Result<(), Refusal>
     ensures { Says (judge_sheet s.now) result }
 {
-    if let Err(why) = check_length(s) {
-        return Err(why);
-    }
+    check_length(s)?;
     check_files(s)
 }

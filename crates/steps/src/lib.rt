@@ -81,9 +81,7 @@ pub fn step_of(
     if part.extension {
         return step_extension(lookups::extension(sheet, scope, message, &request[from..to]));
     }
-    let Some(field) = lookups::field_named(sheet, place, &request[from..to]) else {
-        return Err(Lack::NoField);
-    };
+    let Some(field) = lookups::field_named(sheet, place, &request[from..to]) else { return Err(Lack::NoField); };
     Ok(field)
 }
 
@@ -115,12 +113,10 @@ pub fn behind(sheet: &[u8], request: &[u8], shape: Shape, from: usize, to: usize
     requires lies { Lies shape.path sheet.now }
     ensures { result ≡ behind_of (walking sheet.now) sheet.now request.now shape from to }
 {
-    let Some(_) = part_at(request, from, to) else {
-        return Reach::Constant {
+    let Some(_) = part_at(request, from, to) else { return Reach::Constant {
             shape: shape,
             from: from,
-        };
-    };
+        }; };
     left_on(sheet, shape, from)
 }
 
@@ -168,9 +164,7 @@ pub fn reach_of(
         (message_of message.now place) from to }
     ensures lies { Led sheet.now request.now from to result }
 {
-    let Some(part) = part_at(request, from, to) else {
-        return Reach::Nothing;
-    };
+    let Some(part) = part_at(request, from, to) else { return Reach::Nothing; };
     let step = step_of(sheet, request, scope, message, place, part);
     led(sheet, request, step, part.name.to, to)
 }

@@ -26,18 +26,11 @@ pub fn take_unknown(payload: Option<Payload>) -> Taken
     requires { PayloadIn most_option_bytes payload }
     ensures { result ≡ unknown_taken payload }
 {
-    let Some(Payload {
-        at,
-        size,
-        number: _,
-    }) = payload
-    else {
-        return Taken::Wrong(Refusal::BadBytes);
-    };
-    let next = at + size;
+    let Some(payload3) = payload else { return Taken::Wrong(Refusal::BadBytes); };
+    let next = payload3.at + payload3.size;
     Taken::Record {
-        place: at as u32,
-        size: size as u32,
+        place: payload3.at as u32,
+        size: payload3.size as u32,
         value: 0,
         next: next,
     }
@@ -52,18 +45,11 @@ pub fn take_known(typ: usize, wire: u8, payload: Option<Payload>) -> Taken
     if wire_of(typ) != wire {
         return Taken::Wrong(Refusal::WireMismatch);
     }
-    let Some(Payload {
-        at,
-        size,
-        number: said,
-    }) = payload
-    else {
-        return Taken::Wrong(Refusal::BadBytes);
-    };
+    let Some(payload3) = payload else { return Taken::Wrong(Refusal::BadBytes); };
     Taken::Record {
-        place: at as u32,
-        size: size as u32,
-        value: value_of(typ, said),
-        next: at + size,
+        place: payload3.at as u32,
+        size: payload3.size as u32,
+        value: value_of(typ, payload3.number),
+        next: payload3.at + payload3.size,
     }
 }

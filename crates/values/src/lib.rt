@@ -157,9 +157,7 @@ fn put_pairs(
     let mut p = at;
     let mut i = from;
     while i < to {
-        let Some(pair) = pair_at(request, i, to) else {
-            return Ok(p);
-        };
+        let Some(pair) = pair_at(request, i, to) else { return Ok(p); };
         let r = put_pair(sheet, request, scope, pair, left, out, p);
         let Ok(q) = r else {
             return r;
@@ -183,17 +181,13 @@ fn target_of(sheet: &[u8], request: &[u8], scope: LookupScope, pair: Pair, left:
         pair.tag,
         pair.constant.from,
         pair.constant.to,
-    ) else {
-        return Ok(None);
-    };
+    ) else { return Ok(None); };
     if pair.by != table::PAIR_FIELD {
         return Ok(None);
     }
     let a = pair.name.from;
     let e = pair.name.to;
-    let Some(d) = lookups::field_named(sheet, scope, &request[a..e]) else {
-        return Err(Refusal::UnknownFieldName);
-    };
+    let Some(d) = lookups::field_named(sheet, scope, &request[a..e]) else { return Err(Refusal::UnknownFieldName); };
     let shape = d.shape;
     Ok(Some(shape))
 }
@@ -253,9 +247,7 @@ pub fn put_value(
         (value_made (walking sheet.now) sheet.now request.now shape left tag from to)
         (bytes_most (3 + (to - from))) out.old at out.new result }
 {
-    let Some(c) = held_at(request, left, tag, from, to) else {
-        return Ok(at);
-    };
+    let Some(c) = held_at(request, left, tag, from, to) else { return Ok(at); };
     match kind_of(c) {
         Kind::Scalar => put_scalar(sheet, request, shape, c, out, at),
         Kind::List => put_list(sheet, request, shape, from, to, left - 1, out, at),
@@ -284,20 +276,13 @@ fn put_list(
     let mut p = at;
     let mut i = from;
     while i < to {
-        let Some(Field {
-            tag,
-            from: a,
-            to: e,
-        }) = field::field_at(request, i, to)
-        else {
-            return Ok(p);
-        };
-        let r = put_value(sheet, request, shape, tag, a, e, left, out, p);
+        let Some(field) = field::field_at(request, i, to) else { return Ok(p); };
+        let r = put_value(sheet, request, shape, field.tag, field.from, field.to, left, out, p);
         let Ok(q) = r else {
             return r;
         };
         p = q;
-        i = e;
+        i = field.to;
     }
     Ok(p)
 }

@@ -219,9 +219,9 @@ part-length-le s at end = rw (length-take (end - at) (drop at s)) (min-le_left (
 
 placed-bounded : (s : List ℕ) (at end : ℕ) (r : Option Read) → read_varint (part s at end) ≡ r → Bounded at end (at_place at r)
 placed-bounded s at end (Some it1) e =
-    let some = read_some (part s at end) it1.value it1.next e in
-    let few : it1.next ≤ end - at = le_trans (read-inside (part s at end) it1.value it1.next e) (part-length-le s at end) in
-    record { after = omega arith; inside = omega arith; small = read_small (part s at end) it1.value it1.next e }
+    let some = read_some (part s at end) it1 e in
+    let few : it1.next ≤ end - at = le_trans (read-inside (part s at end) it1 e) (part-length-le s at end) in
+    record { after = omega arith; inside = omega arith; small = read_small (part s at end) it1 e }
 placed-bounded s at end None e = tt
 
 module _ (s : List ℕ) (at end : ℕ) (r : Option Read) (p : r ≡ varint_at s at end) (x : Read) (q : r ≡ Some x) where

@@ -5,18 +5,11 @@ use field::Field;
 pub fn part(c: &[u8], tag: u8) -> &[u8] {
     let mut at = 0;
     while at < c.len() {
-        let Some(Field {
-            tag: found,
-            from,
-            to,
-        }) = field::field_at(c, at, c.len())
-        else {
-            return &c[..0];
-        };
-        if found == tag {
-            return &c[from..to];
+        let Some(field) = field::field_at(c, at, c.len()) else { return &c[..0]; };
+        if field.tag == tag {
+            return &c[field.from..field.to];
         }
-        at = to;
+        at = field.to;
     }
     &c[..0]
 }

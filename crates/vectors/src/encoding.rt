@@ -27,10 +27,8 @@ fn has_length(given: &[u8], n: usize) -> bool {
 
 // Whether a number is read at the front of these bytes, from n of them.
 fn reads(s: &[u8], v: u64, n: usize) -> bool {
-    let Some(Read { value, next }) = varint_at(s, 0, s.len()) else {
-        return false;
-    };
-    (value == v) & (next == n)
+    let Some(read) = varint_at(s, 0, s.len()) else { return false; };
+    (read.value == v) & (read.next == n)
 }
 
 pub fn is_zigzag(given: &[u8], want: &[u8]) -> bool {
