@@ -54,7 +54,7 @@ module _ (r : List ℕ) (x : Built) where
     unfolding InBuilt
     put-inside i = rw g at i
 
-pub ruleset put-laws = (put-skipped, put_wrong, put-sets, put-inside)
+pub ruleset put_laws = (put-skipped, put_wrong, put-sets, put-inside)
 
 -- ---- for callers: the constant that a builtin is set by, as it was read from the request
 record Read (L : Lookups) (s r : List ℕ) (h : Shape) (t a e : ℕ) (b : Body) : Type 0 where
@@ -133,4 +133,4 @@ module _ (L : Lookups) (s r : List ℕ) (m : Message) (n : List ℕ) (t a e : �
   built-few (Wrong w) q = omega arith
   built-few (Sets h b) q = read-few L s r h t a e b (read_of h b q)
 
-pub ruleset built-laws = (built-inside, built-few)
+pub ruleset built_laws = (built-inside, built-few)

@@ -100,7 +100,7 @@ module _ (L : Lookups) (s r : List ℕ) (h : Shape) where
       pub on-other : b ≡ false → Err UnsupportedExtensionType ≡ builtin_on L s r h (constant_in most_constants r unnamed t a e no_constant)
       on-other d = held-other (inside r) c (plain_type ∙ d) ∙ held_on
 
-pub ruleset on-laws = (on_none, on-plain, on-other, read-inside)
+pub ruleset on_laws = (on_none, on-plain, on-other, read-inside)
 
 -- ---- builtin_field
 module _ (L : Lookups) (s r : List ℕ) (d : Declaration) (c : Constants) where

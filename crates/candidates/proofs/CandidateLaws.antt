@@ -113,7 +113,7 @@ module _ (s : List ℕ) (i end k : ℕ) (c : Climbed s i end k) (w : i ≤ lengt
       (parent-take (n - (k + 1)) (components s) (omega arith)) in
       record { few = omega arith; inside = omega (arith, c.inside); spelt = p ∙ ap spell up }
 
-pub ruleset climbed-laws = (front_length, climbed-start, climbed-end, climbed-next)
+pub ruleset climbed_laws = (front_length, climbed-start, climbed-end, climbed-next)
 
 -- ---- how many candidates there are
 module _ (scope name : List ℕ) (r : Bool) (q : r ≡ is_abs name) where
@@ -126,7 +126,7 @@ module _ (scope name : List ℕ) (r : Bool) (q : r ≡ is_abs name) where
 pub candidates-fit : (scope : List ℕ) → length scope * 1 < 2 ^ 63 → (n : ℕ) → n ≡ length (components scope) → Fits w64 (n + 1)
 candidates-fit scope h n p = record { fits = omega (arith, components-length-le scope) }
 
-pub ruleset candidates-laws = (candidates-one, candidates-more, candidates-fit)
+pub ruleset candidates_laws = (candidates-one, candidates-more, candidates-fit)
 
 -- ---- candidate
 pub rootless-short : (name x : List ℕ) → x ≡ rootless name → length name * 1 < 2 ^ 63 → 0 + length x < 2 ^ 64
@@ -209,4 +209,4 @@ module _ (scope name : List ℕ) (h : is_rel_or_empty scope ≡ true) (k : is_pa
   pub candidate-text-le : length (spell (candidate scope name i)) ≤ most_candidate
   candidate-text-le = candidate-length-le scope name i w (rel-length-le scope h) (path-length-le name k)
 
-pub ruleset candidate-laws = (rootless-short, alone-fits, candidate-whole, candidate-within, candidate-joined, candidate-alone)
+pub ruleset candidate_laws = (rootless-short, alone-fits, candidate-whole, candidate-within, candidate-joined, candidate-alone)

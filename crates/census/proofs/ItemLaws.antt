@@ -17,7 +17,7 @@ use Rattle.octets.specs.Octets.{part}
 use Rattle.field.specs.Leaf.{any_bytes, leaf_at, span}
 use Rattle.field.specs.Walk.{Walk, done, cut, step, walk}
 use Rattle.field.proofs.LeafLaws.{leaf-bounds, leaf-inside, leaf-ordered, leaf-within}
-use Rattle.field.proofs.Tally.{Tally, total, tally-start, tally-laws}
+use Rattle.field.proofs.Tally.{Tally, total, tally-start, tally_laws}
 use Rattle.sheet.specs.Table.{file_tag, message_tag, package_tag, name_tag}
 use Rattle.sheet.specs.Tree.{Items, none, File, item_in, message_in, items_in, file_in, files_in, tree_of}
 use Rattle.sheet.proofs.TreeLaws.{item-message, message-unnamed, message-named}
@@ -59,7 +59,7 @@ module _ (x : Asked) (w : Way) (a e : ℕ) where
     pub open-off : w ≡ Off → a ≡ open_to x w a e
     open-off z = rw (h, z)
 
-pub ruleset open-laws = (open-numbers, open_own, open-within, open-off)
+pub ruleset open_laws = (open-numbers, open_own, open-within, open-off)
 
 open-bounds : (x : Asked) (w : Way) (a e : ℕ) → a ≤ e → Lying e a (open_to x w a e)
 open-bounds (Bearers k) Own a e h = record { ordered = omega arith; inside = h }
@@ -162,7 +162,7 @@ module _ (s : List ℕ) (a e : ℕ) (r : Option Span) (q : r ≡ leaf_at name_ta
   pub message-fits : Fits w64 e → Fits w64 (y + u)
   message-fits = let x = leaf-bounds name_tag any_bytes s a e r q p g in Fits-le (omega (arith, x.starts, x.ordered, x.inside))
 
-pub ruleset in-item-laws = (
+pub ruleset in_item_laws = (
   in-item-other,
   in-item-unnamed,
   in-item-named,
@@ -187,7 +187,7 @@ open-counts m x o s w d a e u q y p = rw q at p ∙ open-whole m x o s w d a e
 pub open-few : (x : Asked) (w : Way) (a e u : ℕ) → u ≡ open_to x w a e → a ≤ e → (y : ℕ) → y ≤ u - a → y ≤ e - a
 open-few x w a e u q h y p = let z = open-bounds x w a e h in omega (arith, z.inside, q)
 
-pub ruleset in-items-laws = (items-start, open-counts, open-few, tally-laws)
+pub ruleset in_items_laws = (items-start, open-counts, open-few, tally_laws)
 
 -- ---- in_file
 -- what stands after a package counts for no more than its bytes
@@ -208,18 +208,18 @@ module _ (m : List ℕ) (x : Asked) (o s : List ℕ) (t a e : ℕ) where
         → (y : ℕ) → y ≡ items_asked m x o s v (items_in most_messages s (walk s l.to e)) → y ≡ files_asked m x o s (file_at s t a e)
     in-file-named l g v u y p = rw (file-named s t a e [] h r q l.from l.to g, p, u) (omega arith)
 
-pub ruleset in-file-laws = (in-file-other, in-file-unnamed, in-file-named, none-few, file-few, leaf-inside, leaf-ordered, leaf-within)
+pub ruleset in_file_laws = (in-file-other, in-file-unnamed, in-file-named, none-few, file-few, leaf-inside, leaf-ordered, leaf-within)
 
 -- ---- in_files
-pub ruleset in-files-laws = (files-start, tally-laws)
+pub ruleset in_files_laws = (files-start, tally_laws)
 
 -- ---- bearers and numbered
 pub bearers-counts : (k : ℕ) (m o s : List ℕ) (y : ℕ) → y ≡ files_asked m (Bearers k) o s (tree_of s) → y ≡ bearing k m (every_declared s)
 bearers-counts k m o s y p = p ∙ bearers-is k m o s
 
-pub ruleset bearers-laws = (bearers-counts, asked-bearers)
+pub ruleset bearers_laws = (bearers-counts, asked-bearers)
 
 pub numbered-counts : (m : List ℕ) (l : Like) (o s : List ℕ) (y : ℕ) → y ≡ files_asked m (Numbers l) o s (tree_of s) → y ≡ numbered m l o s
 numbered-counts m l o s y p = p ∙ numbered_is m l o s
 
-pub ruleset numbered-laws = (numbered-counts, asked-numbers)
+pub ruleset numbered_laws = (numbered-counts, asked-numbers)

@@ -71,7 +71,7 @@ module _ (m : List ℕ) (w : Way) (n : List ℕ) where
   pub onward-within : (at : ℕ) → w ≡ Within at → (r : Way) → r ≡ onward m (Within at) n → r ≡ onward m w n
   onward-within at h r q = rw h q
 
-pub ruleset onward-laws = (
+pub ruleset onward_laws = (
   reaches-place,
   onward-own,
   onward-off,
@@ -113,4 +113,4 @@ module _ (m : List ℕ) where
     pub file-way-reaches : Reaches m (Within (length n + 1))
     file-way-reaches = reaches-within (length n + 1) (omega (arith, leads-ends m 0 n (omega arith) b q p))
 
-pub ruleset file-way-laws = (file-way-empty, file-way-led, file-way-off, reaches-start, file-way-next, file-way-reaches, reaches-off)
+pub ruleset file_way_laws = (file-way-empty, file-way-led, file-way-off, reaches-start, file-way-next, file-way-reaches, reaches-off)

@@ -56,7 +56,7 @@ module _ (x : Asked) (g : ℕ) (w : Way) where
 pub one-few : 1 ≤ 1
 one-few = omega arith
 
-pub ruleset own-laws = (own-numbers, own-unwanted, own-wanted, own-within, own-off, none-few, one-few, not-true, not-false)
+pub ruleset own_laws = (own-numbers, own-unwanted, own-wanted, own-within, own-off, none-few, one-few, not-true, not-false)
 
 -- ---- name_at
 module _ (s : List ℕ) (t a e : ℕ) where
@@ -79,7 +79,7 @@ module _ (s : List ℕ) (t a e : ℕ) where
     pub name-extension : (y : Declaration) → r ≡ Some y → Some (span y.name.from y.name.to) ≡ named (item_at 0 s t a e)
     name-extension y g = rw (item-extension (message_in 0 s) s t a e none h r q y g)
 
-pub ruleset name-laws = (name-enum, name-other, name-none, name-extension)
+pub ruleset name_laws = (name-enum, name-other, name-none, name-extension)
 
 -- ---- bears
 module _ (s : List ℕ) (t a e : ℕ) (r : Option Span) (q : r ≡ named (item_at 0 s t a e)) where
@@ -110,7 +110,7 @@ pub bears-own : (x : Asked) (g : ℕ) (m : List ℕ) (w : Way) (n : List ℕ) (v
     → y ≡ own x g (onward m w n)
 bears-own x g m w n v u y p = rw u at p
 
-pub ruleset bears-laws = (bears-none, bears-some, bears-own, none-few, name-ordered, name-within)
+pub ruleset bears_laws = (bears-none, bears-some, bears-own, none-few, name-ordered, name-within)
 
 -- ---- in_other
 pub asked-placed : (o : List ℕ) (x : Asked) (l : Like) → x ≡ Numbers l → AskedOf o x → Placed o l
@@ -156,4 +156,4 @@ module _ (m : List ℕ) (x : Asked) (o s : List ℕ) (w : Way) (t a e : ℕ) whe
         (item-cases (λ f. 0 ≡ items_asked m (Numbers l) o s w (f none)) s a e refl 0 t
         (λ _ z. absurd (z refl)) (λ y. absurd (f y)) (λ _ n b _. refl) (λ y. absurd (g y)))
 
-pub ruleset in-other-laws = (in-other-bears, in-other-extension, in-other-field, in-other-none, asked-placed, none-few)
+pub ruleset in_other_laws = (in-other-bears, in-other-extension, in-other-field, in-other-none, asked-placed, none-few)

@@ -11,7 +11,7 @@ use Rattle.inputs.specs.inner.Due.{due_at, due_leaf}
 use Rattle.inputs.proofs.DueLaws.{due-leaf}
 use Rattle.inputs.proofs.WordLaws.{words_count}
 use Rattle.console.specs.Input.{Fills}
-use Rattle.console.proofs.OutputLaws.{front-laws}
+use Rattle.console.proofs.OutputLaws.{front_laws}
 use Rattle.field.specs.declared.Span.{Span}
 
 -- ---- the ways through `has_size` and `has_words`
@@ -21,7 +21,7 @@ size-yes n size e = sym (eq-eqb n size e)
 pub size-no : (n size : ℕ) → (n ≡ size → ⊥) → false ≡ eqb n size
 size-no n size e = sym (ne_eqb n size e)
 
-pub ruleset size-told-laws = (size-yes, size-no)
+pub ruleset size_told_laws = (size-yes, size-no)
 
 -- ---- `field_of`
 pub leaf-due : (k : ℕ) (s : List ℕ) (at : ℕ) (d : Due) → d ≡ due_at k s at → (r : Option Span) → r ≡ due_leaf d
@@ -39,4 +39,4 @@ payload-holds k s at end r q u g size b p t =
 pub input-within : (r : Option ℕ) (room : ℕ) → Fills r room → (n : ℕ) → r ≡ Some n → n ≤ room
 input-within r room f n e = rw e at f
 
-pub ruleset input-laws = (leaf-ordered, leaf-inside, payload-holds, input-within, words_count, not-true, not-false, front-laws)
+pub ruleset input_laws = (leaf-ordered, leaf-inside, payload-holds, input-within, words_count, not-true, not-false, front_laws)

@@ -49,7 +49,7 @@ module _ (n : ℤ) (f : SFits w32 n) where
   pub size_fits : Fits w64 (nat_abs (to_z w32 (of_z w32 n)))
   size_fits = rw (to_z-of_z f) (Fits-nat_abs tt f)
 
-pub ruleset size-laws = (not-below, size-minus, size-positive, size-next, size_below, size_fits)
+pub ruleset size_laws = (not-below, size-minus, size-positive, size-next, size_below, size_fits)
 
 -- ---- the front of an array
 module _ (l : List ℕ) (n : ℕ) where
@@ -59,4 +59,4 @@ module _ (l : List ℕ) (n : ℕ) where
   pub take_count : n ≤ length l → n ≡ length (take n l)
   take_count h = rw length-take (omega arith)
 
-pub ruleset front-laws = (array-front, take_count)
+pub ruleset front_laws = (array-front, take_count)

@@ -12,12 +12,12 @@ use Rattle.field.specs.Walk.{Walk, done, cut, step}
 use Rattle.form.specs.Each.{each}
 use Rattle.field.proofs.FieldLaws.{field-ordered}
 use Rattle.field.proofs.Rest.{Rest, rest-start, rest_end}
-use Rattle.form.proofs.EachLaws.{each-laws}
+use Rattle.form.proofs.EachLaws.{each_laws}
 use Rattle.request.specs.Table.{message_constant_tag, list_tag, pair_field_tag, pair_extension_tag, pair_url_tag}
 use Rattle.request.specs.Constant.{is_pair_name}
 use Rattle.pair.specs.declared.Pair.{Pair}
 use Rattle.pair.specs.inner.Pair.{pair_at}
-use Rattle.pair.proofs.PairLaws.{Pairless, broken, unnamed, alone, cut_short, rest-pairless, rest-pair, rest-pair-next, pair-places}
+use Rattle.pair.proofs.PairLaws.{Pairless, broken, unnamed, alone, cut_short, rest-pairless, rest-pair, rest-pair-next, pair_places}
 use Rattle.constantform.specs.Leaves.{is_constant, good_scalar, good_pair_name}
 use Rattle.reply.specs.Verdicts.{beyond}
 use Rattle.constantform.specs.Form.{bad_request, pairs_of, constant_with, judge_constant, judge_elements, judge_pairs}
@@ -57,7 +57,7 @@ module _ (d : ℕ) (s : List ℕ) (t a e : ℕ) (b : Bool) (q : b ≡ is_constan
         constant-scalar n g x v p =
             simp (constant-open d s t a e z (sym q ∙ h), constant_with, ne_eqb t message_constant_tag m, ne_eqb t list_tag n, ← x) p
 
-pub ruleset constant-laws =
+pub ruleset constant_laws =
     (not-true, not-false, constant-other, constant-beyond, constant-message, constant-list, constant-scalar)
 
 -- ---- check_elements
@@ -66,7 +66,7 @@ pub elements-start : (d : ℕ) (s : List ℕ) (from to : ℕ) → from ≤ to �
 unfolding judge_elements
 elements-start d s from to h k = rest-start (each BadRequest (judge_constant d s)) s from to h k
 
-pub ruleset element-laws = (elements-start, each-laws, field-ordered)
+pub ruleset element_laws = (elements-start, each_laws, field-ordered)
 
 -- ---- check_pairs
 pub pairs_start : (d : ℕ) (s : List ℕ) (from to : ℕ) → from ≤ to → to ≤ length s
@@ -108,5 +108,5 @@ module _ (inner : ℕ → ℕ → ℕ → Verdict) (v : Verdict) (s : List ℕ) 
         pub pairs_next : u ≡ Ok tt → Rest v (pairs_of inner s) s to p.constant.to
         pairs_next o = rest-pair-next v (pairs_of inner s) s to i k r q p g (pairs_of inner s) (rw (← x, y, ← z, o))
 
-pub ruleset pairs-laws =
-    (not-true, not-false, pairs_start, pairs_end, pairs-none, pairs-misnamed, pairs-refused, pairs_next, pair-places)
+pub ruleset pairs_laws =
+    (not-true, not-false, pairs_start, pairs_end, pairs-none, pairs-misnamed, pairs-refused, pairs_next, pair_places)

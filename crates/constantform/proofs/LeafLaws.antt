@@ -23,7 +23,7 @@ module _ (bs : List ℕ) where
   unfolding is_bool
   bool-byte h = simp (is_bool, eq-eqb (length bs) 1 h)
 
-pub ruleset bool-laws = (bool-size, bool-byte)
+pub ruleset bool_laws = (bool-size, bool-byte)
 
 pub url-size : (bs : List ℕ) → (leb 1 (length bs) && leb (length bs) most_url) ≡ is_url bs
 unfolding is_url
@@ -52,7 +52,7 @@ module _ (t : ℕ) (bs : List ℕ) where
     unfolding good_scalar
     scalar-other h = simp (good_scalar, ne_eqb t bool_tag b, ne_eqb t string_tag s, ne_eqb t ident_tag i, h)
 
-pub ruleset scalar-laws = (scalar-bool, scalar-string, scalar-ident, scalar-number, scalar-other)
+pub ruleset scalar_laws = (scalar-bool, scalar-string, scalar-ident, scalar-number, scalar-other)
 
 -- ---- good_pair_name
 module _ (t : ℕ) (bs : List ℕ) where
@@ -72,7 +72,7 @@ module _ (t : ℕ) (bs : List ℕ) where
   unfolding good_pair_name
   pair-name-other f x u = simp (good_pair_name, ne_eqb t pair_field_tag f, ne_eqb t pair_extension_tag x, ne_eqb t pair_url_tag u)
 
-pub ruleset pair-name-laws = (pair-name-field, pair-name-extension, pair-name-url, pair-name-other)
+pub ruleset pair_name_laws = (pair-name-field, pair-name-extension, pair-name-url, pair-name-other)
 
 -- ---- good_part
 module _ (x : Bool) (bs : List ℕ) where
@@ -84,4 +84,4 @@ module _ (x : Bool) (bs : List ℕ) where
   unfolding good_part
   part-ident h r q = rw h q
 
-pub ruleset part-leaf-laws = (part-path, part-ident)
+pub ruleset part_leaf_laws = (part-path, part-ident)

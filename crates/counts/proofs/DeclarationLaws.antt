@@ -18,7 +18,7 @@ use Rattle.sheet.specs.Tree.{Items, none, message, enumeration, File, value_onto
 use Rattle.sheet.specs.Tree.{item_in, message_in, items_with, items_in, file_in, files_in, tree_of}
 use Rattle.counts.specs.Declarations.{one, items_hold, files_hold}
 use Rattle.counts.specs.inner.Fields.{declared_count, value_count, item_count, file_count}
-use Rattle.field.proofs.Tally.{Tally, total, tally-start, tally-laws}
+use Rattle.field.proofs.Tally.{Tally, total, tally-start, tally_laws}
 use Rattle.sheet.proofs.TreeLaws.{value-other, value_none, value-some, enum-unnamed, enum-named}
 use Rattle.sheet.proofs.TreeLaws.{message-beyond, message-unnamed, message-named}
 use Rattle.sheet.proofs.TreeLaws.{item-message, item-extension, item-no-extension, item-enum, item-field, item-no-field, item-other}
@@ -147,7 +147,7 @@ module _ (k t : ℕ) where
 
 pub ruleset one_laws = (one_same, one-other)
 
-pub ruleset declared-count-laws = (declared-count-none, declared-count-some)
+pub ruleset declared_count_laws = (declared-count-none, declared-count-some)
 
 module _ (s : List ℕ) (t a e : ℕ) where
   pub value-count-other : (t ≡ value_tag → ⊥) → 0 ≡ value_count s t a e
@@ -160,12 +160,12 @@ module _ (s : List ℕ) (t a e : ℕ) where
     pub value-count-some : (v : Value) → r ≡ Some v → 1 ≡ value_count s t a e
     value-count-some v g = rw (value-some s t a e [] h r q v g)
 
-pub ruleset value-count-laws = (value-count-other, value-count-none, value-count-some)
+pub ruleset value_count_laws = (value-count-other, value-count-none, value-count-some)
 
 pub few-one : (n m : ℕ) → n ≤ 1 → n ≤ m + 1
 few-one n m h = omega arith
 
-pub ruleset values-count-laws = (values-start, few-one, tally-laws)
+pub ruleset values_count_laws = (values-start, few-one, tally_laws)
 
 -- ---- what has a name or a package: itself, x, and what it holds, y
 module _ (k : ℕ) (s : List ℕ) (a e : ℕ) (r : Option Span) (q : r ≡ leaf_at k any_bytes s a e) (u : Span) (g : r ≡ Some u) (x y : ℕ) where
@@ -183,7 +183,7 @@ module _ (y z : ℕ) (h : y ≤ 1) where
   pub part-fits : Fits w64 z → Fits w64 (y * z)
   part-fits = Fits-le (part-few z (le_refl z))
 
-pub ruleset holder-laws = (holder-few, holder-fits, leaf-inside)
+pub ruleset holder_laws = (holder-few, holder-fits, leaf-inside)
 
 module _ (k : ℕ) (s : List ℕ) (a e : ℕ) (r : Option Span) (q : r ≡ leaf_at name_tag any_bytes s a e) where
   pub enum-count-unnamed : r ≡ None → 0 ≡ items_hold k (enum_in s a e none)
@@ -204,9 +204,9 @@ module _ (k : ℕ) (s : List ℕ) (a e : ℕ) (r : Option Span) (q : r ≡ leaf_
 pub message-count-beyond : (k d : ℕ) (s : List ℕ) (a e : ℕ) → d ≡ 0 → 0 ≡ items_hold k (message_in d s a e none)
 message-count-beyond k d s a e h = rw (message-beyond d s a e none h)
 
-pub ruleset enum-count-laws = (enum-count-unnamed, enum-count-named, part-few, part-fits, holder-laws)
+pub ruleset enum_count_laws = (enum-count-unnamed, enum-count-named, part-few, part-fits, holder_laws)
 
-pub ruleset message-count-laws = (message-count-beyond, message-count-unnamed, message-count-named, holder-laws)
+pub ruleset message_count_laws = (message-count-beyond, message-count-unnamed, message-count-named, holder_laws)
 
 -- ---- a field of a file or a message
 module _ (k d : ℕ) (s : List ℕ) (t a e n : ℕ) where
@@ -230,9 +230,9 @@ pub item-count-other : (k d : ℕ) (s : List ℕ) (t a e : ℕ)
     → (t ≡ message_tag → ⊥) → (t ≡ extension_tag → ⊥) → (t ≡ enum_tag → ⊥) → (t ≡ field_tag → ⊥) → 0 ≡ item_count k d s t a e
 item-count-other k d s t a e x y z w = rw (item-other (message_in d s) s t a e none x y z w)
 
-pub ruleset item-count-laws = (item-count-message, item-count-extension, item-count-enum, item-count-field, item-count-other)
+pub ruleset item_count_laws = (item-count-message, item-count-extension, item-count-enum, item-count-field, item-count-other)
 
-pub ruleset items-count-laws = (items-start, tally-laws)
+pub ruleset items_count_laws = (items-start, tally_laws)
 
 -- ---- a field of a sheet
 module _ (k : ℕ) (s : List ℕ) (t a e : ℕ) where
@@ -247,6 +247,6 @@ module _ (k : ℕ) (s : List ℕ) (t a e : ℕ) where
         → x + y ≡ file_count k s t a e
     file-count-named u g x y p o = rw (file-named s t a e [] h r q u.from u.to g, p, o) (omega arith)
 
-pub ruleset file-count-laws = (file-count-other, file-count-unnamed, file-count-named, holder-laws)
+pub ruleset file_count_laws = (file-count-other, file-count-unnamed, file-count-named, holder_laws)
 
-pub ruleset files-count-laws = (files-start, tally-laws)
+pub ruleset files_count_laws = (files-start, tally_laws)

@@ -110,7 +110,7 @@ module _ (v : ℕ) (s : List ℕ) (from to n at : ℕ) (h : at < to) (r : Option
       pub names-fits : Fits w64 to → Fits w64 (n + m)
       names-fits = tally-fits v (name_count s) s from to n at k h r q f g m (omega arith)
 
-pub ruleset options-laws = (no-options, options-start, tally-end, tally-cut, options-other, options-next, field-less)
+pub ruleset options_laws = (no-options, options-start, tally-end, tally-cut, options-other, options-next, field-less)
 
-pub ruleset names-laws =
+pub ruleset names_laws =
     (no_names, names-start, tally-end, tally-cut, names-other, names-next, names-fits, field-ordered, field-within, field-less)

@@ -143,7 +143,7 @@ module _ (s t : List ℕ) where
         go zero h = ahead-bare (h refl)
         go (suc n) h = let z : 1 - suc n ≡ 0 = omega arith in rw (z, ne_eqb (suc n) 0 (λ e. omega arith)) ahead-named
 
-pub ruleset nexts-laws = (nexts-none, nexts-lies, nexts-stands, nexts-is, nexts-less)
+pub ruleset nexts_laws = (nexts-none, nexts-lies, nexts-stands, nexts-is, nexts-less)
 
 -- ---- a cursor that has come further, past files and packages that gave nothing
 pub record Onward (L : Cursor → List Scope) (s t : List ℕ) (c c' : Cursor) : Type 0 where
@@ -217,7 +217,7 @@ pub level-at : (n : Next) (next : ℕ) → n.rest.next ≡ next
     → (m : Next) → Some n ≡ Some m → m.rest.next ≡ next
 level-at n.scope n.rest next h m.scope m.rest g = let u : m.rest ≡ n.rest = cc in rw u h
 
-pub ruleset here-laws =
+pub ruleset here_laws =
     (onward-start, here_end, here-cut, here-next, here-at, level-none, level-at, package-within, field-ordered, field-within, field-less)
 
 -- ---- next_scope
@@ -246,4 +246,4 @@ module _ (s t : List ℕ) (c₀ c : Cursor) (k : Onward (ahead s t) s t c₀ c) 
           rest = k.rest ∙ ahead-next s t c (n.none g) k.stands h e q;
         }
 
-pub ruleset scopes-laws = (onward-start, scopes-at, scopes-end, scopes-next, end-within, end_fits)
+pub ruleset scopes_laws = (onward-start, scopes-at, scopes-end, scopes-next, end-within, end_fits)

@@ -44,4 +44,4 @@ module _ {B : Type 0} (f : Scope → Option B) (v : List B) (s t : List ℕ) (c 
   pub left-none : f (holding s n.scope) ≡ None → Left v (collect f) s t n.rest
   left-none e = left-next v (collect f) s t c k r q n g (collect-none f (holding s n.scope) (ahead s t n.rest) e)
 
-pub ruleset left-laws = (left-start, left_less, nexts-lies)
+pub ruleset left_laws = (left-start, left_less, nexts-lies)

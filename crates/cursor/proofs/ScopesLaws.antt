@@ -38,7 +38,7 @@ start-bare b h = rw h
 pub start-named : (b : Bool) → b ≡ false → ◌≡◌ {A = Cursor} (record { next = 0; at = 0; file = 0 }) (start_of b)
 start-named b h = rw h
 
-pub ruleset start-laws = (start-bare, start-named)
+pub ruleset start_laws = (start-bare, start-named)
 
 -- ---- package_at
 module _ (s : List ℕ) (tag a e : ℕ) where
@@ -75,7 +75,7 @@ module _ (s : List ℕ) (tag a e : ℕ) where
       go true = refl
       go false = refl
 
-pub ruleset package-laws = (package-other, package-file)
+pub ruleset package_laws = (package-other, package-file)
 
 -- what a field adds to the scopes
 pub scopes-step : (s t : List ℕ) (next i tag a e : ℕ) (rest : List File) (l : Option Span) → l ≡ package_at s tag a e
@@ -130,7 +130,7 @@ module _ (v : Option Scope) (s t : List ℕ) (at : ℕ) (p : LookupScope) (k : F
 pub end_fits : (t : List ℕ) (at e : ℕ) → e ≡ at + length (until_dot (drop at t)) → at ≤ length t → length t * 1 < 2 ^ 63 → Fits w64 (e + 1)
 end_fits t at e q h l = record { fits = omega (arith, end-within t at e q h) }
 
-pub ruleset follow-laws = (following-start, following-end, following-none, following-next, end_after, end-within, end_fits)
+pub ruleset follow_laws = (following-start, following-end, following-none, following-next, end_after, end-within, end_fits)
 
 -- ---- scope_at
 abbrev pub file_place : ℕ → ℕ → ℕ → LookupScope
@@ -188,5 +188,5 @@ module _ (s t : List ℕ) (next i : ℕ) (l : Option Span) (e : ℕ) (w : Within
       pub scope-lies : InSheet s p
       scope-lies = (scope-placed (holding s p) scope-to).lies
 
-pub ruleset scope-laws =
+pub ruleset scope_laws =
     (scope-none, scope-elsewhere, scope-followed, within-ordered, within-sheet, file-lies, not-true, not-false)

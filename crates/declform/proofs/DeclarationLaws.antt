@@ -11,7 +11,7 @@ use Rattle.sheet.specs.declared.declaration.Shape.{Shape}
 use Rattle.sheet.specs.declared.declaration.Declaration.{Declaration}
 use Rattle.sheet.specs.declared.declaration.Value.{Value}
 use Rattle.sheet.specs.Declaration.{has_type_path, extension_at, message_field_at, value_at}
-use Rattle.sheet.proofs.PlaceLaws.{extension-places-laws, field-places-laws, value-places-laws}
+use Rattle.sheet.proofs.PlaceLaws.{extension_places_laws, field_places_laws, value_places_laws}
 use Rattle.declform.specs.Declarations.{in_range, good_type_path, good_shape, good_field, is_field, is_extension, is_value}
 
 -- ---- good_type_path
@@ -24,7 +24,7 @@ module _ (s : List ℕ) (h : Shape) (b : Bool) (y : b ≡ has_type_path h.typ) w
   unfolding good_type_path
   type-path g r q = simp (good_type_path, ← y, g) q
 
-pub ruleset type-path-laws = (type-pathless, type-path, not-true, not-false)
+pub ruleset type_path_laws = (type-pathless, type-path, not-true, not-false)
 
 -- ---- good_shape
 pub shape_is : (s : List ℕ) (h : Shape)
@@ -50,7 +50,7 @@ module _ (s : List ℕ) (a e : ℕ) (r : Option Declaration) (q : r ≡ message_
   unfolding is_field
   field-some d g b x = simp (is_field, ← q, g) x
 
-pub ruleset is-field-laws = (field-none, field-some, field-places-laws)
+pub ruleset is_field_laws = (field-none, field-some, field_places_laws)
 
 -- ---- is_extension
 module _ (s : List ℕ) (a e : ℕ) (r : Option Declaration) (q : r ≡ extension_at s a e) where
@@ -63,7 +63,7 @@ module _ (s : List ℕ) (a e : ℕ) (r : Option Declaration) (q : r ≡ extensio
   unfolding is_extension
   extension-some d g b x f y = simp (is_extension, ← q, g, x, y)
 
-pub ruleset is-extension-laws = (extension-none, extension-some, extension-places-laws)
+pub ruleset is_extension_laws = (extension-none, extension-some, extension_places_laws)
 
 -- ---- is_value
 module _ (s : List ℕ) (a e : ℕ) (r : Option Value) (q : r ≡ value_at s a e) where
@@ -75,4 +75,4 @@ module _ (s : List ℕ) (a e : ℕ) (r : Option Value) (q : r ≡ value_at s a e
   unfolding is_value
   value-some v g b x = simp (is_value, ← q, g) x
 
-pub ruleset is-value-laws = (value_none, value-some, value-places-laws)
+pub ruleset is_value_laws = (value_none, value-some, value_places_laws)

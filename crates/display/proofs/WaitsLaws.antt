@@ -39,6 +39,6 @@ module _ (s type bs : List ℕ) (before : Outcome Row) (c : Cursor) (st : List �
   pub moved-fewer : (e : Event) (x : Row) → e ≡ Record x c → rest_of bs r < rest_of bs e
   moved-fewer e x q = rw q (fewer k)
 
-pub ruleset first-laws = (message-lies, start-open, end-waits, moved-waits)
+pub ruleset first_laws = (message-lies, start-open, end-waits, moved-waits)
 
-pub ruleset waits-laws = (end-waits, waits-open, waits-again, moved-waits, moved-fewer)
+pub ruleset waits_laws = (end-waits, waits-open, waits-again, moved-waits, moved-fewer)

@@ -50,4 +50,4 @@ pub give-no-room : (words before : List ℕ) → length before < length words �
     → Answered (give words) before before r
 give-no-room words before h r a = rw a (answered-no-room (give words) before words refl h)
 
-pub ruleset copying-laws = (copying-start, copying-room, copying-next, copying-end, give-no-room)
+pub ruleset copying_laws = (copying-start, copying-room, copying-next, copying-end, give-no-room)

@@ -35,4 +35,4 @@ module _ (words : List ℕ) (at : ℕ) (l m : List ℕ) (i : ℕ) (k : Filling w
       none : drop i words ≡ []
       none = gone (drop i words) (length-drop i words ∙ omega arith)
 
-pub ruleset filling-laws = (filling-start, filling-next, filling-length, filling-end)
+pub ruleset filling_laws = (filling-start, filling-next, filling-length, filling-end)

@@ -114,4 +114,4 @@ module _ {A : Type 0} where
         put-left g.elements written g.is ∙ ap (λ x. sets x 0 g.elements) same ∙ sets-front g.elements l room in
         rw (a ∙ ap done_with size, left) (answered-done whole l g.elements (e ∙ g.is) room)
 
-pub ruleset call-laws = (call-refused, call-no-room, call-done)
+pub ruleset call_laws = (call-refused, call-no-room, call-done)

@@ -143,4 +143,4 @@ module _ (L : Lookups) (s : List ℕ) (m : Message) (bs : List ℕ) (at end : �
 pub tag-good : (t : ℕ) (b : Bool) → b ≡ tag_good t → b ≡ true → tag_good t ≡ true
 tag-good t b g h = sym g ∙ h
 
-pub ruleset front-laws = (front-no-tag, front-bad-tag, front-good, tag-good)
+pub ruleset front_laws = (front-no-tag, front-bad-tag, front-good, tag-good)

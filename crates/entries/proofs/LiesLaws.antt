@@ -8,7 +8,7 @@ use Rattle.reply.specs.declared.Refusal.{Refusal}
 use Rattle.field.specs.Leaf.{text, Lies}
 use Rattle.types.specs.Types.{wire_of, TYPE_MESSAGE}
 use Rattle.varint.specs.Varint.{varint_at, read}
-use Rattle.varint.proofs.VarintLaws.{varint-after, varint-inside, varint-bounds}
+use Rattle.varint.proofs.VarintLaws.{varint-after, varint-inside, varint_bounds}
 use Rattle.wire.specs.Tag.{number_of, wire_type_of}
 use Rattle.payloads.specs.inner.Placed.{payload_in}
 use Rattle.payloads.proofs.PayloadFacts.{payload-after, payload-inside}
@@ -29,7 +29,7 @@ use Rattle.entries.specs.Item.{declared}
 use Rattle.entries.specs.inner.Fronts.{message, unknown_of, on_message, entered_of, entry_of, known_front, known_of, by_declared}
 use Rattle.entries.specs.inner.Fronts.{behind_tag, FrontLies}
 use Rattle.entries.proofs.Either.{either}
-use Rattle.entries.proofs.FrontLaws.{front-laws}
+use Rattle.entries.proofs.FrontLaws.{front_laws}
 use Rattle.payloads.specs.declared.Payload.{Payload}
 use Rattle.varint.specs.declared.Read.{Read}
 
@@ -114,6 +114,6 @@ unfolding PayloadIn
 payload-in w bs at end h k g None q = tt
 payload-in w bs at end h k g (Some it1) q = omega (arith, payload-inside w bs at end it1.at it1.size it1.number (sym q) h)
 
-pub ruleset payload-in-laws = (payload-in, path-ordered, path-within)
+pub ruleset payload_in_laws = (payload-in, path-ordered, path-within)
 
-pub ruleset front-at-laws = (front-laws, lies-wrong, lies-good, varint-bounds, not-true, not-false)
+pub ruleset front_at_laws = (front_laws, lies-wrong, lies-good, varint_bounds, not-true, not-false)

@@ -26,7 +26,7 @@ use Rattle.entries.specs.declared.Entry.{Entry}
 use Rattle.entries.specs.declared.Front.{Front}
 use Rattle.entries.specs.declared.Front.TheVariants.{Leaf, Inside, Wrong}
 use Rattle.entries.specs.inner.Fronts.{message, unknown_of, entered_of, known_front, known_of, by_declared, behind_tag}
-use Rattle.entries.proofs.LiesLaws.{payload-in-laws}
+use Rattle.entries.proofs.LiesLaws.{payload_in_laws}
 use Rattle.payloads.specs.declared.Payload.{Payload}
 
 -- ---- unknown
@@ -40,7 +40,7 @@ module _ (k w : ℕ) (p : Option Payload) (x : Taken) (q : x ≡ unknown_taken p
   unfolding unknown_of
   unknown-record at size v next e = rw (← q, e)
 
-pub ruleset unknown-laws = (unknown-wrong, unknown-record)
+pub ruleset unknown_laws = (unknown-wrong, unknown-record)
 
 -- ---- entered
 module _ (s : List ℕ) (e : Entry) (p : Span) (u : Result LookupScope Refusal) (q : u ≡ (walking s).message (text s p)) where
@@ -52,7 +52,7 @@ module _ (s : List ℕ) (e : Entry) (p : Span) (u : Result LookupScope Refusal) 
   unfolding entered_of
   entered-found c g = rw (← q, g)
 
-pub ruleset entered-laws = (entered-none, entered-found)
+pub ruleset entered_laws = (entered-none, entered-found)
 
 -- ---- known
 module _ (s : List ℕ) (d : Declaration) (k w : ℕ) (p : Option Payload) (t : ℕ) (i : t ≡ d.shape.typ) (x : Taken) (q : x ≡ known_taken t w p) where
@@ -76,7 +76,7 @@ module _ (s : List ℕ) (d : Declaration) (k w : ℕ) (p : Option Payload) (t : 
     known-leaf m =
         rw (taken-by (taken.Record at size v next) e) (rw (ne_eqb d.shape.typ TYPE_MESSAGE (λ z. m (i ∙ z)), known_front))
 
-pub ruleset known-laws = (known-wrong, known-message, known-leaf)
+pub ruleset known_laws = (known-wrong, known-message, known-leaf)
 
 -- ---- behind_tag
 module _ (t : ℕ) (g : tag_good t ≡ true) where
@@ -105,4 +105,4 @@ module _ (s name : List ℕ) (place : LookupScope) (bs : List ℕ) (t at end k :
       → r ≡ behind_tag (walking s) s (message name place) bs t at end
   behind-known d g r e = e ∙ sym (by-declared (is d) (declared-some a (declaration_of s (holding s place) name k) c d g))
 
-pub ruleset behind-tag-laws = (number_fits, wire-read, behind-unknown, behind-known, payload-in-laws)
+pub ruleset behind_tag_laws = (number_fits, wire-read, behind-unknown, behind-known, payload_in_laws)

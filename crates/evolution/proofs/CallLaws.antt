@@ -75,7 +75,7 @@ module _ (q : Question) (s t : List ℕ) where
   unfolding why_not
   why-short h r p = p ∙ rw (le-ltb most_sheet (length s) h) refl
 
-pub ruleset why-not-laws = (why-long, why-short)
+pub ruleset why_not_laws = (why-long, why-short)
 
 pub unclean-is : (s : List ℕ) (r : Reason) → r ≡ why_not Clean s s → r ≡ why_unclean s
 unfolding why_not why_unclean
@@ -105,7 +105,7 @@ module _ (s : List ℕ) (v : Verdict) (q : Says (judge_sheet s) v) where
       → a ≡ clean_answer s
   clean-asked g r p b h a u = u ∙ rw (sym q.is ∙ g) (ap decided (h ∙ ap holds (p ∙ unclean-short s (short g)) ∙ clean-holds s))
 
-pub ruleset clean-laws = (clean-refused, clean-asked)
+pub ruleset clean_laws = (clean-refused, clean-asked)
 
 module _ (s t : List ℕ) (v : Verdict) (q : Says (judge_sheet s) v) where
   pub older-refused : (w : Refusal) → v ≡ Err w → (a : Answer) → a ≡ refused_by w → a ≡ contained_answer s t
@@ -120,4 +120,4 @@ module _ (s t : List ℕ) (v : Verdict) (q : Says (judge_sheet s) v) where
     contained-asked g' r p b h a u =
         u ∙ rw (sym q.is ∙ g, sym q'.is ∙ g') (ap decided (h ∙ ap holds (p ∙ uncontained-short s t (short s v q g)) ∙ contained-holds s t))
 
-pub ruleset contained-laws = (older-refused, newer-refused, contained-asked)
+pub ruleset contained_laws = (older-refused, newer-refused, contained-asked)

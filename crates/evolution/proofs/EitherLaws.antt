@@ -32,8 +32,8 @@ use Rattle.evolution.specs.declared.first.Question.{Question}
 use Rattle.evolution.specs.declared.first.Question.TheVariants.{Clean, Contained}
 use Rattle.evolution.specs.inner.Bearers.{number_for, fields_at, own_flaw, name_loss, own_loss, number_reason, own_reason, numbers_reason}
 use Rattle.evolution.specs.inner.Bearers.{bearer_reason, reason_of}
-use Rattle.evolution.proofs.LiesLaws.{field-lies, bearer-lies-laws}
-use Rattle.evolution.proofs.FieldLaws.{also-stays, declared-laws, fields-any}
+use Rattle.evolution.proofs.LiesLaws.{field-lies, bearer_lies_laws}
+use Rattle.evolution.proofs.FieldLaws.{also-stays, declared_laws, fields-any}
 
 -- ---- number_reason
 module _ (q : Question) (s t : List ℕ) (k : ℕ) (x : Number) (r : Reason) where
@@ -43,9 +43,9 @@ module _ (q : Question) (s t : List ℕ) (k : ℕ) (x : Number) (r : Reason) whe
   pub number-contained : q ≡ Contained → r ≡ number_loss s t k x → r ≡ number_reason q s t k x
   number-contained g u = u ∙ rw g refl
 
-pub ruleset number-reason-laws = (number-clean, number-contained)
+pub ruleset number_reason_laws = (number-clean, number-contained)
 
-pub ruleset field-reason-laws = (declared-laws, field-lies)
+pub ruleset field_reason_laws = (declared_laws, field-lies)
 
 -- ---- own_reason
 module _ (q : Question) (s t x : List ℕ) (k : ℕ) (b : Bearer) (r : Reason) where
@@ -55,7 +55,7 @@ module _ (q : Question) (s t x : List ℕ) (k : ℕ) (b : Bearer) (r : Reason) w
   pub own-contained : q ≡ Contained → r ≡ own_loss t x k b → r ≡ own_reason q s t x k b
   own-contained g u = u ∙ rw g refl
 
-pub ruleset own-reason-laws = (own-clean, own-contained)
+pub ruleset own_reason_laws = (own-clean, own-contained)
 
 -- ---- numbers_reason
 module _ (q : Question) (s t x : List ℕ) (k : ℕ) (b : Bearer) where
@@ -70,7 +70,7 @@ module _ (q : Question) (s t x : List ℕ) (k : ℕ) (b : Bearer) where
       → r ≡ number_reason q s t k (number_for (text s d.extendee) d) → r ≡ numbers_reason q s t x k b
   numbers-extension d g r u = u ∙ ap (numbers_reason q s t x k) (sym g)
 
-pub ruleset numbers-reason-laws = (numbers-message, numbers-enum, numbers-extension, bearer-lies-laws)
+pub ruleset numbers_reason_laws = (numbers-message, numbers-enum, numbers-extension, bearer_lies_laws)
 
 -- ---- reason_of
 module _ (q : Question) (s t x : List ℕ) (k : ℕ) (b : Bearer) (r : Reason) (u : r ≡ own_reason q s t x k b) where
@@ -82,7 +82,7 @@ module _ (q : Question) (s t x : List ℕ) (k : ℕ) (b : Bearer) (r : Reason) (
   unfolding bearer_reason
   reason-numbers g v e = e ∙ rw (← u, g) refl
 
-pub ruleset reason-of-laws = (reason-own, reason-numbers)
+pub ruleset reason_of_laws = (reason-own, reason-numbers)
 
 -- ---- what bears a name is what the sheet declares
 also-yes : (r : Reason) → also r Yes ≡ r

@@ -4,7 +4,7 @@ use Rattle.std.specs.Prelude.{◌≡◌, refl, true, false, List, ◌++◌, ℕ,
 use Rattle.basis.specs.Kit.{sym, ap, ◌∙◌}
 use Rattle.field.specs.declared.Span.{Span}
 use Rattle.field.specs.Walk.{Walk, done, cut, step, walk}
-use Rattle.field.proofs.Seek.{seek, seek_is, seek-laws}
+use Rattle.field.proofs.Seek.{seek, seek_is, seek_laws}
 use Rattle.sheet.specs.declared.declaration.Declaration.{Declaration}
 use Rattle.sheet.specs.Table.{field_tag}
 use Rattle.sheet.specs.Declaration.{message_field_at}
@@ -30,7 +30,7 @@ module _ (f : Declaration → Reason) (r x : Option Declaration) (q : r ≡ x) w
   pub declared-one : (d : Declaration) → r ≡ Some d → (u : Reason) → u ≡ f d → u ≡ on_declared f x
   declared-one d g u p = p ∙ rw (← q, g) refl
 
-pub ruleset declared-laws = (declared-none, declared-one)
+pub ruleset declared_laws = (declared-none, declared-one)
 
 -- ---- all of them
 abbrev pub field_reason : (Declaration → Reason) → (s : List ℕ) (tag from to : ℕ) → Reason
@@ -49,7 +49,7 @@ module _ (f : Declaration → Reason) where
       (λ t a e w. ap (reasons f) (fields-item 0 s t a e (items_in 0 s w)) ∙ listed-reason (elim (eqb t field_tag) [ true ↦ message_field_at s a e | false ↦ None ]) (fields_of (items_in 0 s w)))
       (walk s p.from p.to))
 
-pub ruleset fields-laws = (fields-is, also-stays, seek-laws)
+pub ruleset fields_laws = (fields-is, also-stays, seek_laws)
 
 -- the fields of a message do not depend on how deep messages may lie in it
 pub fields-any : (d d' : ℕ) (s : List ℕ) (w : Walk) → fields_of (items_in d s w) ≡ fields_of (items_in d' s w)

@@ -22,7 +22,7 @@ use Rattle.reasons.specs.Reasons.{or_no, number_flaw}
 use Rattle.roster.specs.declared.Bearer.{Bearer}
 use Rattle.roster.specs.declared.Bearer.TheVariants.{Message, Enum, Extension}
 use Rattle.evolution.specs.inner.Bearers.{number_for, rest_flaw, own_flaw}
-use Rattle.evolution.proofs.LiesLaws.{declared-lies-laws, bearer-lies-laws}
+use Rattle.evolution.proofs.LiesLaws.{declared_lies_laws, bearer_lies_laws}
 
 -- ---- names_one
 pub names-one-is : (s t : List ℕ) (k n : ℕ) → n ≡ bearing k t (every_declared s) → eqb n 1 ≡ names_one s k t
@@ -40,7 +40,7 @@ module _ (s : List ℕ) (d : Declaration) (t : ℕ) (e : t ≡ d.shape.typ) (b :
     pub path-message : (t ≡ TYPE_ENUM → ⊥) → r ≡ names_one s message_tag (text s d.shape.path) → r ≡ clean_path s d
     path-message h p = p ∙ rw (← e, ← q, g, ne_eqb t TYPE_ENUM h) refl
 
-pub ruleset path-named-laws = (path-none, path-enum, path-message, declared-lies-laws, not-true, not-false)
+pub ruleset path_named_laws = (path-none, path-enum, path-message, declared_lies_laws, not-true, not-false)
 
 -- ---- flaw_of_number
 module _ (s m : List ℕ) (d : Declaration) (k n : ℕ) (q : n ≡ numbered m (record { declaration = d; whole = false }) s s) where
@@ -55,7 +55,7 @@ module _ (s m : List ℕ) (d : Declaration) (k n : ℕ) (q : n ≡ numbered m (r
       → r ≡ number_flaw s k (number_for m d)
   number-alone h b p r u = u ∙ rw (number-once, eq-eqb n 1 h, p) refl
 
-pub ruleset number-flaw-laws = (number-shared, number-alone, declared-lies-laws)
+pub ruleset number_flaw_laws = (number-shared, number-alone, declared_lies_laws)
 
 -- ---- own_flaw
 module _ (s t : List ℕ) (k : ℕ) (b : Bearer) (n : ℕ) (q : n ≡ bearing any_kind t (every_declared s)) where
@@ -78,4 +78,4 @@ module _ (s t : List ℕ) (k : ℕ) (b : Bearer) (n : ℕ) (q : n ≡ bearing an
         → r ≡ or_no c why.ExtendeeUnclear k d.extendee → r ≡ own_flaw s t k b
     own-extension d g c v u = rest (u ∙ rw v refl ∙ ap (rest_flaw s k) (sym g))
 
-pub ruleset own-flaw-laws = (name-shared, own-message, own-enum, own-extension, bearer-lies-laws, declared-lies-laws)
+pub ruleset own_flaw_laws = (name-shared, own-message, own-enum, own-extension, bearer_lies_laws, declared_lies_laws)

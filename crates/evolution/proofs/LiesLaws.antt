@@ -45,7 +45,7 @@ module _ (s : List ℕ) (d : Declaration) (k : DeclaredLies s d) where
   pub path-lies : Lies d.shape.path s
   path-lies = k.path
 
-pub ruleset declared-lies-laws = (name-lies, name-ordered, name-within, extendee-lies, extendee-ordered, extendee-within, path-lies)
+pub ruleset declared_lies_laws = (name-lies, name-ordered, name-within, extendee-lies, extendee-ordered, extendee-within, path-lies)
 
 -- the declaration that a field of a message is
 pub field-lies : (s : List ℕ) (t a e : ℕ) (r : Option Declaration) → r ≡ declaration_at field_tag s t a e → (d : Declaration) → r ≡ Some d
@@ -85,7 +85,7 @@ module _ (s : List ℕ) (b : Bearer) (k : BearerLies s b) where
     pub extended-within : d.extendee.to ≤ length s
     extended-within = (bearer-extension d g).extendee.1
 
-pub ruleset bearer-lies-laws = (bearer-message, bearer-enum, bearer-extension, extended-ordered, extended-within)
+pub ruleset bearer_lies_laws = (bearer-message, bearer-enum, bearer-extension, extended-ordered, extended-within)
 
 pub stands-lies : (s : List ℕ) (w : What) → Stands s w → BearerLies s (shown w)
 stands-lies s (message c) k = message-lies k.0

@@ -25,7 +25,7 @@ use Rattle.reasons.specs.Reasons.{or_no, number_loss}
 use Rattle.roster.specs.declared.Bearer.{Bearer}
 use Rattle.roster.specs.declared.Bearer.TheVariants.{Message, Enum, Extension}
 use Rattle.evolution.specs.inner.Bearers.{number_for, name_loss, own_loss}
-use Rattle.evolution.proofs.LiesLaws.{declared-lies-laws}
+use Rattle.evolution.proofs.LiesLaws.{declared_lies_laws}
 
 -- ---- a count that is 0, or not
 count-any : {A : Type 0} (good : A → Bool) (xs : List A) (n : ℕ) → n ≡ count good xs → not (eqb n 0) ≡ any good xs
@@ -39,7 +39,7 @@ pub number-loss-is : (s t m : List ℕ) (d : Declaration) (k n : ℕ) → n ≡ 
 unfolding is_like
 number-loss-is s t m d k n q r u = u ∙ rw (count-any (λ (y : Number). same_bytes m y.for && alike s t d y.by) (every_number t) n q) refl
 
-pub ruleset number-loss-laws = (number-loss-is, declared-lies-laws)
+pub ruleset number_loss_laws = (number-loss-is, declared_lies_laws)
 
 -- ---- loss_of_name
 pub name-loss-is : (t x : List ℕ) (g : ℕ) (w : Why) (k n : ℕ) → n ≡ bearing g x (every_declared t)
@@ -61,4 +61,4 @@ module _ (t x : List ℕ) (k : ℕ) (b : Bearer) where
   unfolding own_loss
   loss-extension d g = ap (own_loss t x k) (sym g)
 
-pub ruleset own-loss-laws = (loss-message, loss-enum, loss-extension)
+pub ruleset own_loss_laws = (loss-message, loss-enum, loss-extension)

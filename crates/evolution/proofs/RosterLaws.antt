@@ -124,4 +124,4 @@ module _ (q : Question) (s t : List ℕ) (i : ℕ) (first before after : List �
       let z : i + 1 ≡ suc i = omega arith in
       record { left = rw z (split ∙ rw e refl); fits = rw h.sized k.fits; sized = h.sized ∙ k.sized }
 
-pub ruleset first-reason-laws = (asking-start, asking-room, asking-end, asking-lies, asking-count, asking-size, asking-fits, asking-less, reason-hit, reason-next)
+pub ruleset first_reason_laws = (asking-start, asking-room, asking-end, asking-lies, asking-count, asking-size, asking-fits, asking-less, reason-hit, reason-next)

@@ -40,9 +40,9 @@ use Rattle.search.specs.Lookup.{found_in, found_at, found_among, or_not_found, f
 use Rattle.search.specs.Lookup.{find_extension_by_path, ext_resolve_field}
 use Rattle.scope.proofs.Answers.{declared-none, declared-some}
 use Rattle.search.proofs.TriedLaws.{resolved-none, resolved-some}
-use Rattle.named.proofs.DeclaredPlaces.{places-laws}
+use Rattle.named.proofs.DeclaredPlaces.{places_laws}
 use Rattle.search.proofs.LiesLaws.{tried-ordered, tried-places}
-use Rattle.cursor.proofs.Left.{Left, left_end, left_step, left-next, left-laws}
+use Rattle.cursor.proofs.Left.{Left, left_end, left_step, left-next, left_laws}
 use Rattle.cursor.proofs.StartLaws.{components-some, last-text, start-before, start-before-stands}
 use Rattle.cursor.specs.declared.Next.{Next}
 
@@ -66,7 +66,7 @@ module _ (v : Result Found Refusal) (s t : List ℕ) (n : Name) (c : Cursor) (k 
     extension-next z =
         left-next v (named_in s n) s t c k r q m g (rw (declared-none d (declaration_named extension_tag s n (holding s m.scope)) x z))
 
-pub ruleset first-extension-laws = (left-laws, extension-end, extension-found, extension-next)
+pub ruleset first_extension_laws = (left_laws, extension-end, extension-found, extension-next)
 
 -- ---- find_extension_by_abs_path
 abs-some : (s : List ℕ) (p : Path) → (p ≡ [] → ⊥) → found_at s p ≡ first_some (found_in s (last p)) (scopes s (parent p))
@@ -86,7 +86,7 @@ module _ (s t : List ℕ) where
   abs-found h r k b q c e v x =
       x ∙ rw (start-before s t r k b q c e, last-text t r k, abs-some s (components t) (components-some t h))
 
-pub ruleset abs-extension-laws = (abs-empty, abs-found, start-before-stands)
+pub ruleset abs_extension_laws = (abs-empty, abs-found, start-before-stands)
 
 -- ---- try_candidates
 abbrev pub tried_of : (s : List ℕ) (i : ℕ) (ps : List Path) → Result Candidate Refusal
@@ -147,7 +147,7 @@ module _ (v : Result Candidate Refusal) (s scope name l₀ l : List ℕ) (i : �
       rest = trying-step ∙ rw (resolved-none (found_at s (candidate scope name i)) r looked-up w g);
     }
 
-pub ruleset try-candidates-laws = (trying_start, trying-end, trying-within, trying-length, trying-found, trying-next)
+pub ruleset try_candidates_laws = (trying_start, trying-end, trying-within, trying-length, trying-found, trying-next)
 
 -- ---- find_extension_by_path
 module _ (s scope name : List ℕ) (r : Result Candidate Refusal) (q : r ≡ tried s scope name) where
@@ -159,7 +159,7 @@ module _ (s scope name : List ℕ) (r : Result Candidate Refusal) (q : r ≡ tri
   unfolding find_extension_by_path
   by-path-refused w g = rw (← q, g)
 
-pub ruleset extension-by-path-laws = (by-path-found, by-path-refused)
+pub ruleset extension_by_path_laws = (by-path-found, by-path-refused)
 
 -- ---- ext_resolve_field_ext
 module _ (s scope m name : List ℕ) (r : Result Candidate Refusal) (q : r ≡ tried s scope name) where
@@ -176,13 +176,13 @@ module _ (s scope m name : List ℕ) (r : Result Candidate Refusal) (q : r ≡ t
     unfolding ext_resolve_field
     resolve_same y = rw (← q, g, ← x, y)
 
-pub ruleset resolve-laws = (
+pub ruleset resolve_laws = (
   resolve-refused,
   resolve-other,
   resolve_same,
   tried-ordered,
   tried-places,
-  places-laws,
+  places_laws,
   not-true,
   not-false,
 )

@@ -12,4 +12,4 @@ module _ (i : ℕ) (x : Result ℕ Refusal) where
   pub last-refused : (w : Refusal) → x ≡ Err w → Err (fault_at i w) ≡ stepped_by i x
   last-refused w g = rw g
 
-pub ruleset on-last-laws = (last-next, last-refused)
+pub ruleset on_last_laws = (last-next, last-refused)

@@ -73,4 +73,4 @@ module _ (s : List ℕ) (at end : ℕ) (r : Option Field) (q : r ≡ field_at s 
   pub field-less : at < end → end - f.to < end - at
   field-less = reads-less field-reads s at end r q f g
 
-pub ruleset field-place-laws = (field-ordered, field-within, field-less)
+pub ruleset field_place_laws = (field-ordered, field-within, field-less)

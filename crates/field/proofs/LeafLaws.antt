@@ -155,7 +155,7 @@ module _ (s : List ℕ) (u : Span) (r : Option Span) (g : r ≡ Some u) (k at en
   pub byte-holds : r ≡ leaf_at k (of_size 1) s at end → end ≤ length s → u.from < length s
   byte-holds q h = omega (arith, size_holds 1 q h)
 
-pub ruleset size-laws = (size_holds, byte-holds)
+pub ruleset size_laws = (size_holds, byte-holds)
 
 -- ---- what is said of a leaf, where it is not what is said of none
 pub on-leaf-some : {A : Type 0} (none x : A) (l : Option Span) (some : ℕ → ℕ → A) (P : Type 0) → (x ≡ none → ⊥)

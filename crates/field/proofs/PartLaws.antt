@@ -48,4 +48,4 @@ module _ (t : List ℕ) (p : Span) (r : Option Span) (q : r ≡ span_in t p) (u 
 pub empty-part : (s : List ℕ) (a : ℕ) → part s a a ≡ []
 empty-part s a = let none : a - a ≡ 0 = omega arith in rw none
 
-pub ruleset part-laws = (span-is, span-not, empty-part)
+pub ruleset part_laws = (span-is, span-not, empty-part)

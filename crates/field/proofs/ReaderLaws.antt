@@ -9,7 +9,7 @@
 --   reads-inside  it ends no later than `end`
 --   reads-within  so it lies in the bytes, if the end does
 --     reads-less  less is left from the next place on
--- A reader's ruleset is one of the loops' (Rest, Seek, Tally; EachLaws in `form`) with `reads-laws` and the proof of `Reads` for it.
+-- A reader's ruleset is one of the loops' (Rest, Seek, Tally; EachLaws in `form`) with `reads_laws` and the proof of `Reads` for it.
 --
 -- Assumes nothing.
 use Rattle.std.specs.Prelude.{◌≡◌, List, ℕ, ◌-◌, ◌≤◌, ◌<◌, length, Some, Option}
@@ -45,4 +45,4 @@ module _ {next : Reader} (reads : Reads next) (s : List ℕ) (at end : ℕ) (r :
   pub reads-less : at < end → end - f.to < end - at
   reads-less h = omega (arith, reads-ahead.starts, reads-ordered)
 
-pub ruleset reads-laws = (reads-ordered, reads-within, reads-less)
+pub ruleset reads_laws = (reads-ordered, reads-within, reads-less)

@@ -12,7 +12,7 @@
 --                    seek-cut  so it is where no whole field stands
 --                    seek_hit  what f answers of the field that stands there is the answer, where that is something
 --                   seek-next  where it is nothing, the answer is that of the fields from its end on
--- `seek-loop` has those of the turns, for any reader; `seek-laws` all that a loop over the fields of `field_at` needs.
+-- `seek_loop` has those of the turns, for any reader; `seek_laws` all that a loop over the fields of `field_at` needs.
 --
 -- Assumes nothing.
 use Rattle.std.specs.Prelude.{◌≡◌, List, ℕ, ◌≤◌, ◌<◌, length, None, Some, Option}
@@ -20,7 +20,7 @@ use Rattle.basis.specs.Kit.{sym, ap, ◌∙◌}
 use Rattle.field.specs.Field.{field_at, field}
 use Rattle.field.specs.Walk.{Reader, Walk, done, cut, step, walk_by}
 use Rattle.field.proofs.ReaderLaws.{Reads}
-use Rattle.field.proofs.FieldLaws.{field-reads, field-place-laws}
+use Rattle.field.proofs.FieldLaws.{field-reads, field_place_laws}
 use Rattle.field.proofs.Rest.{RestBy, rest-by-start, rest_end, rest-cut, rest-step, rest-next}
 use Rattle.field.specs.declared.Field.{Field}
 
@@ -70,6 +70,6 @@ module _ {A : Type 0} {next : Reader} {none : A} {or : A → A → A} {f : ℕ �
       pub seek-next : u ≡ none → ((y : A) → or none y ≡ y) → SeekingBy next none or f s from to here.to
       seek-next y l = record { left = rest-next _ (seek none or f) s to i k.left h r q here g (seek none or f) (rw (← p, y) (l _)) }
 
-pub ruleset seek-loop = (seek-end, seek-cut, seek_hit, seek-next)
+pub ruleset seek_loop = (seek-end, seek-cut, seek_hit, seek-next)
 
-pub ruleset seek-laws = (seek-start, seek-loop, field-place-laws)
+pub ruleset seek_laws = (seek-start, seek_loop, field_place_laws)

@@ -14,7 +14,7 @@
 --                    tally-fits  with what a field counts for it fits
 --                    tally-more  what the field that stands there counts for is added, and the loop goes on from its end
 --                    tally-next  likewise, where each field counts for what f gives of it
--- `tally-loop` has those of the turns, for any reader; `tally-laws` all that a loop over the fields of `field_at` needs, but its start.
+-- `tally_loop` has those of the turns, for any reader; `tally_laws` all that a loop over the fields of `field_at` needs, but its start.
 --
 -- Assumes nothing.
 use Rattle.std.specs.Prelude.{◌≡◌, List, ℕ, ◌+◌, ◌-◌, ◌≤◌, ◌<◌, length, None, Some, Option}
@@ -25,7 +25,7 @@ use mir.Facts.{Fits-le}
 use Rattle.field.specs.Field.{field_at, field}
 use Rattle.field.specs.Walk.{Reader, Walk, done, cut, step, walk_by, walk}
 use Rattle.field.proofs.ReaderLaws.{Reads, reads-ahead}
-use Rattle.field.proofs.FieldLaws.{field-reads, field-place-laws}
+use Rattle.field.proofs.FieldLaws.{field-reads, field_place_laws}
 use Rattle.field.proofs.Rest.{RestBy, rest_end, rest-cut, rest-next}
 use Rattle.field.specs.declared.Field.{Field}
 
@@ -91,6 +91,6 @@ pub tally-next : {next : Reader} (v : ℕ) (f : ℕ → ℕ → ℕ → ℕ) (s 
     → (u : ℕ) → u ≡ f here.tag here.from here.to → u ≤ here.to - here.from + 1 → TallyBy next v (total f) s from to (n + u) here.to
 tally-next v f s from to n i k h r q here g u p b = tally-more v (total f) s from to n i k h r q here g u (rw p) b
 
-pub ruleset tally-loop = (tally-few, tally-end, tally-cut, tally-fits, tally-next)
+pub ruleset tally_loop = (tally-few, tally-end, tally-cut, tally-fits, tally-next)
 
-pub ruleset tally-laws = (tally-loop, field-place-laws)
+pub ruleset tally_laws = (tally_loop, field_place_laws)

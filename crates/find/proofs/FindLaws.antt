@@ -160,14 +160,14 @@ module _ (s c p : List ℕ) (b o : ℕ) (v : Verdict) (q : v ≡ judge_sheet s) 
         (f.declaration.name.from + o)
     name-found f g' = rw (finding-tested s c p (sym q ∙ g), ← q', g') (record { bytes = refl; block = refl; offset = omega arith })
 
-pub ruleset span-laws = (place-fits, size_fits, size-ordered)
+pub ruleset span_laws = (place-fits, size_fits, size-ordered)
 
-pub ruleset put-found-laws = (file-fits, small-name, small-extendee, small-path, words-given)
+pub ruleset put_found_laws = (file-fits, small-name, small-extendee, small-path, words-given)
 
-pub ruleset find-tested-laws = (finding-small, tested-refused, tested-found)
+pub ruleset find_tested_laws = (finding-small, tested-refused, tested-found)
 
-pub ruleset find-laws = (find-refused, find-found)
+pub ruleset find_laws = (find-refused, find-found)
 
-pub ruleset name-in-laws = (name-ordered, name-within, name-bad-sheet, name-refused, name-found)
+pub ruleset name_in_laws = (name-ordered, name-within, name-bad-sheet, name-refused, name-found)
 
-pub ruleset found-name-laws = (span-ordered, span-within, name-no-scope, name-no-path, name-for)
+pub ruleset found_name_laws = (span-ordered, span-within, name-no-scope, name-no-path, name-for)

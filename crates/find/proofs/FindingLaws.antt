@@ -54,4 +54,4 @@ module _ (t : List ℕ) (v : Verdict) (g : v ≡ Ok tt) where
   unfolding judge_path
   path-form q = judged-fine BadRequest (is_path t) (sym q ∙ g)
 
-pub ruleset finding-laws = (finding-long, finding-bad-scope, finding-bad-path, finding-is, scope-form, path-form)
+pub ruleset finding_laws = (finding-long, finding-bad-scope, finding-bad-path, finding-is, scope-form, path-form)

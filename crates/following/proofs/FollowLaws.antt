@@ -88,7 +88,7 @@ module _ (ks : List ℕ) (n k : ℕ) (c : Bool) (b : Option Row) (x : Row) where
       counted k x.level b x (ltb k x.level) (ltb x.level n) (is_at (key_at ks x.level).place x.entry.by)
       (eqb (x.level + 1) n) (key_at ks x.level).joins c
 
-pub ruleset follow-laws = (
+pub ruleset follow_laws = (
   not-true,
   not-false,
   at_none,

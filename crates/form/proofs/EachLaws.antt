@@ -5,7 +5,7 @@
 --       each-cut  where no whole field stands, v is what a cut is
 --   each-refused  a fault of the field that stands there is v
 --      each_next  where it is fine, v is the verdict of the fields from its end on
--- `each-loop` and `each-from-loop` have these, for any reader; `each-laws` and `each-from-laws` all that a loop over the fields of
+-- `each_loop` and `each_from_loop` have these, for any reader; `each_laws` and `each_from_laws` all that a loop over the fields of
 -- `field_at` needs, but its start, which is `rest-start`.
 --
 -- Assumes nothing.
@@ -59,10 +59,10 @@ module _ {next : Reader} (bad : Refusal) (f : ℕ → ℕ → ℕ → ℕ → Ve
           rest-next v (each_from bad f n) s to i k h r q here g (each_from bad f (n + 1))
           (sym (first_fine (f n here.tag here.from here.to) (each_from bad f (n + 1) (walk_by next s here.to to)) (sym p ∙ x)))
 
-pub ruleset each-loop = (each-end, each-cut, each-refused, each_next)
+pub ruleset each_loop = (each-end, each-cut, each-refused, each_next)
 
-pub ruleset each-laws = (each-loop, field-within, field-less)
+pub ruleset each_laws = (each_loop, field-within, field-less)
 
-pub ruleset each-from-loop = (each-from-end, each-from-cut, each-from-refused, each-from-next)
+pub ruleset each_from_loop = (each-from-end, each-from-cut, each-from-refused, each-from-next)
 
-pub ruleset each-from-laws = (each-from-loop, field-within, field-less)
+pub ruleset each_from_laws = (each_from_loop, field-within, field-less)

@@ -3,4 +3,4 @@
 use Rattle.basis.proofs.Kit.{not-true, not-false}
 use Rattle.field.proofs.LeafLaws.{leaf-none, leaf-bad, leaf-good, leaf-ordered, leaf-within}
 
-pub ruleset name-laws = (leaf-none, leaf-bad, leaf-good, leaf-ordered, leaf-within, not-true, not-false)
+pub ruleset name_laws = (leaf-none, leaf-bad, leaf-good, leaf-ordered, leaf-within, not-true, not-false)

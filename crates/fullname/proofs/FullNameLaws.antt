@@ -22,7 +22,7 @@ use Rattle.fullname.specs.FullName.{messages_at, enums_at, looked_up, looked_up_
 use Rattle.fullname.specs.inner.Ahead.{kept, passing, is_message, declares_enum}
 use Rattle.scope.proofs.Held.{enum_at, enum-not}
 use Rattle.cursor.proofs.CursorLaws.{nexts-no-more, nexts-at, nexts-stands, nexts-lies}
-use Rattle.cursor.proofs.Left.{Left, left_end, left-some, left-none, left-laws}
+use Rattle.cursor.proofs.Left.{Left, left_end, left-some, left-none, left_laws}
 use Rattle.cursor.proofs.StartLaws.{components-some, last-text, start-ahead, start-stands, start-before, start-before-stands}
 use Rattle.cursor.specs.declared.Next.{Next}
 use Rattle.field.specs.declared.Span.{Span}
@@ -55,9 +55,9 @@ module _ (s : List ℕ) (n : Name) (p : LookupScope) (l : Option Span) (x : l �
   pub enum-undeclared : l ≡ None → declares_enum s n (holding s p) ≡ false
   enum-undeclared h = rw (enum-not s n p l x h)
 
-pub ruleset next-message-laws = (left-laws, passing-end, passing-found, passing-next)
+pub ruleset next_message_laws = (left_laws, passing-end, passing-found, passing-next)
 
-pub ruleset next-enum-laws = (left-laws, passing-end, passing-found, passing-next, enum-declared, enum-undeclared)
+pub ruleset next_enum_laws = (left_laws, passing-end, passing-found, passing-next, enum-declared, enum-undeclared)
 
 -- ---- find_message_by_abs_name
 module _ (s t : List ℕ) (c : Cursor) (e : c ≡ start_of (eqb (length t) 0)) (r : Option Next) (q : Nexts (passing is_message s t) s t c r) where
@@ -76,7 +76,7 @@ module _ (s t : List ℕ) (c : Cursor) (e : c ≡ start_of (eqb (length t) 0)) (
         → Err MessageFoundMoreThanOnce ≡ looked_up (messages_at s (components t))
     messages-more m g' = rw (messages-all, (q.some n g).is, (q'.some m.scope m.rest g').is)
 
-pub ruleset message-by_name-laws = (start-stands, nexts-stands, messages-none, messages-one, messages-more)
+pub ruleset message_by_name_laws = (start-stands, nexts-stands, messages-none, messages-one, messages-more)
 
 -- ---- enum_in
 module _ (s : List ℕ) (n : Name) (p : LookupScope) (l : Option Span) (x : l ≡ bodied (enum_named s n (holding s p))) where
@@ -86,7 +86,7 @@ module _ (s : List ℕ) (n : Name) (p : LookupScope) (l : Option Span) (x : l �
   pub enum-in-some : (q : Span) → l ≡ Some q → Ok q ≡ looked_up_enum (collect (enum_named s n) (holding s p ∷ []))
   enum-in-some q h = let f = enum_at s n p l x q.from q.to h in ap Ok f.body ∙ rw f.is
 
-pub ruleset enum-in-laws = (enum-in-none, enum-in-some)
+pub ruleset enum_in_laws = (enum-in-none, enum-in-some)
 
 -- ---- only_enum
 -- what f makes of a list comes of those elements of which it makes something, one of each
@@ -135,7 +135,7 @@ module _ (s t : List ℕ) (n : Name) (c : Cursor) (r : Option Next) (q : Nexts (
         enums-more-than-one (collect (enum_named s n) (ahead s t c))
         (rw (collect-length (enum_named s n) (ahead s t c), (q.some m g).is, (q'.some next1.scope next1.rest g').is) (omega arith))
 
-pub ruleset only-enum-laws = (nexts-stands, nexts-lies, enums-none, enums-one, enums-more)
+pub ruleset only_enum_laws = (nexts-stands, nexts-lies, enums-none, enums-one, enums-more)
 
 -- ---- find_enum_by_abs_name
 enums-some : (s : List ℕ) (p : Path) → (p ≡ [] → ⊥) → enums_at s p ≡ collect (enum_named s (last p)) (scopes s (parent p))
@@ -155,4 +155,4 @@ module _ (s t : List ℕ) where
   enums-found h r k b q c e v x =
       x ∙ rw (start-before s t r k b q c e, last-text t r k, enums-some s (components t) (components-some t h))
 
-pub ruleset enum-by_name-laws = (start-before-stands, enums-empty, enums-found)
+pub ruleset enum_by_name_laws = (start-before-stands, enums-empty, enums-found)

@@ -58,7 +58,7 @@ module _ (s : List ℕ) (p : Path) where
     pub looked-up-counted : x.file ≤ length s
     looked-up-counted = looked-up.counted
 
-pub ruleset looked-up-laws = (looked-up-is, looked-up-lies, looked-up-counted)
+pub ruleset looked_up_laws = (looked-up-is, looked-up-lies, looked-up-counted)
 
 -- ---- an enum by full name
 pub record OneEnum (s : List ℕ) (es : List Enumeration) (p : Span) : Type 0 where
@@ -104,4 +104,4 @@ module _ (s : List ℕ) (p : Path) (r : Result Span Refusal) (q : r ≡ looked_u
   pub looked-up-enum-within : x.to ≤ length s
   looked-up-enum-within = looked-up-enum.within
 
-pub ruleset looked-up-enum-laws = (looked-up-enum-ordered, looked-up-enum-within)
+pub ruleset looked_up_enum_laws = (looked-up-enum-ordered, looked-up-enum-within)

@@ -9,7 +9,7 @@ use Rattle.octets.specs.Octets.{same_bytes, big_at}
 use Rattle.field.specs.Leaf.{span, is_text, any_bytes, of_size, leaf_at}
 use Rattle.field.specs.Walk.{Walk}
 use Rattle.field.proofs.LeafLaws.{on-leaf-some}
-use Rattle.field.proofs.Seek.{seek, seek_is, seek-laws}
+use Rattle.field.proofs.Seek.{seek, seek_is, seek_laws}
 use Rattle.sheet.specs.declared.declaration.Value.{Value}
 use Rattle.sheet.specs.Table.{name_tag, value_tag, signed_number_tag}
 use Rattle.sheet.specs.Declaration.{last_at, value_at}
@@ -64,7 +64,7 @@ module _ (n s : List ℕ) (t a e : ℕ) where
         p ∙ rw h (same_name None tells_valued (λ v. v.name) s n a e (value_at s a e) starts-value _ (λ v. refl) l q u.from u.to w
         (values-none (value_at s a e)))
 
-pub ruleset value-named-at-laws = (value-other-tag, value-other-name, value-same-name)
+pub ruleset value_named_at_laws = (value-other-tag, value-other-name, value-same-name)
 
 -- ---- value_named
 module _ (s n : List ℕ) where
@@ -93,4 +93,4 @@ module _ (s n : List ℕ) where
       q ∙ sym (seek_is None (first_of tells_valued) (value_named_at n s) (λ w. valued (value_named s n (values_in s w))) refl refl
       (λ t a e w. value-step t a e (values_in s w)) w)
 
-pub ruleset value-named-laws = (value-named-is, seek-laws)
+pub ruleset value_named_laws = (value-named-is, seek_laws)

@@ -64,7 +64,7 @@ module _ (c : ℕ) where
         unfolding digit_of
         digit-other e = simp (digit_of, f, u, l, e)
 
-pub ruleset digit-laws = (
+pub ruleset digit_laws = (
   figure-low,
   figure-most,
   upper-low,

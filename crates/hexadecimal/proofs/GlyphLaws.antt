@@ -33,4 +33,4 @@ module _ (d : ℕ) where
   pub digit_glyph : d < 16 → digit_of (glyph_of d) ≡ d
   digit_glyph h = elim (dec_lt d 10) [ yes g ↦ figure-back g | no g ↦ letter-back (omega arith) h ]
 
-pub ruleset glyph-laws = (glyph-figure, glyph-letter)
+pub ruleset glyph_laws = (glyph-figure, glyph-letter)

@@ -142,7 +142,7 @@ module _ (t l m : List ℕ) (half n i : ℕ) (u : Spelling t l m half n i) where
           rest = rw (add-one i) (joins (half * 16 + d) (unhex (suc i) blank (drop (suc i) t)) (unhex-second i half _ _ d e a b g));
         }
 
-pub ruleset spelling-laws = (
+pub ruleset spelling_laws = (
   spelling-start,
   spelling-length,
   spelling-done,

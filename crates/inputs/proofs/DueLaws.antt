@@ -34,7 +34,7 @@ module _ (k : ℕ) (s : List ℕ) (at : ℕ) where
       unfolding due_at
       due-here x = rw (due_at, ne_eqb at (length s) n, ← q, g) (simp (due_of, eq-eqb f.tag k x))
 
-pub ruleset due-laws = (due-ended, due-cut, due-other, due-here)
+pub ruleset due_laws = (due-ended, due-cut, due-other, due-here)
 
 -- ---- the ways through `due_leaf`
 module _ (d : Due) where
@@ -50,7 +50,7 @@ module _ (d : Due) where
   pub due-leaf-ended : d ≡ Ended → None ≡ due_leaf d
   due-leaf-ended g = rw g
 
-pub ruleset due-leaf-laws = (due-leaf-here, due-leaf-other, due-leaf-cut, due-leaf-ended)
+pub ruleset due_leaf_laws = (due-leaf-here, due-leaf-other, due-leaf-cut, due-leaf-ended)
 
 -- ---- what is due is the leaf of its tag
 module _ (k : ℕ) (s : List ℕ) where

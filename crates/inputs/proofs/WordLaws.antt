@@ -57,4 +57,4 @@ signed_word z u v p q h =
     let fits : Fits w32 u = record { fits = h } in
     ap (λ x. to_z w32 (of_z w32 x)) p ∙ ap (to_z w32) (of_z-to_z fits ∙ q)
 
-pub ruleset filling-laws = (filling-start, filling-length, filling-end, filling-word, filling-room, filling-next, signed_word)
+pub ruleset filling_laws = (filling-start, filling-length, filling-end, filling-word, filling-room, filling-next, signed_word)

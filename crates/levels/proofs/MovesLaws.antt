@@ -59,5 +59,5 @@ module _ (s type bs : List ℕ) (before : Outcome Row) (at : ℕ) (st : List ℕ
   pub moved-wrong : (w : Refusal) → r ≡ Wrong w → before ≡ refuse w
   moved-wrong w q = wronged k w q
 
-pub ruleset next-facts =
+pub ruleset next_facts =
     (start-open, start_left, moved_open, moved-rest, moved-further, moved-less, moved-end, moved-wrong)

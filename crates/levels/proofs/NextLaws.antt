@@ -45,7 +45,7 @@ module _ (st : List ℕ) (d : ℕ) (e : Entry) (p : Span) (q : LookupScope) wher
       → StepsIn st d e p q st' (Record (row (d - 1) e) (record { at = e.place; depth = d + 1 }))
   step-deeper h st' g = steps-in h g
 
-pub ruleset step-laws = (step-too-deep, step-deeper)
+pub ruleset step_laws = (step-too-deep, step-deeper)
 
 -- ---- `front_in`
 module _ (s type bs : List ℕ) (l : ℕ) (v : Level) (at : ℕ) (f : Front) where
@@ -80,7 +80,7 @@ pub front-lies : (s st : List ℕ) (l at : ℕ) (v : Level) → v ≡ level_at s
     → FrontLies s at (level_at st l).end f
 front-lies s st l at v read f k = rw read at k
 
-pub ruleset front-laws = (front-outer, front-inner, front-name, front-place, front-ahead, front-within, front-shows, front-lies)
+pub ruleset front_laws = (front-outer, front-inner, front-name, front-place, front-ahead, front-within, front-shows, front-lies)
 
 -- ---- what the record at a place shows of the item there
 record ShownLeaf (at : ℕ) (i : Item) (x : Entry) (next : ℕ) : Type 0 where
@@ -258,5 +258,5 @@ module _ (s type bs st : List ℕ) (c : Cursor) (o : Open s bs st c) (r : ℕ) (
               (Record (row (r - 1) x) (record { at = x.place; depth = suc d })))
               (sym one_more) (front-inside s type bs st c o (r - 1) settled-there shown lies x path place g (omega arith)))
 
-pub ruleset next-laws =
+pub ruleset next_laws =
     (next-end, next-few, next_level, next-most, next-open, next-wrong, next-leaf, next_fits, next-inside)

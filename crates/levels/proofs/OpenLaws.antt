@@ -42,7 +42,7 @@ module _ (st : List ℕ) (at all : ℕ) where
   closing-none zero k h = k.closed zero none_open
   closing-none (suc l) k h = absurd (omega arith)
 
-pub ruleset closing-laws = (closing-start, closing-inside, closing-next, closing-stays, closing-none)
+pub ruleset closing_laws = (closing-start, closing-inside, closing-next, closing-stays, closing-none)
 
 -- ---- what has settled
 module _ {st : List ℕ} {at : ℕ} where

@@ -23,7 +23,7 @@ words-start l at ws h =
 pub words-end : (l : List ℕ) (at : ℕ) (ws m : List ℕ) (i : ℕ) → Laying l at ws m (length ws) i → length ws ≤ i → m ≡ sets l at ws
 words-end l at ws m i k h = (laying-end l at ws m (length ws) i k h).left
 
-pub ruleset words-laws = (words-start, words-end, laying-next, laying-inside, laying-room, laying-length)
+pub ruleset words_laws = (words-start, words-end, laying-next, laying-inside, laying-room, laying-length)
 
 -- ---- levels
 pub level-said : (st : List ℕ) (l : ℕ)

@@ -49,4 +49,4 @@ module _ (p : LookupScope) (bs st : List ℕ) (c : Cursor) (k : Starts p bs st c
       → left L s type bs st c.depth c.at ≡ flat 0 (reading L s most_levels (message type p) 0 bs)
   start_left L s type = rw k.cursor (left-first L s type bs p st k.level)
 
-pub ruleset start-laws = started
+pub ruleset start_laws = started

@@ -6,7 +6,7 @@ use Rattle.basis.proofs.Kit.{eq-eqb, ne_eqb, not-true, not-false}
 use Rattle.octets.specs.Octets.{same_bytes}
 use Rattle.field.specs.Leaf.{text}
 use Rattle.sheet.specs.declared.declaration.Declaration.{Declaration}
-use Rattle.sheet.proofs.PlaceLaws.{extension-places-laws, field-places-laws}
+use Rattle.sheet.proofs.PlaceLaws.{extension_places_laws, field_places_laws}
 use Rattle.scope.specs.Scope.{extends}
 use Rattle.likeness.specs.declared.Like.{Like}
 use Rattle.likeness.specs.declared.Way.{Way}
@@ -25,7 +25,7 @@ module _ (x y : ℕ) (b c : Bool) where
     pub whole-named : r ≡ true → (v : Bool) → v ≡ c → v ≡ (eqb x y && b && c)
     whole-named p v u = rw (eq-eqb x y h, ← q, p) u
 
-pub ruleset same-whole-laws = (whole-other, whole-renamed, whole-named)
+pub ruleset same_whole_laws = (whole-other, whole-renamed, whole-named)
 
 -- ---- is_like
 module _ (l : Like) (o s : List ℕ) (d : Declaration) where
@@ -49,7 +49,7 @@ module _ (l : Like) (o s : List ℕ) (d : Declaration) where
     unfolding is_like
     like-whole w r u = rw (w, eq-eqb l.declaration.shape.number d.shape.number h) u
 
-pub ruleset is-like-laws = (like-number-other, like-number, like-whole, not-true, not-false)
+pub ruleset is_like_laws = (like-number-other, like-number, like-whole, not-true, not-false)
 
 -- ---- in_field
 module _ (l : Like) (o s : List ℕ) (w : Way) (u : Option Declaration) where
@@ -86,7 +86,7 @@ module _ (l : Like) (o s : List ℕ) (w : Way) (h : w ≡ Own) (u r : Option Dec
   unfolding field_likes
   field-unlike e = likes-some (field_likes l o s w) u r q d g 0 (rw (h, ← p, e) refl)
 
-pub ruleset in-field-laws = (field-within, field_off, likes-none, field-like, field-unlike, field-places-laws)
+pub ruleset in_field_laws = (field-within, field_off, likes-none, field-like, field-unlike, field_places_laws)
 
 -- ---- in_extension
 module _ (m : List ℕ) (l : Like) (o s : List ℕ) (u r : Option Declaration) (q : r ≡ u) (d : Declaration) (g : r ≡ Some d) (c : Bool)
@@ -104,4 +104,4 @@ module _ (m : List ℕ) (l : Like) (o s : List ℕ) (u r : Option Declaration) (
     unfolding extension_likes
     extension-unlike e = likes-some (extension_likes m l o s) u r q d g 0 (rw (← k, h, ← p, e) refl)
 
-pub ruleset in-extension-laws = (likes-none, extension-other, extension-like, extension-unlike, extension-places-laws)
+pub ruleset in_extension_laws = (likes-none, extension-other, extension-like, extension-unlike, extension_places_laws)

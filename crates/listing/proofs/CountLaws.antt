@@ -68,4 +68,4 @@ module _ (o : Outcome ℕ) (p : Result ℕ Cause) (q : p ≡ counted o) (l : Lis
         go (Ok k) x e = let same : k ≡ n = cc in record { fits = omega (arith, same, x, h) }
         go (Err c) x e = never cc
 
-pub ruleset over-laws = (over-refused, over-no-room, over_done, over-fits)
+pub ruleset over_laws = (over-refused, over-no-room, over_done, over-fits)

@@ -49,7 +49,7 @@ module _ (s type bs : List ℕ) (u : Verdict) (x : u ≡ judge_length s) where
       unfolding admitted judge_inputs
       message-is g' r y = rw (← x, h, ← q, g, ← q', g') y
 
-pub ruleset message-laws = (message-long, message-bad-type, message-long-bytes, message-is)
+pub ruleset message_laws = (message-long, message-bad-type, message-long-bytes, message-is)
 
 -- ---- the words of the rows are the listing
 within-worded : (m : Message) (x : Listed) → listed (within m x) ≡ worded (flat 0 x)
@@ -95,7 +95,7 @@ module _ (s type bs : List ℕ) (r : Result LookupScope Refusal) (q : r ≡ admi
         → Answered (listing_tested s type bs) l l' a
     tested-listed l l' a h = rw (listing-rows (judge_length s) s type bs p (sym q ∙ g)) h
 
-pub ruleset list-tested-laws = (tested-refused, tested-inside, tested-short, tested-listed)
+pub ruleset list_tested_laws = (tested-refused, tested-inside, tested-short, tested-listed)
 
 -- ---- `list` answers as `list_tested` does, of every sheet whose form is fine
 pub list-tested : (s type bs : List ℕ) → judge_sheet s ≡ Ok tt → listing s type bs ≡ listing_tested s type bs
@@ -109,4 +109,4 @@ module _ (s type bs : List ℕ) (v : Verdict) (q : v ≡ judge_sheet s) (l : Lis
   pub list-listed : v ≡ Ok tt → (l' : List ℕ) → Answered (listing_tested s type bs) l l' a → Answered (listing s type bs) l l' a
   list-listed g l' h = rw (list-tested s type bs (sym q ∙ g)) h
 
-pub ruleset list-laws = (list-refused, list-listed)
+pub ruleset list_laws = (list-refused, list-listed)

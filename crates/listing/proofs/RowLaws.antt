@@ -85,5 +85,5 @@ pub refused-few : (most : ℕ) (c : Cause) → WroteAtMost most (Err c)
 unfolding WroteAtMost
 refused-few most c = tt
 
-pub ruleset rowing-laws =
+pub ruleset rowing_laws =
     (rowing_start, rowing-all, rowing-open, rowing-fits, rowing-few, refused-few, rowing-length, rowing-end, rowing-wrong, rowing-next, moved-less)

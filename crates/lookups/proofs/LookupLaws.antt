@@ -58,5 +58,5 @@ module _ (s p : List ℕ) (r : Result Span Refusal) (q : r ≡ (walking s).enume
   pub enum-within : x.to ≤ length s
   enum-within = looked-up-enum-within s (components p) r q x g
 
-pub ruleset lookup-laws =
+pub ruleset lookup_laws =
     (message-lies, field-path-ordered, field-path-within, extension-path-ordered, extension-path-within, enum-ordered, enum-within)

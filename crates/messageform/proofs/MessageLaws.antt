@@ -12,7 +12,7 @@ use Rattle.form.specs.Each.{each}
 use Rattle.field.proofs.FieldLaws.{field-ordered}
 use Rattle.field.proofs.LeafLaws.{leaf-inside}
 use Rattle.field.proofs.Rest.{Rest, rest-start}
-use Rattle.form.proofs.EachLaws.{each-laws}
+use Rattle.form.proofs.EachLaws.{each_laws}
 use Rattle.sheet.specs.Table.{message_tag, extension_tag, enum_tag, field_tag, value_tag, name_tag}
 use Rattle.declform.specs.Declarations.{is_extension, is_field, is_value}
 use Rattle.reply.specs.Verdicts.{beyond}
@@ -29,7 +29,7 @@ module _ (s : List ℕ) (t a e : ℕ) where
   unfolding judge_value
   value-judged y b x v q = simp (judge_value, eq-eqb t value_tag y, ← x) q
 
-pub ruleset value-laws = (value-other, value-judged)
+pub ruleset value_laws = (value-other, value-judged)
 
 -- ---- check_enum
 abbrev pub values : List ℕ → Walk → Verdict
@@ -44,7 +44,7 @@ module _ (s : List ℕ) (a e : ℕ) (r : Option Span) (q : r ≡ leaf_at name_ta
   unfolding judge_enum
   enum-start p g h = rw (← q, g) (rest-start (values s) s p.to e (leaf-inside name_tag is_ident s a e r q p.from p.to g) h)
 
-pub ruleset enum_laws = (enum-unnamed, enum-start, field-ordered, each-laws)
+pub ruleset enum_laws = (enum-unnamed, enum-start, field-ordered, each_laws)
 
 -- ---- check_item
 module _ (d : ℕ) (fields : Bool) (s : List ℕ) (t a e : ℕ) where
@@ -81,7 +81,7 @@ module _ (d : ℕ) (fields : Bool) (s : List ℕ) (t a e : ℕ) where
           item-field f b z v q =
               simp (judge_item, ne_eqb t message_tag m, ne_eqb t extension_tag x, ne_eqb t enum_tag n, eq-eqb t field_tag y, f, ← z) q
 
-pub ruleset item-laws =
+pub ruleset item_laws =
     (item-message, item-extension, item-enum, item-other, item-outside, item-field, not-true, not-false)
 
 -- ---- check_items
@@ -93,7 +93,7 @@ pub items-start : (d : ℕ) (fields : Bool) (s : List ℕ) (a e : ℕ) → a ≤
 unfolding judge_items
 items-start d fields s a e h k = rest-start (items d fields s) s a e h k
 
-pub ruleset items-laws = (items-start, field-ordered, each-laws)
+pub ruleset items_laws = (items-start, field-ordered, each_laws)
 
 -- ---- check_message
 module _ (s : List ℕ) (a e : ℕ) where
@@ -118,4 +118,4 @@ module _ (d : ℕ) (s : List ℕ) (a e : ℕ) where
     pub message-named : (u : Span) → r ≡ Some u → (v : Verdict) → v ≡ judge_items (d - 1) true s u.to e → v ≡ judge_message d s a e
     message-named u g v p = p ∙ named s a e d z u.from u.to (sym q ∙ g)
 
-pub ruleset message-laws = (message-beyond, message-unnamed, message-named, leaf-inside)
+pub ruleset message_laws = (message-beyond, message-unnamed, message-named, leaf-inside)

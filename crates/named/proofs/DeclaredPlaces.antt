@@ -1,5 +1,5 @@
 -- Where that lies which a scope or the sheet declares: name, extendee and type path of a declaration are places of the sheet. They are for
--- whoever reads the sheet at what was found. Of each look-up one law says `Ordered d` and one `Places (length s) d`, and `places-laws` take
+-- whoever reads the sheet at what was found. Of each look-up one law says `Ordered d` and one `Places (length s) d`, and `places_laws` take
 -- from these what is asked of a span.
 --
 --   Ordered d <-> name, extendee and type path of the declaration end no earlier than they start
@@ -52,7 +52,7 @@ module _ (end : ℕ) (d : Declaration) (k : Places end d) where
   pub path-within : d.shape.path.to ≤ end
   path-within = k.path.inside
 
-pub ruleset places-laws = (name-ordered, name-within, extendee-ordered, extendee-within, path-ordered, path-within)
+pub ruleset places_laws = (name-ordered, name-within, extendee-ordered, extendee-within, path-ordered, path-within)
 
 -- ---- the declaration that one field is
 module _ (k : ℕ) (s : List ℕ) (t a e : ℕ) (r : Option Declaration) (q : r ≡ declaration_at k s t a e) (d : Declaration) (g : r ≡ Some d) where

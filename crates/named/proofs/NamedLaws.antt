@@ -16,7 +16,7 @@ use Rattle.field.specs.declared.Span.{Span}
 use Rattle.field.specs.Leaf.{span, text, is_text, any_bytes, leaf_at}
 use Rattle.field.specs.Walk.{Walk, walk}
 use Rattle.field.proofs.LeafLaws.{leaf-good, leaf-tested, leaf-untested, on-leaf-some}
-use Rattle.field.proofs.Seek.{seek, seek_is, seek-laws}
+use Rattle.field.proofs.Seek.{seek, seek_is, seek_laws}
 use Rattle.sheet.specs.declared.declaration.Declaration.{Declaration}
 use Rattle.sheet.specs.Table.{name_tag, extendee_tag, extension_tag, field_tag}
 use Rattle.sheet.specs.Declaration.{shape_at, declared_with, extension_at, message_field_at}
@@ -51,7 +51,7 @@ module _ (k : ℕ) (s : List ℕ) (t a e : ℕ) where
     unfolding declaration_at
     declaration-neither x y = simp (declaration_at, eq-eqb t k h, ne_eqb k extension_tag x, ne_eqb k field_tag y)
 
-pub ruleset declaration-at-laws = (declaration-other, declaration-extension, declaration-field, declaration-neither)
+pub ruleset declaration_at_laws = (declaration-other, declaration-extension, declaration-field, declaration-neither)
 
 -- ---- the name of a declaration and of a value is the leaf that its payload starts with
 abbrev pub Named : List ℕ → ℕ → ℕ → Span → Type 0
@@ -165,7 +165,7 @@ module _ (good : Declaration → Bool) (k : ℕ) (s n : List ℕ) (t a e : ℕ) 
       p ∙ same_name None tells_declared (λ d. d.name) s n a e (declaration_at k s t a e) starts good same l q u.from u.to w
       (declares-none (declaration_at k s t a e))
 
-pub ruleset declaration-named-at-laws = (declaration-other-name, declaration-same-name, declaration-at-laws)
+pub ruleset declaration_named_at_laws = (declaration-other-name, declaration-same-name, declaration_at_laws)
 
 -- ---- of the declarations of a scope the first that passes a test, whatever the test
 declarations-none : (k : ℕ) → declarations_of k items.none ≡ []
@@ -207,4 +207,4 @@ pub declaration-named-is : (k : ℕ) (s n : List ℕ) (p : LookupScope) (r : Opt
 declaration-named-is k s n p r q =
     q ∙ sym (declarations-seek (λ d. is_text s n d.name) k p.left s (walk s p.body.from p.body.to))
 
-pub ruleset declaration-named-laws = (declaration-named-is, seek-laws)
+pub ruleset declaration_named_laws = (declaration-named-is, seek_laws)

@@ -54,7 +54,7 @@ module _ (t : List ℕ) (at : ℕ) (n : List ℕ) (h : at ≤ length t) where
         let z : at + length n - at ≡ length n = omega arith in
         q ∙ rw z (sym (dotted n (drop at t) longer (get_or-drop at t (length n) 0 ∙ g)))
 
-pub ruleset leads-laws = (leads-short, leads-dotless, leads-dotted)
+pub ruleset leads_laws = (leads-short, leads-dotless, leads-dotted)
 
 -- ==== the statements
 -- A text that a name leads is that name, a dot, and the rest;

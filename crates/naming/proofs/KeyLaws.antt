@@ -22,7 +22,7 @@ note-noted ks i p b v e = rw (e, add-one) (ap (set (set ks (i * key_words) p) (s
     go true = refl
     go false = refl
 
-pub ruleset note-laws = (note-room, note-noted)
+pub ruleset note_laws = (note-room, note-noted)
 
 -- ---- the key that was noted, and the others
 flag : (b : Bool) → not (eqb (only_if b 1 0) 0) ≡ b

@@ -27,7 +27,7 @@ use Rattle.scope.specs.inner.Answers.{InSheet}
 use Rattle.request.specs.declared.name.Part.{Part}
 use Rattle.request.specs.Name.{part_at, parts_in}
 use Rattle.request.proofs.PartLaws.{parts-nil, parts-cons, part-inside, part-further}
-use Rattle.optionform.proofs.PartsLaws.{fine-part-laws, fine-part-next}
+use Rattle.optionform.proofs.PartsLaws.{fine_part_laws, fine-part-next}
 use Rattle.lookups.specs.Lookups.{Lookups, Message, walking}
 use Rattle.lookups.proofs.LookupLaws.{message-lies}
 use Rattle.steps.specs.declared.Lack.{Lack}
@@ -352,11 +352,11 @@ module _ (s q : List ℕ) (d : Declaration) (at : ℕ) (v : Reach) where
         let i = behind-reach (walking s) s q d at (length q) v e (λ h x y. nothing_left cc) k in
         rw (i, g) (rw inside_on.from at j)
 
-pub ruleset declare-laws = (namable-within, namable-scope, namable-next, declared-none, declared-step, declare-falls, fine-part-laws)
+pub ruleset declare_laws = (namable-within, namable-scope, namable-next, declared-none, declared-step, declare-falls, fine_part_laws)
 
-pub ruleset declare-step-laws = (noted-room, noted-namable, step-refused, step-noted, step_falls, step-path-ordered, step-path-within)
+pub ruleset declare_step_laws = (noted-room, noted-namable, step-refused, step-noted, step_falls, step-path-ordered, step-path-within)
 
-pub ruleset declare-behind-laws = (
+pub ruleset declare_behind_laws = (
   namable-within,
   index-fits,
   behind-last,

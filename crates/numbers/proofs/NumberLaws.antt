@@ -15,7 +15,7 @@ use Rattle.field.specs.Leaf.{is_text, any_bytes, leaf_at, span}
 use Rattle.field.specs.Field.{field_at, field}
 use Rattle.field.specs.Walk.{Walk, walk}
 use Rattle.field.proofs.LeafLaws.{leaf-inside}
-use Rattle.field.proofs.Seek.{seek, seek_is, Seeking, seek-start, seek-next, seek-laws}
+use Rattle.field.proofs.Seek.{seek, seek_is, Seeking, seek-start, seek-next, seek_laws}
 use Rattle.sheet.specs.declared.declaration.Declaration.{Declaration}
 use Rattle.sheet.specs.Table.{file_tag, message_tag, extension_tag, field_tag, package_tag, name_tag}
 use Rattle.sheet.specs.Tree.{none, message_in, items_in, files_in}
@@ -29,8 +29,8 @@ use Rattle.scope.specs.Scope.{Scope, holding}
 use Rattle.scope.specs.inner.Answers.{declared}
 use Rattle.scope.specs.inner.Steps.{tells_declared, first_of, declaration_at, item_at, file_at}
 use Rattle.numbers.specs.Number.{has_number, is_extension_of, field_numbered, extension_numbered, declaration_of}
-use Rattle.scope.proofs.Answers.{declared-or-else, declared-append, declared-listed, whose-laws}
-use Rattle.named.proofs.DeclaredPlaces.{declaration-at-ordered, declaration-at-places, places-laws}
+use Rattle.scope.proofs.Answers.{declared-or-else, declared-append, declared-listed, whose_laws}
+use Rattle.named.proofs.DeclaredPlaces.{declaration-at-ordered, declaration-at-places, places_laws}
 use Rattle.named.proofs.NamedLaws.{declaration_where, declarations-seek}
 use Rattle.numbers.specs.inner.Says.{extension_says, may_hold}
 use Rattle.numbers.proofs.SaysLaws.{field-tag-other, field-says-other, extension-tag-other, extension-says-other}
@@ -38,7 +38,7 @@ use Rattle.field.specs.declared.Field.{Field}
 use Rattle.field.specs.declared.Span.{Span}
 
 -- ---- field_numbered_at
-pub ruleset field-numbered-at-laws = (whose-laws, eq-eqb, ne_eqb, field-tag-other, field-says-other, not-true, not-false)
+pub ruleset field_numbered_at_laws = (whose_laws, eq-eqb, ne_eqb, field-tag-other, field-says-other, not-true, not-false)
 
 -- ---- extension_read_at
 module _ (s m : List ℕ) (k : ℕ) (d : Declaration) where
@@ -52,14 +52,14 @@ module _ (s m : List ℕ) (k : ℕ) (d : Declaration) where
     pub extension-of-both : b ≡ true → is_extension_of s m k d ≡ true
     extension-of-both g = rw (eq-eqb d.shape.number k h, ← q, g)
 
-pub ruleset extension-read-at-laws = (
-  whose-laws,
+pub ruleset extension_read_at_laws = (
+  whose_laws,
   extension-of-other-number,
   extension-of-other-message,
   extension-of-both,
   declaration-at-ordered,
   declaration-at-places,
-  places-laws,
+  places_laws,
   not-true,
   not-false,
 )
@@ -72,7 +72,7 @@ module _ (k : ℕ) (s : List ℕ) (t a e : ℕ) where
   pub may-other : (t ≡ extension_tag → ⊥) → eqb t message_tag ≡ may_hold k s t a e
   may-other h = rw (ne_eqb t extension_tag h, may_hold) refl
 
-pub ruleset may-hold-laws = (may-extension, may-other)
+pub ruleset may_hold_laws = (may-extension, may-other)
 
 -- ---- field_numbered
 pub field-numbered-is : (k : ℕ) (s : List ℕ) (p : LookupScope) (r : Option Declaration)
@@ -80,7 +80,7 @@ pub field-numbered-is : (k : ℕ) (s : List ℕ) (p : LookupScope) (r : Option D
     → r ≡ declared (field_numbered k (holding s p))
 field-numbered-is k s p r q = q ∙ sym (declarations-seek (has_number k) field_tag p.left s (walk s p.body.from p.body.to))
 
-pub ruleset field-numbered-laws = (field-numbered-is, seek-laws)
+pub ruleset field_numbered_laws = (field-numbered-is, seek_laws)
 
 -- ---- extension_in_item and extension_in_items
 module _ (good : Declaration → Bool) (d : ℕ) (s : List ℕ) (t a e : ℕ) where
@@ -103,7 +103,7 @@ module _ (good : Declaration → Bool) (d : ℕ) (s : List ℕ) (t a e : ℕ) wh
       in-item-named z u g x p =
           rw (item-message (message_in d s) s t a e none h, message-named d s a e none z l q u.from u.to g, append-nil) p
 
-pub ruleset in-item-laws = (in-item-other, in-item-beyond, in-item-unnamed, in-item-named, leaf-inside)
+pub ruleset in_item_laws = (in-item-other, in-item-beyond, in-item-unnamed, in-item-named, leaf-inside)
 
 abbrev pub item_where : (good : Declaration → Bool) (left : ℕ) (s : List ℕ) (tag from to : ℕ) → Option Declaration
 item_where good d s t a e = declared (first good (every_extension_of (item_at d s t a e)))
@@ -136,7 +136,7 @@ module _ (m : List ℕ) (k d : ℕ) (s : List ℕ) (t a e : ℕ) where
       → Seeking None (first_of tells_declared) (item_where (is_extension_of s m k) d s) s from to e
   in-items-pass l h r q g b u z = seek-next l h r q t a e g None (passed_none (sym u ∙ z)) refl (λ y. refl)
 
-pub ruleset in-items-laws = (in-items-is, in-items-pass, seek-laws, not-true, not-false)
+pub ruleset in_items_laws = (in-items-is, in-items-pass, seek_laws, not-true, not-false)
 
 -- ---- extension_in_file
 module _ (good : Declaration → Bool) (s : List ℕ) (t a e : ℕ) where
@@ -152,7 +152,7 @@ module _ (good : Declaration → Bool) (s : List ℕ) (t a e : ℕ) where
         → x ≡ declared (first good (every_extension (file_at s t a e)))
     in-file-named u g x p = rw (file-named s t a e [] h r q u.from u.to g, append-nil) p
 
-pub ruleset in-file-laws = (in-file-other, in-file-unnamed, in-file-named, leaf-inside)
+pub ruleset in_file_laws = (in-file-other, in-file-unnamed, in-file-named, leaf-inside)
 
 -- ---- extension_numbered
 abbrev pub file_where : (good : Declaration → Bool) (s : List ℕ) (tag from to : ℕ) → Option Declaration
@@ -177,7 +177,7 @@ module _ (s m : List ℕ) (k to : ℕ) (h : to ≡ length s) where
           (λ w. declared (first (is_extension_of s m k) (every_extension (files_in s w)))) refl refl
           λ t a e w. rw (every-extension-file s t a e (files_in s w), declared-append)
 
-pub ruleset extension-numbered-laws = (extension-numbered-start, extension-numbered-is, seek-laws)
+pub ruleset extension_numbered_laws = (extension-numbered-start, extension-numbered-is, seek_laws)
 
 -- ---- declaration_of
 module _ (s m : List ℕ) (c : Scope) (k : ℕ) (r : Option Declaration) (q : r ≡ declared (field_numbered k c)) where
@@ -192,4 +192,4 @@ module _ (s m : List ℕ) (c : Scope) (k : ℕ) (r : Option Declaration) (q : r 
       → x ≡ declared (declaration_of s c m k)
   declaration-of-extension g x p = rw (declaration-of-or, g) p
 
-pub ruleset declaration-of-laws = (declaration-of-field, declaration-of-extension)
+pub ruleset declaration_of_laws = (declaration-of-field, declaration-of-extension)

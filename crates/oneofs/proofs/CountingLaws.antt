@@ -41,4 +41,4 @@ module _ (ws : List ℕ) (n i : ℕ) (u : Counting ws n i) where
       counted = let p = rw (ne_eqb _ 2 e) at split-here in omega (arith, p);
     }
 
-pub ruleset counting-laws = (counting-start, counting-done, counting-real, counting-other)
+pub ruleset counting_laws = (counting-start, counting-done, counting-real, counting-other)

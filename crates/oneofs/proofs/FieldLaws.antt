@@ -18,7 +18,7 @@ use Rattle.reply.specs.Reply.{bare, refused_by}
 use Rattle.reply.specs.Outcome.{Outcome, refused, nothing, give, push, Answered}
 use Rattle.reply.proofs.Outcomes.{answered-refused}
 use Rattle.emit.specs.inner.Puts.{Puts}
-use Rattle.emit.proofs.WriteLaws.{give-inv, put-wrote, call-laws}
+use Rattle.emit.proofs.WriteLaws.{give-inv, put-wrote, call_laws}
 use Rattle.oneofs.specs.Fields.{real, synthetic, oneof, Group, joining, groups_after, groups, real_count}
 use Rattle.oneofs.specs.Fields.{synthetic_last, word_of, numbered, lower_fields_by}
 use Rattle.oneofs.proofs.GroupLaws.{numbered-given}
@@ -93,4 +93,4 @@ module _ (numbering : ℕ) (ws : List ℕ) where
     unfolding lower_fields_by
     fields-left g = rw e (simp (lower_fields_by, le-ltb _ _ g, le-ltb _ _ h))
 
-pub ruleset fields-laws = (fields-unnumbered, fields-long, fields-reals, fields-left, fields_fit, call-laws)
+pub ruleset fields_laws = (fields-unnumbered, fields-long, fields-reals, fields-left, fields_fit, call_laws)

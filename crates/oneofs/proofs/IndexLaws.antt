@@ -58,7 +58,7 @@ module _ (numbering reals : ℕ) where
   pub first-apart : (numbering ≡ declared → ⊥) → reals ≡ index_of numbering reals (oneof synthetic 0 0)
   first-apart e = omega (arith, index-synthetic numbering reals 0 0 e)
 
-pub ruleset first-laws = (first-shared, first-apart)
+pub ruleset first_laws = (first-shared, first-apart)
 
 pub step-shared : (numbering : ℕ) → numbering ≡ declared → 1 ≡ index_of numbering 0 (oneof real 0 1)
 step-shared numbering e = sym (index-declared numbering 0 0 1 real e)
@@ -66,7 +66,7 @@ step-shared numbering e = sym (index-declared numbering 0 0 1 real e)
 pub step-apart : (numbering : ℕ) → (numbering ≡ declared → ⊥) → 0 ≡ index_of numbering 0 (oneof real 0 1)
 step-apart numbering e = sym (index_real numbering 0 0 1 e)
 
-pub ruleset step-laws = (step-shared, step-apart)
+pub ruleset step_laws = (step-shared, step-apart)
 
 -- ---- from one oneof to the next
 pub record Grows (numbering reals r s : ℕ) : Type 0 where

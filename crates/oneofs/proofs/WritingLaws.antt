@@ -183,7 +183,7 @@ module _
       passed numbering reals ws l m next-real next-synthetic member n i u h (suc u.r) u.s (Some (oneof real u.r u.s))
       (next-real + 1) (next-synthetic + step) member' k (omega arith) e
 
-pub ruleset numbering-laws = (
+pub ruleset numbering_laws = (
   numbering_start,
   numbering-length,
   numbering-done,

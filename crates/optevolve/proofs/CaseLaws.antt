@@ -2,8 +2,8 @@
 -- Assumes nothing.
 use Rattle.field.proofs.LeafLaws.{leaf-ordered, leaf-within}
 use Rattle.field.proofs.PartLaws.{span-ordered, span-within}
-use Rattle.console.proofs.InputLaws.{input-laws}
+use Rattle.console.proofs.InputLaws.{input_laws}
 
-pub ruleset case-laws = (leaf-ordered, leaf-within, input-laws)
+pub ruleset case_laws = (leaf-ordered, leaf-within, input_laws)
 
-pub ruleset read-laws = (span-ordered, span-within)
+pub ruleset read_laws = (span-ordered, span-within)

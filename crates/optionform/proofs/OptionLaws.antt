@@ -18,7 +18,7 @@ use Rattle.field.proofs.FieldLaws.{field-within}
 use Rattle.request.specs.declared.name.Part.{Part}
 use Rattle.request.specs.Table.{option_tag}
 use Rattle.request.specs.Name.{part_at}
-use Rattle.request.proofs.PartLaws.{rest-no-part, rest_part, rest-part-next, part-further, part-places}
+use Rattle.request.proofs.PartLaws.{rest-no-part, rest_part, rest-part-next, part-further, part_places}
 use Rattle.constantform.specs.Leaves.{good_part}
 use Rattle.reply.specs.Verdicts.{beyond}
 use Rattle.constantform.specs.Form.{bad_request, judge_constant}
@@ -57,7 +57,7 @@ module _ (v : Result ℕ Refusal) (s : List ℕ) (n to at : ℕ) (k : Rest v (pa
             (λ t i. rw i (simp (next_part, lt-ltb n most_parts h, ← x, y)))
 
 pub ruleset parts_laws =
-    (not-true, not-false, parts-start, parts-end, parts_none, parts-many, parts-bad, parts_next, part-places)
+    (not-true, not-false, parts-start, parts-end, parts_none, parts-many, parts-bad, parts_next, part_places)
 
 -- ---- parts end where their container does, or before
 module _ (v : Result ℕ Refusal) (s : List ℕ) (to x : ℕ) (g : v ≡ Ok x) where
@@ -107,7 +107,7 @@ module _ (s : List ℕ) (at end : ℕ) (r : Option Field) (q : r ≡ field_at s 
     unfolding judge_last
     last-fine x v y = rw (← q, g, ← p, x) y
 
-pub ruleset last-laws = (last-cut, last-refused, last-fine, field-ordered, field-within)
+pub ruleset last_laws = (last-cut, last-refused, last-fine, field-ordered, field-within)
 
 -- ---- check_option
 module _ (s : List ℕ) (i t a e : ℕ) where
@@ -135,4 +135,4 @@ module _ (s : List ℕ) (i t a e : ℕ) where
         pub option-last : (at ≡ a → ⊥) → (v : Verdict) → v ≡ judge_last s at e → v ≡ judge_option s i t a e
         option-last x v p = rw (option-open, g) (simp (after_name, ne_eqb at a x) p)
 
-pub ruleset option-laws = (option-other, option-many, option-refused, option-unnamed, option-last, parts-inside)
+pub ruleset option_laws = (option-other, option-many, option-refused, option-unnamed, option-last, parts-inside)

@@ -56,5 +56,5 @@ pub part-some : (s : List ℕ) (at end : ℕ) → 1 ≤ length (parts_in (walk s
 part-some s at end h r q g = omega (arith, ap length (parts-nil s at end r q g))
 
 -- what a walk has need of at each part: the laws above, where the part lies, and that what is left gets shorter
-pub ruleset fine-part-laws =
+pub ruleset fine_part_laws =
     (fine-part, fine-part-ident, fine-part-path, fine-part-next, fine-part-last, part-ordered, part-inside, part-within, part_falls)

@@ -16,7 +16,7 @@ use Rattle.octets.specs.inner.Laid.{Laid}
 use Rattle.octets.proofs.Overlay.{laid-append, laid-length}
 use Rattle.field.specs.Field.{field_at, field}
 use Rattle.field.specs.Leaf.{text}
-use Rattle.field.proofs.FieldLaws.{field-ordered, field-place-laws}
+use Rattle.field.proofs.FieldLaws.{field-ordered, field_place_laws}
 use Rattle.request.specs.Request.{Option}
 use Rattle.records.specs.Records.{Recs, nil, append, encode}
 use Rattle.records.specs.Made.{made}
@@ -185,7 +185,7 @@ module _ (L : Lookups) (s r : List ℕ) (h : Start) (l m ns₀ ns : List ℕ) (a
                 → Gathering L s r h l m' ns₀ ns' at z (n + 1) here.to
             gathering-next note z d ns' j = next-by (settled_at L s r h here.from here.to) refl note z ns' b d j
 
-pub ruleset gather-laws = (
+pub ruleset gather_laws = (
   gathering-start,
   gathering-length,
   gathering-after,
@@ -197,5 +197,5 @@ pub ruleset gather-laws = (
   gathering-refused,
   gathering-next,
   reached-fits,
-  field-place-laws,
+  field_place_laws,
 )

@@ -58,4 +58,4 @@ module _ {made : ℕ → Recs} {k : ℕ} where
         let f = gathers-finished n q u z in
         rw f.is (omega (arith, f.few, f.laid.next, append-size (known_recs f.knowns) f.rest))
 
-pub ruleset gathered-laws = (gathers-stopped, gathers-finished, gathers-noted, gathers-count, gathers-few, gathers-size)
+pub ruleset gathered_laws = (gathers-stopped, gathers-finished, gathers-noted, gathers-count, gathers-few, gathers-size)

@@ -73,7 +73,7 @@ gathers-tallies s r h l l' ns y u = record {
       g.laid.next ∙ zero-add (length (encode g.rest)) ∙ sym (ap (λ (x : Gathered). length (encode (rest_of x))) g.is);
 }
 
-pub ruleset gather-length-laws = (room-from, gathers-tallies)
+pub ruleset gather_length_laws = (room-from, gathers-tallies)
 
 -- ---- known_length, and what `put_records` shares with it
 known-within : (ks : List Known) (x : Recs) (n : ℕ) → length (encode (append (known_recs ks) x)) ≤ n → length (encode (known_recs ks)) ≤ n
@@ -94,7 +94,7 @@ module _ (s r ns : List ℕ) (h : Start) (n : ℕ) (k : Counted s r ns h n) wher
 pub laid-length : (bs m m' : List ℕ) (p : ℕ) → Laid m 0 bs m' p → p ≡ length bs
 laid-length bs m m' p c = c.next ∙ zero-add (length bs)
 
-pub ruleset known-length-laws = (room-from, counted-count, counted-noted, counted-few, laid-length)
+pub ruleset known_length_laws = (room-from, counted-count, counted-noted, counted-few, laid-length)
 
 -- ---- measure_from
 module _ (s r ns : List ℕ) (h : Start) (y : Settling) (u : Tallies s r ns h y) where
@@ -129,7 +129,7 @@ module _ (s r ns : List ℕ) (h : Start) (y : Settling) (u : Tallies s r ns h y)
           → Measures s r (steps_in (gathered_by (walking s) s r h)) ns (Ok (Some (record { start = h; count = n; length = p + o })))
       tallied-fine b = fine (record { counted = tallied-counted; started = g; fine = b; length-is = sum_is })
 
-pub ruleset measure-from-laws = (tallied-refused, tallied-counted, tallied-sum, tallied-length, tallied-fine)
+pub ruleset measure_from_laws = (tallied-refused, tallied-counted, tallied-sum, tallied-length, tallied-fine)
 
 -- ---- measure_all
 opened-at : {s r : List ℕ} {v : Result (Option Start) Cause} → Opens s r v → (h : Start) → v ≡ Ok (Some h) → Open s r h
@@ -165,7 +165,7 @@ module _ (s r : List ℕ) (v : Result (Option Start) Cause) (u : Opens s r v) wh
         → Measures s r (steps_of (walking s) s r) ns y
     all-measured ns y m = subst (λ (o : Steps). Measures s r o ns y) (sym (opened-at u h e).steps) m
 
-pub ruleset measure-all-laws = (all-absent, all-refused, all-started, all-fine, all-measured)
+pub ruleset measure_all_laws = (all-absent, all-refused, all-started, all-fine, all-measured)
 
 -- ---- measure_tested
 module _ (s r : List ℕ) (u : Verdict) (x : u ≡ judge_length s) (ns : List ℕ) where
@@ -185,4 +185,4 @@ module _ (s r : List ℕ) (u : Verdict) (x : u ≡ judge_length s) (ns : List �
 pub tested-fine : (r : List ℕ) (v : Verdict) → v ≡ judge_request r → v ≡ Ok tt → judge_request r ≡ Ok tt
 tested-fine r v q g = sym q ∙ g
 
-pub ruleset measure-tested-laws = (tested-long, tested-refused, tested-over, tested-fine)
+pub ruleset measure_tested_laws = (tested-long, tested-refused, tested-over, tested-fine)

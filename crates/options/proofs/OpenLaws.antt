@@ -18,7 +18,7 @@ use Rattle.scope.specs.declared.lookup.LookupScope.{LookupScope}
 use Rattle.request.specs.declared.heading.Heading.{Heading}
 use Rattle.request.specs.Table.{option_tag}
 use Rattle.request.specs.Request.{Option, heading_of, option_of, option_in, options_in, request_with, request_of}
-use Rattle.request.proofs.RequestLaws.{scope-ordered, scope-inside, options-type-ordered, options-type-inside, options-inside, heading-spans}
+use Rattle.request.proofs.RequestLaws.{scope-ordered, scope-inside, options-type-ordered, options-type-inside, options-inside, heading_spans}
 use Rattle.optionform.specs.Form.{judge_option}
 use Rattle.optionform.proofs.FineLaws.{option-tagged}
 use Rattle.requestform.specs.Form.{judge_request}
@@ -102,4 +102,4 @@ module _ (s r : List ℕ) (f : judge_request r ≡ Ok tt) (v : Option Heading) (
             fine = record { inside = options-inside r v q h g; fine = fine-here };
           }))
 
-pub ruleset open-laws = (open_none, open-empty, open-lost, open_at, heading-spans)
+pub ruleset open_laws = (open_none, open-empty, open-lost, open_at, heading_spans)

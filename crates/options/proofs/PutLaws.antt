@@ -64,5 +64,5 @@ module _ (s r ns : List ℕ) (m : Measured) (k : Ready s r ns m) where
       (laid-append (encode (known_recs knowns)) (encode rest) b' f.laid).left
       ∙ ap (sets l 0) (sym (encode-append (known_recs knowns) rest) ∙ sym (ap (λ (g : Gathered). encode (all_of g)) k.counted.gathers))
 
-pub ruleset put-records-laws =
+pub ruleset put_records_laws =
     (write-counted, counted-count, counted-noted, counted-few, write-started, write-fine, write-room, write-next, records-put)

@@ -46,7 +46,7 @@ module _ (s : List ℕ) (at end : ℕ) (r : Option Field) (q : r ≡ field_at s 
       unfolding pair_at
       pair-whole it x = rw (← q, g) (simp (pair_from, ← y, h, ← p, x))
 
-pub ruleset pair-laws = (not-true, not-false, pair-cut, pair-other, pair-short, pair-whole, field-inside)
+pub ruleset pair_laws = (not-true, not-false, pair-cut, pair-other, pair-short, pair-whole, field-inside)
 
 -- ---- the two fields that a pair is
 pub record PairFields (s : List ℕ) (at end : ℕ) (p : Pair) : Type 0 where
@@ -116,7 +116,7 @@ module _ (s : List ℕ) (at end : ℕ) (r : Option Pair) (q : r ≡ pair_at s at
       (walk_step s p.name.to end k (Some (field p.tag p.constant.from p.constant.to)) pair-fields.constant
       p.tag p.constant.from p.constant.to refl)
 
-pub ruleset pair-places =
+pub ruleset pair_places =
     (pair-name-ordered, pair-name-within, pair-constant-ordered, pair-constant-inside, pair-constant-within, pair-further, pair-less)
 
 -- ---- fields, one at least, that begin with no pair

@@ -52,4 +52,4 @@ module _ (s : List ℕ) (r : Bool) (q : r ≡ is_abs s) where
   pub without-rel : r ≡ false → s ≡ rootless s
   without-rel e = sym (rootless-rel s (sym q ∙ e))
 
-pub ruleset abs-laws = (abs-empty, abs-first, abs-some, without-abs, without-rel)
+pub ruleset abs_laws = (abs-empty, abs-first, abs-some, without-abs, without-rel)

@@ -33,4 +33,4 @@ pub some-rel : (s : List ℕ) → (length s ≡ 0 → ⊥) → (r : Bool) → r 
 unfolding is_rel_path is_rel_or_empty
 some-rel s h r q = rw (components-split s h) q
 
-pub ruleset form-laws = (rel-long, rel-is, path-long, path-is, empty-yes, some-rel)
+pub ruleset form_laws = (rel-long, rel-is, path-long, path-is, empty-yes, some-rel)

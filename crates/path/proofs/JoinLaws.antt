@@ -35,4 +35,4 @@ point-fits l a l' n h p = record { fits = omega (arith, p.next) }
 pub alone-fits : (b : List ℕ) → length b * 1 < 2 ^ 63 → 0 + length b < 2 ^ 64
 alone-fits b h = omega arith
 
-pub ruleset join-laws = (join-alone, join-both, join-fits, point-fits, alone-fits)
+pub ruleset join_laws = (join-alone, join-both, join-fits, point-fits, alone-fits)

@@ -38,7 +38,7 @@ module _ (s : List ℕ) (at i : ℕ) (k : Ending s at i) where
       rw (add-one, drop-cons s i 0) (until-other (get_or s i 0) (drop (suc i) s) n) in
       record { within = omega arith; rest = k.rest ∙ rw one (omega arith) }
 
-pub ruleset ending-laws = (ending-start, ending-over, ending-dot, ending-next)
+pub ruleset ending_laws = (ending-start, ending-over, ending-dot, ending-next)
 
 -- ---- all_ident: the components from `from` up to `at` are identifiers
 pub record Checked (s : List ℕ) (from at : ℕ) : Type 0 where
@@ -62,7 +62,7 @@ module _ (s : List ℕ) (from at : ℕ) (k : Checked s from at) (e : ℕ) (q : e
     unfolding all_ident
     checked-next z l = record { within = omega arith; rest = rw (k.rest, pieces_more s at e q l, ← p, z) }
 
-pub ruleset checked-laws = (not-true, not-false, end_after, end-within, next-less, checked-start, checked-no, checked-last, checked-next)
+pub ruleset checked_laws = (not-true, not-false, end_after, end-within, next-less, checked-start, checked-no, checked-last, checked-next)
 
 -- ---- count: n components end before `at`
 pub record Counted (s : List ℕ) (n at : ℕ) : Type 0 where
@@ -86,7 +86,7 @@ module _ (s : List ℕ) (n at : ℕ) (k : Counted s n at) (e : ℕ) (q : e ≡ a
       rw (k.rest, pieces_more s at e q l) (omega arith) in
       record { within = omega arith; few = omega arith; rest = r }
 
-pub ruleset counted-laws = (end_after, end-within, next-less, count-empty, counted_start, counted-last, counted_next)
+pub ruleset counted_laws = (end_after, end-within, next-less, count-empty, counted_start, counted-last, counted_next)
 
 -- ---- last_at: no dot from i on
 pub record Tail (s : List ℕ) (i : ℕ) : Type 0 where
@@ -129,7 +129,7 @@ module _ (s : List ℕ) (i : ℕ) (k : Tail s i) where
           before = rw (first, names, parent-snoc) (names_at (take (i - 1) s) 0 (omega arith));
         }
 
-pub ruleset tail-laws = (tail-start, tail_none, tail-next, tail-dot)
+pub ruleset tail_laws = (tail-start, tail_none, tail-next, tail-dot)
 
 -- ---- a front of the text, as a slice
 pub front_length : (s : List ℕ) (r : ℕ) → r ≤ length s → r ≡ length (take r s)
@@ -151,14 +151,14 @@ module _ (s : List ℕ) (end r : ℕ) (k : LastStarts (take end s) r) where
         let names = rw (first, take-take (r - 1) end s parent-within, names_at (take (r - 1) s) 0 (omega arith)) at k.before in
         sym (spell-split (take (r - 1) s)) ∙ ap spell names
 
-pub ruleset parent-end-laws = (front_length, parent-none, parent-within, parent-dot)
+pub ruleset parent_end_laws = (front_length, parent-none, parent-within, parent-dot)
 
 -- ---- parent_of: the parent of the first `length s` bytes
 pub parent-whole : (s : List ℕ) (r : ℕ) → take r s ≡ spell (parent (components (take (length s) s)))
     → take r s ≡ spell (parent (components s))
 parent-whole s r p = p ∙ rw (take-length s)
 
-pub ruleset parent-laws = (front_length, parent-whole)
+pub ruleset parent_laws = (front_length, parent-whole)
 
 -- ---- before: the text up to the byte before a place
 module _ (s : List ℕ) (at : ℕ) where
@@ -168,4 +168,4 @@ module _ (s : List ℕ) (at : ℕ) where
   pub before-length : at ≤ suc (length s) → at - 1 ≡ length (take (at - 1) s)
   before-length h = front_length s (at - 1) (omega arith)
 
-pub ruleset before-laws = (before-start, before-length)
+pub ruleset before_laws = (before-start, before-length)

@@ -27,7 +27,7 @@ pub bytes-short : (bs : List ℕ) (r : Verdict) → Says (judge_bytes bs) r → 
 unfolding judge_bytes
 bytes-short bs r k q = leb-true (length bs) most_option_bytes (judged-fine BeyondLimit (leb (length bs) most_option_bytes) (sym k.is ∙ q))
 
-pub ruleset check-bytes-laws = bytes-said
+pub ruleset check_bytes_laws = bytes-said
 
 -- ---- check_place
 same_test : (at n k : ℕ) → at ≤ k → leb (at + n) k ≡ leb n (k - at)
@@ -51,7 +51,7 @@ module _ (bs : List ℕ) (at n : ℕ) (v : Verdict) (q : Says (judge_bytes bs) v
     unfolding judge_payload
     place-judged h r e = rw (← q.is, g, same_test at n (length bs) h) e
 
-pub ruleset place-laws = (place-long, place-past, place-judged)
+pub ruleset place_laws = (place-long, place-past, place-judged)
 
 -- ---- what is fine
 module _ (bs : List ℕ) (at n : ℕ) (v : Verdict) (q : v ≡ judge_payload bs at n) (g : v ≡ Ok tt) where
@@ -91,5 +91,5 @@ module _ (bs : List ℕ) (at n : ℕ) (v : Verdict) (q : v ≡ judge_payload bs 
   unfolding payload_answer
   answer-refused r e = rw (← q, g) e
 
-pub ruleset payload-laws =
+pub ruleset payload_laws =
     (place_inside, place-ordered, end_fits, length-fits, part-inside, answer-done, part-refused, answer-refused)

@@ -135,4 +135,4 @@ module _ (w : ℕ) (s : List ℕ) (at end : ℕ) (r : Option Payload) (e : r ≡
   pub whole-inside : at ≤ end → x.at + x.size ≤ end
   whole-inside = payload-inside w s at end x.at x.size x.number (sym e ∙ q)
 
-pub ruleset payload-bounds = (whole-after, whole-inside)
+pub ruleset payload_bounds = (whole-after, whole-inside)

@@ -178,8 +178,8 @@ module _ (w : ℕ) (s : List ℕ) (at end : ℕ) (r : Option Payload) where
         q ∙ rw (ne_eqb w VARINT c) (rw e)
   ]
 
-pub ruleset varint-laws = (next-after, next-inside, not-true, not-false, either-cut, either-varint, either-delimited, either-short)
+pub ruleset varint_laws = (next-after, next-inside, not-true, not-false, either-cut, either-varint, either-delimited, either-short)
 
 pub ruleset fixed_laws = (four-cut, four-whole, eight-cut, eight-whole)
 
-pub ruleset payload-laws = (varint-laws, fixed_laws, by-wire, by-rest)
+pub ruleset payload_laws = (varint_laws, fixed_laws, by-wire, by-rest)

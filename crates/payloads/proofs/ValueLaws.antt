@@ -78,4 +78,4 @@ module _ (t v : ℕ) where
       → v ≡ value_of t v
   plain-bits b l w c d = sym (value-plain t v b (is-low false l) (is_wide false w) c d)
 
-pub ruleset value-laws = (bool-no, bool-yes, low_bits, wide-bits, sint32-bits, sint64-bits, plain-bits)
+pub ruleset value_laws = (bool-no, bool-yes, low_bits, wide-bits, sint32-bits, sint64-bits, plain-bits)

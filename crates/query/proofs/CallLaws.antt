@@ -45,7 +45,7 @@ module _ (x : Row) (l : List ℕ) (a : Answer) where
   pub row-given : 8 ≤ length l → (l' : List ℕ) → l' ≡ sets l 0 (words x) → a ≡ done_with 8 → Answered (give (words x)) l l' a
   row-given h l' e d = rw (d, e ∙ sets-front (words x) l h) (answered-done (give (words x)) l (words x) refl h)
 
-pub ruleset give-row-laws = (row-no-room, row-given)
+pub ruleset give_row_laws = (row-no-room, row-given)
 
 -- ---- answer_of
 module _ (x : Result (Option Row) Cause) (l : List ℕ) (a : Answer) where
@@ -59,7 +59,7 @@ module _ (x : Result (Option Row) Cause) (l : List ℕ) (a : Answer) where
     pub seen-row : (y : Row) → b ≡ Some y → (l' : List ℕ) → Answered (give (words y)) l l' a → Answered (outcome_of x) l l' a
     seen-row y h l' k = rw (ap outcome_of g ∙ ap (λ (z : Option Row). outcome_of (Ok z)) h) k
 
-pub ruleset seen-answer-laws = (seen-refused, seen_none, seen-row)
+pub ruleset seen_answer_laws = (seen-refused, seen_none, seen-row)
 
 -- ---- options_message
 module _ (s type q bs : List ℕ) (u : Verdict) (x : u ≡ judge_length s) where
@@ -86,7 +86,7 @@ module _ (s type q bs : List ℕ) (u : Verdict) (x : u ≡ judge_length s) where
         unfolding admitted judge_inputs
         message-is j r e = rw (← x, h, ← y, g, ← z, k, ← c, j) e
 
-pub ruleset query-message-laws = (message-long, message-bad-type, message-bad-name, message-long-bytes, message-is)
+pub ruleset query_message_laws = (message-long, message-bad-type, message-bad-name, message-long-bytes, message-is)
 
 -- ---- what was seen is the query
 answered-best : (o : Option Row) → answered o ≡ outcome_of (Ok (best_of o))
@@ -147,7 +147,7 @@ module _ (s type q bs : List ℕ) (r : Result LookupScope Refusal) (e : r ≡ ad
         → Answered (outcome_of x) l l' a → Answered (query_tested s type q bs) l l' a
     tested-seen x y l l' a k = rw (query-seen (judge_length s) s type q bs p (sym e ∙ g), ← y) k
 
-pub ruleset query-tested-laws = (tested-refused, tested-inside, tested-name, tested-short, tested-seen)
+pub ruleset query_tested_laws = (tested-refused, tested-inside, tested-name, tested-short, tested-seen)
 
 -- ---- `query` answers as `query_tested` does, of every sheet whose form is fine
 pub query-tested : (s type q bs : List ℕ) → judge_sheet s ≡ Ok tt → query s type q bs ≡ query_tested s type q bs
@@ -161,4 +161,4 @@ module _ (s type q bs : List ℕ) (v : Verdict) (e : v ≡ judge_sheet s) (l : L
   pub query-answered : v ≡ Ok tt → (l' : List ℕ) → Answered (query_tested s type q bs) l l' a → Answered (query s type q bs) l l' a
   query-answered g l' k = rw (query-tested s type q bs (sym e ∙ g)) k
 
-pub ruleset query-laws = (query-refused, query-answered)
+pub ruleset query_laws = (query-refused, query-answered)

@@ -97,7 +97,7 @@ module _ (s type bs ks : List ℕ) (n : ℕ) (whole : Outcome Row) (st : List �
       pub seeing-kept : y.takes ≡ false → Seeing s type bs ks n whole st' d y.matched y.counts b
       seeing-kept h = stepped b (ap (λ (t : Bool). only_if t (Some x) b) h)
 
-pub ruleset seeing-laws = (
+pub ruleset seeing_laws = (
   not-true,
   not-false,
   seeing-start,
@@ -131,7 +131,7 @@ module _ (r : Naming) where
     pub settle-refused : (c : Cause) → r ≡ RefusedName c → Err c ≡ settled r b
     settle-refused c e = rw e
 
-pub ruleset name-settle-laws = (count-parts, count-group, count-refused, settle-parts, settle-group, settle-refused)
+pub ruleset name_settle_laws = (count-parts, count-group, count-refused, settle-parts, settle-group, settle-refused)
 
 -- ---- see_rows
 module _ (p : LookupScope) (bs st : List ℕ) (c : Cursor) (k : Starts p bs st c) where
@@ -139,7 +139,7 @@ module _ (p : LookupScope) (bs st : List ℕ) (c : Cursor) (k : Starts p bs st c
       → r ≡ seen_in ks n nothing_yet (flat 0 (reading (walking s) s most_levels (message type p) 0 bs))
   all_seen s type ks n r e = e ∙ ap (seen_in ks n nothing_yet) (start_left p bs st c k (walking s) s type)
 
-pub ruleset see-rows-laws = (start-open, all_seen)
+pub ruleset see_rows_laws = (start-open, all_seen)
 
 -- ---- query_over
 module _ (q : List ℕ) (fine : judge_name q ≡ Ok tt) (us : List ℕ) (size : length us ≡ most_parts * key_words) where
@@ -203,4 +203,4 @@ module _ (L : Lookups) (s q : List ℕ) (m : Message) (bs ks : List ℕ) (n : �
       go (listed t) h = by t k refl refl c cc
       go (refused w) h = nothing_left cc
 
-pub ruleset query-over-laws = (over-namable, over-room, over-wrong, over-settled)
+pub ruleset query_over_laws = (over-namable, over-room, over-wrong, over-settled)

@@ -21,7 +21,7 @@ use Rattle.reply.proofs.Outcomes.{answered-refused}
 use Rattle.emit.specs.inner.Puts.{Puts}
 use Rattle.ranges.specs.Ranges.{enum_reserved, end_of, with_end, pairs, lower_ranges}
 use Rattle.emit.proofs.WriteLaws.{Front, front-start, front-put, front_length, front-refused, front-done}
-use Rattle.emit.proofs.WriteLaws.{give-inv, put-wrote, call-laws}
+use Rattle.emit.proofs.WriteLaws.{give-inv, put-wrote, call_laws}
 
 -- a word as the machine has it: written as bits, and read from them
 abbrev pub word : ℤ → ℤ
@@ -85,7 +85,7 @@ module _ (k : ℕ) (ws l m : List ℤ) (i : ℕ) (u : Ranging k ws l m i) where
             let laid = front-put _ _ 0 l m i u.laid range after l' split here in
             record { reached = omega (arith, ranging-end-in h); turn = omega arith; whole = u.whole; laid = laid }
 
-pub ruleset ranging-laws = (ranging-start, ranging-end-in, ranging-length, ranging-done, ranging-none, ranging-next)
+pub ruleset ranging_laws = (ranging-start, ranging-end-in, ranging-length, ranging-done, ranging-none, ranging-next)
 
 -- ---- the public call
 
@@ -130,4 +130,4 @@ ranges-fit k ws z z' p n u e h =
     let g = put-wrote n u e in
     record { fits = omega (arith, pairs-length k ws g.elements g.is, g.laid.next) }
 
-pub ruleset ranges-laws = (ranges-kind, ranges-long, ranges-odd, ranges-even, ranges-left, ranges-fit, call-laws)
+pub ruleset ranges_laws = (ranges-kind, ranges-long, ranges-odd, ranges-even, ranges-left, ranges-fit, call_laws)

@@ -12,8 +12,8 @@ use Rattle.octets.specs.Octets.{same_bytes}
 use Rattle.field.specs.declared.Span.{Span}
 use Rattle.field.specs.Leaf.{span, text, is_text}
 use Rattle.field.specs.Walk.{Walk, done, cut, step, walk}
-use Rattle.field.proofs.Seek.{seek, seek_is, seek-laws}
-use Rattle.field.proofs.Tally.{Tally, total, tally-start, tally-laws}
+use Rattle.field.proofs.Seek.{seek, seek_is, seek_laws}
+use Rattle.field.proofs.Tally.{Tally, total, tally-start, tally_laws}
 use Rattle.sheet.specs.declared.declaration.Declaration.{Declaration}
 use Rattle.sheet.specs.declared.declaration.Value.{Value}
 use Rattle.sheet.specs.Table.{field_tag, value_tag}
@@ -58,7 +58,7 @@ module _ (k : ℕ) (s : List ℕ) (t a e : ℕ) where
       pub member-value : (v : Value) → r ≡ Some v → Some (span v.name.from v.name.to) ≡ member_at k s t a e
       member-value v u = ap value_name (sym u) ∙ value-member
 
-pub ruleset member-at-laws = (member-other, member-no-field, member-field, member-no-value, member-value)
+pub ruleset member_at_laws = (member-other, member-no-field, member-field, member-no-value, member-value)
 
 -- ---- where the name of a member lies
 record Lies (end n m : ℕ) : Type 0 where
@@ -96,7 +96,7 @@ module _ (k : ℕ) (s : List ℕ) (t a e : ℕ) (r : Option Span) (q : r ≡ mem
   pub member-within : p.to ≤ length s
   member-within = (member-lies s a e h k t p.from p.to (sym q ∙ g)).inside
 
-pub ruleset member-place-laws = (member-ordered, member-within)
+pub ruleset member_place_laws = (member-ordered, member-within)
 
 -- ---- one_named
 abbrev pub one_named : (want : ℕ) (s name : List ℕ) (tag from to : ℕ) → ℕ
@@ -113,7 +113,7 @@ module _ (k : ℕ) (s x : List ℕ) (t a e : ℕ) (r : Option Span) (q : r ≡ m
     pub one-named-other : b ≡ false → 0 ≡ one_named k s x t a e
     one-named-other h = rw (← q, g, ← u, h) refl
 
-pub ruleset one-named-laws = (one-named-not, one-named-same, one-named-other, member-place-laws)
+pub ruleset one_named_laws = (one-named-not, one-named-same, one-named-other, member_place_laws)
 
 -- ---- count_named
 onto-append : (l : Option Span) (ns : List Span) → leaf_onto l ns ≡ leaf_onto l [] ++ ns
@@ -135,7 +135,7 @@ module _ (k : ℕ) (s x : List ℕ) (from to : ℕ) (h : from ≤ to) (g : to �
 pub few-one : (u a e : ℕ) → u ≤ 1 → u ≤ e - a + 1
 few-one u a e h = omega arith
 
-pub ruleset count-named-laws = (named_start, few-one, tally-laws)
+pub ruleset count_named_laws = (named_start, few-one, tally_laws)
 
 -- ---- flaw_of_member
 module _ (k : ℕ) (s : List ℕ) (w : Why) (i : ℕ) (ns : List Span) (t a e : ℕ) (r : Option Span) (q : r ≡ member_at k s t a e) where
@@ -148,7 +148,7 @@ module _ (k : ℕ) (s : List ℕ) (w : Why) (i : ℕ) (ns : List Span) (t a e : 
   unfolding member_flaw
   member-flaw-at l g u p x y = y ∙ rw (member_flaw, ← q, g, p) refl
 
-pub ruleset member-flaw-laws = (member-flaw-not, member-flaw-at, member-place-laws)
+pub ruleset member_flaw_laws = (member-flaw-not, member-flaw-at, member_place_laws)
 
 -- ---- flaw_of_members
 abbrev pub flaw_at : (s : List ℕ) → Why → (index : ℕ) → List Span → (want tag from to : ℕ) → Reason
@@ -169,7 +169,7 @@ member-flaws-is s w i k from to r q =
     q ∙ sym (seek_is Yes also (flaw_at s w i all k) (λ x. reasons (λ n. or_no (once (is_text s (text s n)) all) w i n) (members_in k s x))
     refl refl (λ t a e x. onto-flaw s w i all (member_at k s t a e) (members_in k s x)) (walk s from to))
 
-pub ruleset member-flaws-laws = (member-flaws-is, also-no, seek-laws)
+pub ruleset member_flaws_laws = (member-flaws-is, also-no, seek_laws)
 
 -- ==== the statements: the members are the fields of a message,
 pub members-fields : (d : ℕ) (s : List ℕ) (w : Walk) → members_in field_tag s w ≡ map (λ x. x.name) (fields_of (items_in d s w))

@@ -25,7 +25,7 @@ module _ (b : Bool) (w : Why) (k : ℕ) (p : Span) where
       go true = refl
       go false = refl
 
-pub ruleset or-no-laws = (or-yes, or-no)
+pub ruleset or_no_laws = (or-yes, or-no)
 
 -- ---- the first of two
 pub also-no : (w : Why) (k : ℕ) (p : Span) (q : Reason) → also (No w k p) q ≡ No w k p

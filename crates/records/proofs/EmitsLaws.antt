@@ -71,4 +71,4 @@ pub emits-more : {W A : Type 0} {answers : ℕ → Made W → A} {m : Made W} {j
 emits-more k u h = record { answer = u.answer; left = u.left; few = λ x g. le_trans (u.few x g) h }
 
 -- a search over these wants the `Tells` of the writer's enum in its list too
-pub ruleset emits-laws = (emits-next, emits-refused, refuses, emits-laid, writes-none, emits-more)
+pub ruleset emits_laws = (emits-next, emits-refused, refuses, emits-laid, writes-none, emits-more)

@@ -30,7 +30,7 @@ shortest-few w h = omega (arith, h)
 pub head_few : (w v : ℕ) → w ≤ most_varint → v ≤ most_varint → w + v ≤ 20
 head_few w v a b = omega (arith, a, b)
 
-pub ruleset head-laws = (shortest-is, shortest-few, head-is, head_few)
+pub ruleset head_laws = (shortest-is, shortest-few, head-is, head_few)
 
 -- ---- the inside moved on
 head-longer : (n k : ℕ) → shortest n ≤ length (head_of n k)
@@ -47,7 +47,7 @@ module _ (at n k f t : ℕ) (short : f ≡ shortest n) (whole : t ≡ length (he
 pub way-far : (at k t : ℕ) → at + k < 2 ^ 62 → t ≤ 20 → at + t + k < 2 ^ 64
 way-far at k t h a = omega (arith, h, a)
 
-pub ruleset way-laws = (way-ordered, way-made, way-far)
+pub ruleset way_laws = (way-ordered, way-made, way-far)
 
 -- ---- and its head put
 pub enclosed : (at n k h : ℕ) (m l' : List ℕ) (q : ℕ) → Laid m at (head_of n k) l' q → (l : List ℕ)

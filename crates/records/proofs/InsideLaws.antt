@@ -55,4 +55,4 @@ module _ (at j f : ℕ) (r : List ℕ) (o : Roomy at (3 + j) r) (few : f ≤ 11)
   inside-fits = record { fits = omega (arith, o.room, few) }
 
 -- a search over these wants the `Tells` of the writer's enum in its list too
-pub ruleset inside-laws = (inside-refused, inside-start, inside-few, inside-enclosed, inside-room, inside-fits)
+pub ruleset inside_laws = (inside-refused, inside-start, inside-few, inside-enclosed, inside-room, inside-fits)

@@ -45,7 +45,7 @@ module _ (t v : ℕ) (l l' : List ℕ) (at r w : ℕ) (p : w ≡ wire_of t) wher
     pub plain-laid : (t ≡ TYPE_SINT32 → ⊥) → (t ≡ TYPE_SINT64 → ⊥) → Laid l at (varint v) l' r → Laid l at (payload t v) l' r
     plain-laid g h a = varint-laid v (simp (on_type, is_any, ne_eqb t TYPE_SINT32 g, ne_eqb t TYPE_SINT64 h)) a
 
-pub ruleset payload-laws = (four-laid, eight-laid, sint32-laid, sint64-laid, plain-laid)
+pub ruleset payload_laws = (four-laid, eight-laid, sint32-laid, sint64-laid, plain-laid)
 
 -- ---- put_number and put_head: a tag, and what follows it
 module _ (l m : List ℕ) (at p v : ℕ) (a : Laid l at (varint v) m p) where
@@ -60,7 +60,7 @@ module _ (l m : List ℕ) (at p v : ℕ) (a : Laid l at (varint v) m p) where
     unfolding head_of
     head-laid e x c = laid-append (varint (tag_of n LEN)) (varint x) (rw (k, e) at a) c
 
-pub ruleset tag-laws = (tag-next, number-laid, head-laid)
+pub ruleset tag_laws = (tag-next, number-laid, head-laid)
 
 -- ---- put_bytes
 module _ (l m : List ℕ) (at p n : ℕ) (bs : List ℕ) (a : Laid l at (head_of n (length bs)) m p) where
@@ -100,4 +100,4 @@ module _ (b : Body) (r : List ℕ) (i : InBody b r) (p : Span) (g : b ≡ Bytes 
   pub body-small : (at : ℕ) → at + length r < 2 ^ 62 → at + length (text r p) < 2 ^ 62
   body-small at h = omega (arith, part_length r p.from p.to body-within, body-ordered, body-within)
 
-pub ruleset record-laws = (record-bits, record-bytes, body-ordered, body-within, body-small, bytes-place)
+pub ruleset record_laws = (record-bits, record-bytes, body-ordered, body-within, body-small, bytes-place)

@@ -84,7 +84,7 @@ module _ (text bytes : List ℕ) (i : ℕ) (k : Spelling text bytes i) where
   pub spelling-end : length text ≤ i → take i bytes ≡ text
   spelling-end h = k.front ∙ take_all i text h
 
-pub ruleset spelling-laws = (spelling-start, spelling-next, spelling-room, spelling-end)
+pub ruleset spelling_laws = (spelling-start, spelling-next, spelling-room, spelling-end)
 
 -- ---- the loop that looks a row up: none of those before `at` has the number n and the second word s
 pub record Passed (rows : List ℕ) (n s at : ℕ) : Type 0 where
@@ -161,4 +161,4 @@ module _ (rows : List ℕ) (n s at : ℕ) (u : Passed rows n s at) where
               none = λ no. absurd (no v p q);
             }
 
-pub ruleset look-up-laws = (passed_start, passed-next, name-none, second-inside, size-inside, text-inside, text-short, name-found)
+pub ruleset look_up_laws = (passed_start, passed-next, name-none, second-inside, size-inside, text-inside, text-short, name-found)

@@ -19,4 +19,4 @@ module _ (p : Where) where
   pub positions-option : (i j : ℕ) → p ≡ Option i j → numbers i j ≡ positions p
   positions-option i j g = rw g
 
-pub ruleset place-laws = (positions-nowhere, positions-part, positions-option)
+pub ruleset place_laws = (positions-nowhere, positions-part, positions-option)

@@ -51,7 +51,7 @@ module _ (n : ℕ) (v : Verdict) (r : Answer) where
   pub answer-refused : (w : Refusal) → v ≡ Err w → r ≡ refused_by w → r ≡ answer_for n v
   answer-refused w g e = rw g e
 
-pub ruleset answer-laws = (answer-fine, answer-refused)
+pub ruleset answer_laws = (answer-fine, answer-refused)
 
 -- ---- decided
 abbrev answer : (word : ℕ) → Answer

@@ -29,7 +29,7 @@ module _ (b : ℕ) where
       let q : 0xFFFFFFFFFFFFFFFF - b + 1 ≡ 2 ^ 64 - b = omega (arith, f.fits) in
       simp (integer_of, le-ltb b (2 ^ 63) h, q)
 
-pub ruleset signed-laws = (signed-plus, signed-minus)
+pub ruleset signed_laws = (signed-plus, signed-minus)
 
 -- ---- the double that they are
 module _ (b : ℕ) where
@@ -65,7 +65,7 @@ module _ (s : List ℕ) (a e : ℕ) where
     unfolding bool_of
     bool_is k = simp (bool_of, eq-eqb (e - a) 1 h, le-ltb 1 (get_or s a 0) k)
 
-pub ruleset bool-laws = (bool-size, bool-other, bool_is)
+pub ruleset bool_laws = (bool-size, bool-other, bool_is)
 
 -- ---- a number
 module _ (s : List ℕ) (t a e : ℕ) where
@@ -94,7 +94,7 @@ module _ (s : List ℕ) (t a e : ℕ) where
         number-none k =
             rw number-open (simp (number_with, ne_eqb t unsigned_tag n, ne_eqb t signed_tag m, ne_eqb t float_tag k))
 
-pub ruleset number-laws = (number_size, number-unsigned, number-signed, number-float, number-none)
+pub ruleset number_laws = (number_size, number-unsigned, number-signed, number-float, number-none)
 
 -- ---- a constant
 module _ (s : List ℕ) (t a e : ℕ) where
@@ -132,7 +132,7 @@ module _ (s : List ℕ) (t a e : ℕ) where
               ∙ simp
               (constant_of, ne_eqb t bool_tag n, ne_eqb t string_tag m, ne_eqb t ident_tag o, ne_eqb t message_constant_tag p, ne_eqb t list_tag k)
 
-pub ruleset constant-laws = (constant-bool, constant-text, constant-ident, constant-message, constant-list, constant_number)
+pub ruleset constant_laws = (constant-bool, constant-text, constant-ident, constant-message, constant-list, constant_number)
 
 -- ---- the places that a constant holds are those of its payload
 module _ (a e : ℕ) where
@@ -256,4 +256,4 @@ module _ (s : List ℕ) (t a e : ℕ) (r : Option Constant) (q : r ≡ constant_
   pub span-within : e ≤ length s → p.to ≤ length s
   span-within h = rw span-place h
 
-pub ruleset constant-spans = (text-span, ident-span, message-span, list-span, span-ordered, span-within)
+pub ruleset constant_spans = (text-span, ident-span, message-span, list-span, span-ordered, span-within)

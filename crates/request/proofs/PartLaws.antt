@@ -37,7 +37,7 @@ module _ (s : List ℕ) (at end : ℕ) (r : Option Field) (q : r ≡ field_at s 
     unfolding part_at part_of
     part-other n m = rw (← q, g) (simp (part_of, ne_eqb f.tag direct_part_tag n, ne_eqb f.tag extension_part_tag m))
 
-pub ruleset part-laws = (part_cut, part-direct, part-extension, part-other)
+pub ruleset part_laws = (part_cut, part-direct, part-extension, part-other)
 
 -- ---- the field that a part is
 pub record PartField (s : List ℕ) (at end : ℕ) (p : Part) : Type 0 where
@@ -105,7 +105,7 @@ module _ (s : List ℕ) (at end : ℕ) (r : Option Part) (q : r ≡ part_at s at
       let h : at < end = omega (arith, part-further, part-inside) in
       walk_step s at end h (Some (field o.tag p.name.from p.name.to)) o.field (field o.tag p.name.from p.name.to) refl
 
-pub ruleset part-places = (part-ordered, part-inside, part-within, part-further, part-less)
+pub ruleset part_places = (part-ordered, part-inside, part-within, part-further, part-less)
 
 -- ---- where no part stands, whatever F makes of the fields from there on
 module _ {A : Type 0} (F : Walk → A) (s : List ℕ) (at end : ℕ) (x : A) (d : F done ≡ x) (c : F cut ≡ x)

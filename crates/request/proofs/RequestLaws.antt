@@ -44,7 +44,7 @@ module _ (s : List ℕ) (l : Option Span) (q : l ≡ leaf_at scope_tag any_bytes
     pub heading-is : (u : Span) → l' ≡ Some u → heads p.from p.to u.from u.to ≡ heading_of s
     heading-is u g' = rw (heading-open, g')
 
-pub ruleset heading-laws = (heading-unscoped, heading-untyped, heading-is, leaf-inside)
+pub ruleset heading_laws = (heading-unscoped, heading-untyped, heading-is, leaf-inside)
 
 -- ---- where a heading lies
 pub record HeadingPlaces (s : List ℕ) (h : Heading) : Type 0 where
@@ -87,7 +87,7 @@ module _ (s : List ℕ) (r : Option Heading) (q : r ≡ heading_of s) (h : Headi
   pub options-inside : h.options ≤ length s
   options-inside = rw heading-places.options options-type-inside
 
-pub ruleset heading-spans = (scope-ordered, scope-inside, options-type-ordered, options-type-inside, options-inside)
+pub ruleset heading_spans = (scope-ordered, scope-inside, options-type-ordered, options-type-inside, options-inside)
 
 -- ---- the loop of `after_parts`
 pub after-start : (s : List ℕ) (from to : ℕ) → from ≤ to → to ≤ length s
@@ -105,7 +105,7 @@ module _ (v : ℕ) (s : List ℕ) (to at : ℕ) (k : Rest v (after_parts at) s t
     pub after_next : (p : Part) → r ≡ Some p → Rest v (after_parts p.name.to) s to p.name.to
     after_next p g = rest-part-next v (after_parts at) s to at k r q p g (after_parts p.name.to) (λ t n. rw n)
 
-pub ruleset after-laws = (after-start, after-end, after_stop, after_next, part-less)
+pub ruleset after_laws = (after-start, after-end, after_stop, after_next, part-less)
 
 -- ---- where the parts end: between the two places
 record Between (from to x : ℕ) : Type 0 where
@@ -151,4 +151,4 @@ module _ (s : List ℕ) (from to r : ℕ) (q : r ≡ after_parts from (walk s fr
   pub after-inside : r ≤ to
   after-inside = between.inside
 
-pub ruleset after-places = (after-from, after-inside)
+pub ruleset after_places = (after-from, after-inside)

@@ -17,7 +17,7 @@ use Rattle.field.specs.Walk.{walk}
 use Rattle.field.proofs.FieldLaws.{field-bounds, field-ordered}
 use Rattle.field.proofs.Rest.{Rest, rest-start}
 use Rattle.form.specs.Each.{each_from}
-use Rattle.form.proofs.EachLaws.{each-from-laws}
+use Rattle.form.proofs.EachLaws.{each_from_laws}
 use Rattle.request.specs.Table.{scope_tag, options_type_tag}
 use Rattle.constantform.specs.Form.{bad_request}
 use Rattle.optionform.specs.Form.{parts_from, judge_option}
@@ -35,7 +35,7 @@ options-start s from to h k = rest-start (each_from BadRequest (judge_option s) 
 pub index-next : (s : List ℕ) (at end n : ℕ) (r : Option Field) → r ≡ field_at s at end → (f : Field) → r ≡ Some f → n ≤ at → n + 1 ≤ f.to
 index-next s at end n r q f g h = let b = field-bounds s at end r q f.tag f.from f.to g in omega (arith, b.starts, b.ordered)
 
-pub ruleset options-laws = (options-start, index-next, each-from-laws, field-ordered)
+pub ruleset options_laws = (options-start, index-next, each_from_laws, field-ordered)
 
 -- ---- check_request
 module _ (s : List ℕ) where
@@ -57,7 +57,7 @@ module _ (s : List ℕ) where
       unfolding judge_request
       request-options w k v y = simp (judge_request, le-ltb most_request (length s) h, ← q, g, ← p, k) y
 
-pub ruleset request-laws = (says, request-long, request-scope, request-type, request-options, leaf-inside)
+pub ruleset request_laws = (says, request-long, request-scope, request-type, request-options, leaf-inside)
 
 -- ---- check_scope, check_options_type, check_path
 module _ (t : List ℕ) (b : Bool) (v : Verdict) (p : v ≡ judged BadRequest b) where
@@ -73,7 +73,7 @@ module _ (t : List ℕ) (b : Bool) (v : Verdict) (p : v ≡ judged BadRequest b)
   unfolding judge_path
   path-is q = rw (← q) p
 
-pub ruleset alone-laws = (says, scope-is, type-is, path-is)
+pub ruleset alone_laws = (says, scope-is, type-is, path-is)
 
 -- ---- check_name
 module _ (s : List ℕ) (r : Result ℕ Refusal) (q : r ≡ parts_from s 0 0 (walk s 0 (length s))) where
@@ -85,4 +85,4 @@ module _ (s : List ℕ) (r : Result ℕ Refusal) (q : r ≡ parts_from s 0 0 (wa
   unfolding judge_name
   name-after at g v p = rw (← q, g) p
 
-pub ruleset name-laws = (says, name-refused, name-after)
+pub ruleset name_laws = (says, name-refused, name-after)

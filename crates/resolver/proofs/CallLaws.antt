@@ -27,7 +27,7 @@ module _ (s r l : List ℕ) (a : Answer) (v : Verdict) (q : v ≡ judge_sheet s)
   pub resolve-fine : v ≡ Ok tt → (l' : List ℕ) → Answered (resolve_tested s r) l l' a → Answered (resolve_bytes s r) l l' a
   resolve-fine g l' h = rw (resolve-tested s r (sym q ∙ g)) h
 
-pub ruleset resolve-laws = (resolve-refused, resolve-fine)
+pub ruleset resolve_laws = (resolve-refused, resolve-fine)
 
 -- ---- judged_by
 module _ (v : Result (Option Measured) Cause) where
@@ -40,14 +40,14 @@ module _ (v : Result (Option Measured) Cause) where
   pub by-fine : (m : Measured) → v ≡ Ok (Some m) → Ok (Some m.length) ≡ judged_by v
   by-fine m g = rw g refl
 
-pub ruleset judged-by-laws = (by-absent, by-refused, by-fine)
+pub ruleset judged_by_laws = (by-absent, by-refused, by-fine)
 
 -- ---- verdict_tested
 pub verdict-measured : (s r : List ℕ) (o : Steps) (ns : List ℕ) (v : Result (Option Measured) Cause) → Measures s r o ns v → (y : Result (Option ℕ) Cause) → y ≡ judged_by v
     → y ≡ judged_of o
 verdict-measured s r o ns v u y e = e ∙ measured-judged u
 
-pub ruleset verdict-tested-laws = (verdict-measured)
+pub ruleset verdict_tested_laws = (verdict-measured)
 
 -- ---- verdict
 module _ (s r : List ℕ) (v : Verdict) (q : v ≡ judge_sheet s) where
@@ -58,4 +58,4 @@ module _ (s r : List ℕ) (v : Verdict) (q : v ≡ judge_sheet s) where
   pub verdict-fine : v ≡ Ok tt → (y : Result (Option ℕ) Cause) → y ≡ judged_of (resolving_tested s r) → y ≡ judged_of (resolving s r)
   verdict-fine g y e = e ∙ sym (verdict-tested s r (sym q ∙ g))
 
-pub ruleset verdict-laws = (verdict-refused, verdict-fine)
+pub ruleset verdict_laws = (verdict-refused, verdict-fine)

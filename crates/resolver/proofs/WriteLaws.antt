@@ -53,7 +53,7 @@ module _ (s r ns : List ℕ) (m : Measured) (k : Ready s r ns m) where
 pub part_length : (n : ℕ) (l : List ℕ) → n ≤ length l → n ≡ length (take n l)
 part_length n l h = sym (length-take-le n l h)
 
-pub ruleset write-laws = (write_granted, part_length, write_done)
+pub ruleset write_laws = (write_granted, part_length, write_done)
 
 -- ---- resolve_over
 pub measured-judged : {s r : List ℕ} {o : Steps} {ns : List ℕ} {v : Result (Option Measured) Cause} → Measures s r o ns v → judged_by v ≡ judged_of o
@@ -94,4 +94,4 @@ module _ (s r ns : List ℕ) (v : Result (Option Measured) Cause) (u : Measures 
   pub over-ready : (m : Measured) → v ≡ Ok (Some m) → Ready s r ns m
   over-ready = measured-ready u
 
-pub ruleset over-laws = (over-absent, over-refused, over-written, over-ready)
+pub ruleset over_laws = (over-absent, over-refused, over-written, over-ready)

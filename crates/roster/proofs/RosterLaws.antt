@@ -18,7 +18,7 @@ use Rattle.field.specs.declared.Span.{Span}
 use Rattle.field.specs.Field.{header, field_at, field}
 use Rattle.field.specs.Leaf.{span, text, any_bytes, leaf_at}
 use Rattle.field.specs.Walk.{Walk, done, cut, step, walk}
-use Rattle.field.proofs.FieldLaws.{field-place-laws}
+use Rattle.field.proofs.FieldLaws.{field_place_laws}
 use Rattle.field.proofs.LeafLaws.{leaf-bounds, leaf-ordered, leaf-within, on-leaf-some}
 use Rattle.sheet.specs.declared.declaration.Declaration.{Declaration}
 use Rattle.sheet.specs.Table.{file_tag, message_tag, extension_tag, enum_tag, package_tag, name_tag, extendee_tag}
@@ -68,14 +68,14 @@ module _ (s : List ℕ) (n m at : ℕ) (o : n ≤ m) (h : m ≤ length s) (g : a
     pub inside-spelt : (end : List ℕ) → end ≡ sets after r dotted → Spelt before at (inside (part s n m)) end (r + 1)
     inside-spelt end p = spelt-inside before at (part s n m) after end r x (omega (arith, name-ends)) p
 
-pub ruleset inside-laws = (point-fits, inside-spelt, inside-ends)
+pub ruleset inside_laws = (point-fits, inside-spelt, inside-ends)
 
 -- ---- where a name starts
 pub leaf-ahead : (k : ℕ) (s : List ℕ) (a e : ℕ) (l : Option Span) → l ≡ leaf_at k any_bytes s a e → (p : Span) → l ≡ Some p
     → (at : ℕ) → at ≤ a → at < p.from
 leaf-ahead k s a e l q p g at h = omega (arith, (leaf-bounds k any_bytes s a e l q p.from p.to g).starts)
 
-pub ruleset leaf-laws = (leaf-ahead, leaf-ordered, leaf-within)
+pub ruleset leaf_laws = (leaf-ahead, leaf-ordered, leaf-within)
 
 module _ (s : List ℕ) (a e : ℕ) (d : Declaration) where
   shape-ahead : (l : Span) (x y : ℕ) → leaf_at name_tag any_bytes s a e ≡ Some l → (h : Option Shape) → Some d ≡ declared_with l (span x y) h
@@ -113,7 +113,7 @@ module _ (s : List ℕ) (a e i at : ℕ) (before : List ℕ) (l : Option Span) (
         finds-first _ i at before _ [] (ap (declared_in s (take at before) nowhere_in) (enum-named s a e none l q p g)) z
         (part s p.from p.to) after r refl
 
-pub ruleset enum_laws = (enum-none, enum-past, enum_is, leaf-laws)
+pub ruleset enum_laws = (enum-none, enum-past, enum_is, leaf_laws)
 
 -- ---- nth_extension
 module _ (s : List ℕ) (a e i at : ℕ) (before : List ℕ) (x : Option Declaration) (q : x ≡ extension_at s a e) where
@@ -132,7 +132,7 @@ module _ (s : List ℕ) (a e i at : ℕ) (before : List ℕ) (x : Option Declara
         finds-first _ i at before (record { name = take at before ++ text s d.name; what = names.extension d }) [] (rw (← q, g)) z
         (text s d.name) after r refl
 
-pub ruleset extension-laws =
+pub ruleset extension_laws =
     (extension-none, extension-past, extension-is, extension-ahead, extension-name-ordered, extension-name-within)
 
 -- ---- nth_in_item
@@ -161,7 +161,7 @@ item-in-none s d t a e i at room x y z =
     (item-cases (λ f. declared_in s (take at room) nowhere_in (f none) ≡ []) s a e refl d t
     (λ h. absurd (x h)) (λ h. absurd (y h)) (λ h. absurd (z h)) (λ _ _ _. refl))
 
-pub ruleset item-laws = (item-in-message, item-in-extension, item-in-enum, item-in-none)
+pub ruleset item_laws = (item-in-message, item-in-extension, item-in-enum, item-in-none)
 
 -- ---- nth_in_message
 module _ (s : List ℕ) (d a e i at : ℕ) (before : List ℕ) where
@@ -197,7 +197,7 @@ module _ (s : List ℕ) (d a e i at : ℕ) (before : List ℕ) where
           let same = scope-same s (inside (take at before ++ part s p.from p.to)) nowhere_in (message_scope nowhere_in own) items in
           rw message-opens (finds-suc _ _ i at before after r y (rw append-nil (finds-same same here)))
 
-pub ruleset message-laws = (message-beyond-none, message-none, message-is, message-in)
+pub ruleset message_laws = (message-beyond-none, message-none, message-is, message-in)
 
 -- ---- nth_in_items
 abbrev pub in_item : (s front : List ℕ) (left tag from to : ℕ) → List Named
@@ -250,8 +250,8 @@ module _ (s : List ℕ) (d from to i at : ℕ) (before : List ℕ) where
         pub items-next : (j : ℕ) → y ≡ Beyond j → Finding (in_item s (take at before) d) s from to i at before after j f.to
         items-next = finding-next _ s from to i at before room k p x h r q f g after y (rw x.kept at z)
 
-pub ruleset items-laws =
-    (items-start, items-end, items-cut, items-hit, items-next, finding-roomy, finding-ahead, field-place-laws)
+pub ruleset items_laws =
+    (items-start, items-end, items-cut, items-hit, items-next, finding-roomy, finding-ahead, field_place_laws)
 
 -- ---- nth_in_file
 front-dotted : (t : List ℕ) → (length t ≡ 0 → ⊥) → file_front t ≡ inside t
@@ -290,7 +290,7 @@ module _ (s : List ℕ) (t a e i : ℕ) (before : List ℕ) where
           front-dotted (part s it.from it.to) λ w. z (omega (arith, part_length s it.from it.to b)) in
           opened (take next mid) (k.front ∙ sym u) (finds-behind _ i 0 next before (inside (part s it.from it.to)) mid after r k f)
 
-pub ruleset file-laws =
+pub ruleset file_laws =
     (file-other-none, file-none, file-bare, file-in)
 
 -- ---- nth_declared
@@ -337,5 +337,5 @@ module _ (s : List ℕ) (to i : ℕ) (before : List ℕ) (c : to ≡ length s) w
         pub declared-next : (j : ℕ) → y ≡ Beyond j → Finding (in_file s) s 0 to i 0 before after j f.to
         declared-next = finding-next _ s 0 to i 0 before room k p x h r q f g after y z
 
-pub ruleset declared-laws =
-    (declared-start, declared-end, declared-cut, declared-hit, declared-next, finding-roomy, field-place-laws)
+pub ruleset declared_laws =
+    (declared-start, declared-end, declared-cut, declared-hit, declared-next, finding-roomy, field_place_laws)

@@ -131,4 +131,4 @@ module _ (m k : ℕ) (K : k < 64) where
     pub shift-up-fits : Fits w64 (m / bit k + 1)
     shift-up-fits = let l = shift-half in record { fits = omega arith }
 
-pub ruleset shift-laws = (shift-pos, shift_rest, shift-down, shift-tie, shift-up, shift-tie-fits, shift-up-fits)
+pub ruleset shift_laws = (shift-pos, shift_rest, shift-down, shift-tie, shift-up, shift-tie-fits, shift-up-fits)

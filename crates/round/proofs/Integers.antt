@@ -35,7 +35,7 @@ module _ (v : ℕ) (P : 0 < v) (h : Fits w64 v) where
       let e : suc t.0 + count_leading_zeros 64 v ≡ 64 = omega arith in
       rw e at (shl_lt {a = v} (suc t.0) (count_leading_zeros 64 v) t.3)
 
-pub ruleset norm-laws = (norm-lt, norm-low, norm-high)
+pub ruleset norm_laws = (norm-lt, norm-low, norm-high)
 
 -- ---- every format holds the size of a 64-bit integer
 word_fits : (f : Format) → (2 ≤ prec f) × (prec f ≤ 64) × (63 ≤ emax f)
@@ -115,4 +115,4 @@ module _ (f : Format) (minus : Bool) (n r : ℕ) (e : r ≡ int_bits f (pos n)) 
   pub int-minus : minus ≡ true → (n ≡ 0 → ⊥) → (t : ℕ) → t ≡ top f → t + r ≡ int_bits f (signed_of minus n)
   int-minus h z t p = rw (h, p) (int-negative f n r e z)
 
-pub ruleset sign-laws = (int-plus, int-minus-zero, int-minus)
+pub ruleset sign_laws = (int-plus, int-minus-zero, int-minus)

@@ -159,4 +159,4 @@ module _ (b : ℕ) where
     pub narrow-minus-inf : exponent b ≡ 2047 → fraction b ≡ 0 → 0xff80_0000 ≡ narrow_bits b
     narrow-minus-inf p q = sym (narrow-fields true (le-leb _ _ h) ∙ field-inf true (exponent b) (fraction b) p q)
 
-pub ruleset narrow-laws = (narrow-nan, narrow-plus, narrow-plus-inf, narrow-minus, narrow-minus-inf)
+pub ruleset narrow_laws = (narrow-nan, narrow-plus, narrow-plus-inf, narrow-minus, narrow-minus-inf)

@@ -56,7 +56,7 @@ module _ (L : Lookups) (s r : List ℕ) (u : Refusal) (h : Shape) (p : Span) (t 
       pub ident-is : (y : Value) → z ≡ Some y → (b : ℕ) → b ≡ widen32_of y.number → Ok (Bits b) ≡ ident_on L s r u h p
       ident-is y n b c = listed-is u (value_in s (text r p) x) z m y n b c ∙ sym (ap (among u s (text r p)) g) ∙ ident-among
 
-pub ruleset ident-laws = (ident-other, ident-none, ident-unlisted, ident-is, enum-ordered, enum-within)
+pub ruleset ident_laws = (ident-other, ident-none, ident-unlisted, ident-is, enum-ordered, enum-within)
 
 -- ---- scalar_on
 module _ (L : Lookups) (s r : List ℕ) (u : Refusal) (h : Shape) (c : Constant) (x : Result Body Refusal) where
@@ -119,7 +119,7 @@ module _ (c : Constant) (r : List ℕ) (i : Inside c r) where
   pub ident-within : (p : Span) → c ≡ Ident p → p.to ≤ length r
   ident-within p g = (ident-lies p g).1
 
-pub ruleset scalar-laws = (
+pub ruleset scalar_laws = (
   scalar-bool,
   scalar-integer,
   scalar-float,

@@ -64,7 +64,7 @@ module _ (t : ℕ) (a b : Bool) (p : a ≡ is_signed t) (q : b ≡ is_small t) w
     unfolding most_of
     most-large y m z = rw (z, most_of, ← p, x, width, ← q, y) refl
 
-pub ruleset most-laws = (most-minus-small, most-plus-small, most-minus-large, most-plus-large, most-minus-none, most-small, most-large)
+pub ruleset most_laws = (most-minus-small, most-plus-small, most-minus-large, most-plus-large, most-minus-none, most-small, most-large)
 
 -- ---- pattern_of
 pub pattern-zero : (m : Bool) (n : ℕ) → m ≡ true → n ≡ 0 → 0 ≡ pattern_of m n
@@ -79,7 +79,7 @@ pub pattern-plus : (m : Bool) (n : ℕ) → m ≡ false → n ≡ pattern_of m n
 unfolding pattern_of
 pattern-plus m n z = rw z refl
 
-pub ruleset pattern-laws = (pattern-zero, pattern-minus, pattern-plus)
+pub ruleset pattern_laws = (pattern-zero, pattern-minus, pattern-plus)
 
 -- ---- integer_on
 module _ (t n : ℕ) (m : Bool) (b : Bool) (p : b ≡ is_integer t) where
@@ -106,7 +106,7 @@ module _ (t n : ℕ) (m : Bool) (b : Bool) (p : b ≡ is_integer t) where
       unfolding integer_on
       integer-other h = simp (integer_on, ← p, x, ne_eqb t TYPE_FLOAT f, ne_eqb t TYPE_DOUBLE h)
 
-pub ruleset integer-laws = (integer-fits, integer-range, integer-float, integer-double, integer-other)
+pub ruleset integer_laws = (integer-fits, integer-range, integer-float, integer-double, integer-other)
 
 -- ---- float_on
 module _ (t b : ℕ) where
@@ -140,7 +140,7 @@ module _ (t : ℕ) where
   unfolding bool_on
   bool-other h b = simp (bool_on, ne_eqb t TYPE_BOOL h)
 
-pub ruleset bool-laws = (bool-true, bool_false, bool-other)
+pub ruleset bool_laws = (bool-true, bool_false, bool-other)
 
 -- ---- string_on
 module _ (r : List ℕ) (t : ℕ) (p : Span) where
@@ -162,4 +162,4 @@ module _ (r : List ℕ) (t : ℕ) (p : Span) where
     unfolding string_on
     string-other h = simp (string_on, ne_eqb t TYPE_STRING d, ne_eqb t TYPE_BYTES h)
 
-pub ruleset string-laws = (string-fits, string-bad, string_bytes, string-other)
+pub ruleset string_laws = (string-fits, string-bad, string_bytes, string-other)

@@ -77,4 +77,4 @@ module _ (good : Declaration → Bool) (r x : Option Declaration) (q : r ≡ x) 
     unfolding whose
     whose-some h = rw (← q, g, h)
 
-pub ruleset whose-laws = (whose-none, whose-other, whose-some)
+pub ruleset whose_laws = (whose-none, whose-other, whose-some)

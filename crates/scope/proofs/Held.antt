@@ -98,7 +98,7 @@ module _ (s n : List ℕ) (p : LookupScope) where
       pub down-to-lies : InSheet s p → InSheet s x
       down-to-lies = down-lies (holding s x) down_to
 
-pub ruleset down-to-laws = (down-nowhere, down_to, down-to-lies)
+pub ruleset down_to_laws = (down-nowhere, down_to, down-to-lies)
 
 -- ---- an enum that is found
 pub record FoundEnum (s n : List ℕ) (c : Scope) (p : Span) : Type 0 where
@@ -149,4 +149,4 @@ module _ (s n : List ℕ) (p : LookupScope) where
       enum-at-within l =
           subst (λ (b : Span). b.to ≤ length s) (sym enum_at.body) (enum-lies-within enum_at.next enum_at.is l)
 
-pub ruleset enum-at-laws = (enum-not, enum_at, enum-at-ordered, enum-at-within)
+pub ruleset enum_at_laws = (enum-not, enum_at, enum-at-ordered, enum-at-within)

@@ -15,7 +15,7 @@ use Rattle.field.specs.declared.Span.{Span}
 use Rattle.field.specs.Leaf.{span, is_text, any_bytes, on_leaf, leaf_at}
 use Rattle.field.specs.Walk.{Walk, done, cut, step, walk}
 use Rattle.field.proofs.LeafLaws.{leaf-ordered, leaf-within, leaf-none, leaf-bad, leaf-good}
-use Rattle.field.proofs.Seek.{seek, seek_is, seek-laws}
+use Rattle.field.proofs.Seek.{seek, seek_is, seek_laws}
 use Rattle.sheet.specs.Table.{message_tag, enum_tag, name_tag}
 use Rattle.sheet.specs.Tree.{Items, none, values_in, item_in, message_in, items_in}
 use Rattle.sheet.specs.Members.{Message, messages_of, enums_of}
@@ -28,7 +28,7 @@ use Rattle.scope.specs.inner.Answers.{placed, bodied}
 use Rattle.scope.specs.inner.Steps.{tells_leaf, first_of, body_at, body_named}
 
 -- ---- named_at
-pub ruleset named-at-laws = (leaf-none, leaf-bad, leaf-good, leaf-ordered, leaf-within, not-true, not-false)
+pub ruleset named_at_laws = (leaf-none, leaf-bad, leaf-good, leaf-ordered, leaf-within, not-true, not-false)
 
 -- ---- body_at
 module _ (k : ℕ) (n s : List ℕ) (t a e : ℕ) where
@@ -45,7 +45,7 @@ module _ (k : ℕ) (n s : List ℕ) (t a e : ℕ) where
     unfolding body_at
     body-named p g = simp (body_at, eq-eqb t k h, ← q, g)
 
-pub ruleset body-at-laws = (body-other, body-unnamed, body-named)
+pub ruleset body_at_laws = (body-other, body-unnamed, body-named)
 
 -- what a field of the tag k comes to, by its tag and its name
 module _ (k : ℕ) (n s : List ℕ) (t a e : ℕ) (P : Option Span → Type 0)
@@ -79,7 +79,7 @@ pub body-named-is : (k : ℕ) (n s : List ℕ) (w : Walk) (r : Option Span) → 
 body-named-is k n s w r q =
     q ∙ sym (seek_is None (first_of tells_leaf) (body_at k n s) (body_named k n s) refl refl (λ t a e w. refl) w)
 
-pub ruleset body-named-laws = (body-named-is, seek-laws)
+pub ruleset body_named_laws = (body-named-is, seek_laws)
 
 -- it is the body of the first of that name among the members of one kind, whatever the kind: those that fields of one tag make
 module _ (d : ℕ) (s n : List ℕ) {A : Type 0} (k : ℕ) (all : Items → List A) (name body : A → Span) (made : ℕ → ℕ → ℕ → A)
@@ -153,7 +153,7 @@ module _ (s n : List ℕ) (p : LookupScope) where
     pub down-some : (u : Span) → l ≡ Some u → Some (inner p u.from u.to) ≡ placed (down s n (holding s p))
     down-some u g = rw (down_is, g)
 
-pub ruleset down-laws = (down-beyond, down-none, down-some)
+pub ruleset down_laws = (down-beyond, down-none, down-some)
 
 -- ---- enum_named
 pub enum-named-is : (s n : List ℕ) (p : LookupScope) (r : Option Span)

@@ -1,5 +1,5 @@
 -- Where the extension lies which a look-up finds: every place is one of the sheet, and the index of its file is at most the sheet's length.
--- They are for whoever reads the sheet at what was found: from `Ordered` and `Places` the `places-laws` of `scope` take what is asked of a
+-- They are for whoever reads the sheet at what was found: from `Ordered` and `Places` the `places_laws` of `scope` take what is asked of a
 -- span.
 --
 --   FoundLies s f <-> the places of the extension that was found are of s, and its file is counted no further than s is long

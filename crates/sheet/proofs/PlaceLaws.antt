@@ -85,7 +85,7 @@ module _ (s : List ℕ) (a e : ℕ) (r : Option Declaration) (q : r ≡ extensio
   pub extension-path-within : e ≤ length s → d.shape.path.to ≤ length s
   extension-path-within h = omega (arith, (extension-places s a e d (sym g ∙ q)).path.inside)
 
-pub ruleset extension-places-laws = (
+pub ruleset extension_places_laws = (
   extension-name-ordered,
   extension-name-within,
   extension-extendee-ordered,
@@ -107,7 +107,7 @@ module _ (s : List ℕ) (a e : ℕ) (r : Option Declaration) (q : r ≡ message_
   pub field-path-within : e ≤ length s → d.shape.path.to ≤ length s
   field-path-within h = omega (arith, (field-places s a e d (sym g ∙ q)).path.inside)
 
-pub ruleset field-places-laws = (field-name-ordered, field-name-within, field-path-ordered, field-path-within)
+pub ruleset field_places_laws = (field-name-ordered, field-name-within, field-path-ordered, field-path-within)
 
 module _ (s : List ℕ) (a e : ℕ) (r : Option Value) (q : r ≡ value_at s a e) (v : Value) (g : r ≡ Some v) where
   pub value-name-ordered : v.name.from ≤ v.name.to
@@ -116,4 +116,4 @@ module _ (s : List ℕ) (a e : ℕ) (r : Option Value) (q : r ≡ value_at s a e
   pub value-name-within : e ≤ length s → v.name.to ≤ length s
   value-name-within h = omega (arith, (value-name-lies s a e v (sym g ∙ q)).inside)
 
-pub ruleset value-places-laws = (value-name-ordered, value-name-within)
+pub ruleset value_places_laws = (value-name-ordered, value-name-within)

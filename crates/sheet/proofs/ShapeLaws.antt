@@ -8,7 +8,7 @@ use Rattle.basis.proofs.Never.{never}
 use Rattle.octets.specs.Octets.{big_at}
 use Rattle.types.specs.Types.{TYPE_GROUP, TYPE_MESSAGE, TYPE_ENUM}
 use Rattle.field.specs.Leaf.{any_bytes, of_size, leaf_at, span}
-use Rattle.field.proofs.LeafLaws.{leaf-ordered, leaf-inside, size-laws, on-leaf-some}
+use Rattle.field.proofs.LeafLaws.{leaf-ordered, leaf-inside, size_laws, on-leaf-some}
 use Rattle.sheet.specs.declared.declaration.Shape.{Shape}
 use Rattle.sheet.specs.Table.{number_tag, type_tag, label_tag, type_path_tag}
 use Rattle.sheet.specs.Declaration.{has_type_path, last_at, type_path_at, shape, shape_at}
@@ -44,7 +44,7 @@ module _ (t : ℕ) (s : List ℕ) (at end : ℕ) (b : Bool) (x : b ≡ has_type_
       unfolding type_path_at
       type-path-whole h = simp (type_path_at, ← x, y, ← q, g, eq-eqb p.to end h)
 
-pub ruleset type-path-laws = (type-path-more, type-path-none, type-path-lost, type-path-early, type-path-whole, not-true, not-false)
+pub ruleset type_path_laws = (type-path-more, type-path-none, type-path-lost, type-path-early, type-path-whole, not-true, not-false)
 
 -- ---- shape_at
 module _ (s : List ℕ) (at end : ℕ) (r : Option Span) (q : r ≡ leaf_at number_tag (of_size 4) s at end) where
@@ -121,5 +121,5 @@ module _ (s : List ℕ) (at end : ℕ) (r : Option Shape) (q : r ≡ shape_at s 
   pub shape-path-within : end ≤ length s → h.path.to ≤ length s
   shape-path-within k = omega (arith, (shape-lies s at end h (sym g ∙ q)).inside)
 
-pub ruleset shape-laws =
-    (shape-no-number, shape-no-type, shape-no-label, shape-no-path, shape-whole, leaf-inside, size-laws)
+pub ruleset shape_laws =
+    (shape-no-number, shape-no-type, shape-no-label, shape-no-path, shape-whole, leaf-inside, size_laws)

@@ -17,7 +17,7 @@ use Rattle.form.specs.Each.{each_from}
 use Rattle.field.proofs.FieldLaws.{field-ordered}
 use Rattle.field.proofs.LeafLaws.{leaf-inside}
 use Rattle.field.proofs.Rest.{Rest, rest-start}
-use Rattle.form.proofs.EachLaws.{each-from-laws}
+use Rattle.form.proofs.EachLaws.{each_from_laws}
 use Rattle.sheet.specs.Table.{file_tag, package_tag}
 use Rattle.reply.specs.Verdicts.{judged, beyond, Verdict}
 use Rattle.messageform.specs.Form.{bad_sheet, judge_items}
@@ -44,7 +44,7 @@ module _ (s : List ℕ) (i t a e : ℕ) where
       unfolding judge_file
       file-items u g v p = simp (judge_file, eq-eqb t file_tag y, lt-ltb i most_files h, ← q, g) p
 
-pub ruleset file-laws = (file-other, file-beyond, file-unnamed, file-items, leaf-inside)
+pub ruleset file_laws = (file-other, file-beyond, file-unnamed, file-items, leaf-inside)
 
 -- ---- check_files
 abbrev pub files : List ℕ → ℕ → Walk → Verdict
@@ -68,7 +68,7 @@ file-early s i t a e = go (eqb t file_tag) (ltb i most_files) refl _
 pub file-counted : (s : List ℕ) (i t a e : ℕ) (u : Verdict) → u ≡ judge_file s i t a e → u ≡ Ok tt → i + 1 < 2 ^ 64
 file-counted s i t a e u q g = omega (arith, file-early s i t a e (sym g ∙ q))
 
-pub ruleset files-laws = (files-start, file-counted, field-ordered, each-from-laws)
+pub ruleset files_laws = (files-start, file-counted, field-ordered, each_from_laws)
 
 -- ---- check_length
 module _ (s : List ℕ) where
@@ -90,7 +90,7 @@ module _ (s : List ℕ) where
   unfolding judge_sheet
   sheet-length h = first-fine-front (judge_length s) (judge_files s) h
 
-pub ruleset length-laws = (says, length-is)
+pub ruleset length_laws = (says, length-is)
 
 -- ---- check_sheet
 module _ (s : List ℕ) (u : Verdict) (q : u ≡ judge_length s) where
@@ -102,4 +102,4 @@ module _ (s : List ℕ) (u : Verdict) (q : u ≡ judge_length s) where
   unfolding judge_sheet
   sheet-files g v p = rw (← q, g) p
 
-pub ruleset sheet-laws = (says, sheet-long, sheet-files)
+pub ruleset sheet_laws = (says, sheet-long, sheet-files)

@@ -13,7 +13,7 @@ use Rattle.scope.specs.declared.lookup.LookupScope.{LookupScope}
 use Rattle.search.specs.declared.extension.Candidate.{Candidate}
 use Rattle.request.specs.declared.name.Part.{Part}
 use Rattle.request.specs.Name.{part_at}
-use Rattle.optionform.proofs.PartsLaws.{fine-part-laws}
+use Rattle.optionform.proofs.PartsLaws.{fine_part_laws}
 use Rattle.lookups.specs.Lookups.{Lookups}
 use Rattle.steps.specs.declared.Lack.{Lack}
 use Rattle.steps.specs.declared.Lack.TheVariants.{NoField, NoExtension, OtherMessage}
@@ -46,7 +46,7 @@ module _ (L : Lookups) (s : List ℕ) (h : Shape) (at t : ℕ) (k : t ≡ h.typ)
     unfolding left_on
     left-scalar y = simp (left_on, ← k, ne_eqb t TYPE_MESSAGE x, ne_eqb t TYPE_GROUP y)
 
-pub ruleset left-laws = (left-none, left-inside, left-group, left-scalar)
+pub ruleset left_laws = (left-none, left-inside, left-group, left-scalar)
 
 -- ---- behind
 module _ (L : Lookups) (s r : List ℕ) (h : Shape) (at end : ℕ) (v : Option Part) (q : v ≡ part_at r at end) where
@@ -60,7 +60,7 @@ module _ (L : Lookups) (s r : List ℕ) (h : Shape) (at end : ℕ) (v : Option P
   pub behind-part : (p : Part) → v ≡ Some p → (u : Reach) → u ≡ left_on L s h at → u ≡ behind L s r h at end
   behind-part p g u e = e ∙ sym (behind-followed ∙ ap (followed L s h at) g)
 
-pub ruleset behind-laws = (behind-constant, behind-part)
+pub ruleset behind_laws = (behind-constant, behind-part)
 
 -- ---- why_of
 module _ (l : Lack) where
@@ -73,7 +73,7 @@ module _ (l : Lack) where
   pub why-other : (c : Candidate) → l ≡ OtherMessage c → WrongExtensionType ≡ why_of l
   why-other c g = ap why_of (sym g)
 
-pub ruleset why-laws = (why-field, why-extension, why-other)
+pub ruleset why_laws = (why-field, why-extension, why-other)
 
 -- ---- led
 module _ (L : Lookups) (s r : List ℕ) (from to : ℕ) (v : Result Declaration Lack) where
@@ -83,7 +83,7 @@ module _ (L : Lookups) (s r : List ℕ) (from to : ℕ) (v : Result Declaration 
   pub led-behind : (d : Declaration) → v ≡ Ok d → (y : Reach) → y ≡ behind L s r d.shape from to → y ≡ stepped L s r from to v
   led-behind d z y o = o ∙ sym (ap (stepped L s r from to) z)
 
-pub ruleset led-laws = (led-fails, led-behind, step-path-ordered, step-path-within)
+pub ruleset led_laws = (led-fails, led-behind, step-path-ordered, step-path-within)
 
 -- ---- reach_of
 module _ (L : Lookups) (s r scope n : List ℕ) (c : LookupScope) (from to : ℕ) (v : Option Part) (q : v ≡ part_at r from to) where
@@ -99,4 +99,4 @@ module _ (L : Lookups) (s r scope n : List ℕ) (c : LookupScope) (from to : ℕ
   reach-led p g u e y o =
       o ∙ sym (reach-first ∙ ap (first_part L s r scope (message n c) to) g ∙ ap (stepped L s r p.name.to to) (sym e))
 
-pub ruleset reach-laws = (reach-none, reach-led, led-nothing, led-step, fine-part-laws)
+pub ruleset reach_laws = (reach-none, reach-led, led-nothing, led-step, fine_part_laws)

@@ -35,7 +35,7 @@ module _ (v : Compared) where
   pub searched-extends : (c : Candidate) → v ≡ Extends c → Ok c.found.declaration ≡ step_extension v
   searched-extends c g = sym (ap step_extension g)
 
-pub ruleset searched-laws = (searched-refused, searched-other, searched-extends)
+pub ruleset searched_laws = (searched-refused, searched-other, searched-extends)
 
 -- ---- an extension part
 module _ (L : Lookups) (s r scope n : List ℕ) (c : LookupScope) (p : Part) where
@@ -96,4 +96,4 @@ module _ (s : List ℕ) where
     pub step-path-within : d.shape.path.to ≤ length s
     step-path-within = (l.lies d g).1
 
-pub ruleset step-laws = (step-extension, step-unknown, step_field, part-path, lies-lack, lies-extension, lies-field)
+pub ruleset step_laws = (step-extension, step-unknown, step_field, part-path, lies-lack, lies-extension, lies-field)

@@ -28,7 +28,7 @@ module _ (p : Option Payload) (h : PayloadIn most_option_bytes p) (x : Payload) 
   pub next_fits : Fits w64 (x.at + x.size)
   next_fits = record { fits = omega (arith, room) }
 
-pub ruleset fits-laws = (place-fits, size_fits, next_fits)
+pub ruleset fits_laws = (place-fits, size_fits, next_fits)
 
 -- ---- unknown
 module _ (p : Option Payload) where
@@ -40,7 +40,7 @@ module _ (p : Option Payload) where
   unfolding unknown_taken
   unknown-whole x e = rw e
 
-pub ruleset unknown-laws = (fits-laws, unknown-cut, unknown-whole)
+pub ruleset unknown_laws = (fits_laws, unknown-cut, unknown-whole)
 
 -- ---- known
 module _ (t w : ℕ) (p : Option Payload) (x : ℕ) (q : x ≡ wire_of t) where
@@ -59,4 +59,4 @@ module _ (t w : ℕ) (p : Option Payload) (x : ℕ) (q : x ≡ wire_of t) where
     pub known-whole : (z : Payload) → p ≡ Some z → (u : ℕ) → u ≡ value_of t z.number → Record z.at z.size u (z.at + z.size) ≡ known_taken t w p
     known-whole z g u y = rw on-wire (rw (g, y))
 
-pub ruleset known_laws = (fits-laws, known-other-wire, known-cut, known-whole)
+pub ruleset known_laws = (fits_laws, known-other-wire, known-cut, known-whole)

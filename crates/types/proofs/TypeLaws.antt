@@ -42,4 +42,4 @@ module _ (k : ℕ) (h : most_type < k) where
   unfolding wire_of
   wire-beyond = rw (wire_of, any-beyond eights tt, any-beyond lengths tt, any-beyond groups tt, any-beyond fours tt)
 
-pub ruleset wire-laws = (wire-at, wire-beyond)
+pub ruleset wire_laws = (wire-at, wire-beyond)

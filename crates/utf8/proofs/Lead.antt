@@ -174,10 +174,10 @@ module _ (s : List ℕ) (at : ℕ) where
       let long : 1 ≤ length (drop at s) = omega (arith, length-drop at s) in
       lead-take (drop at s) 1 long (rw (e, rest-is) (take-suc (drop at s) 0 0 long)) (one l)
 
-pub ruleset two-laws = (second-cut, second-low, second-not, two-lead)
+pub ruleset two_laws = (second-cut, second-low, second-not, two-lead)
 
-pub ruleset three-laws = (second-not, third-cut, third-not, three-low, three-surrogate, three-lead, three-above)
+pub ruleset three_laws = (second-not, third-cut, third-not, three-low, three-surrogate, three-lead, three-above)
 
-pub ruleset four-laws = (second-not, third-not, fourth-cut, fourth-not, four_low, four-high, four-lead, three-above, four-above)
+pub ruleset four_laws = (second-not, third-not, fourth-cut, fourth-not, four_low, four-high, four-lead, three-above, four-above)
 
-pub ruleset lead-laws = (rest-lead, one-lead)
+pub ruleset lead_laws = (rest-lead, one-lead)

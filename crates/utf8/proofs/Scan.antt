@@ -42,4 +42,4 @@ module _ (s : List ℕ) (i : ℕ) (k : Scanned s i) where
           let rest = k.rest ∙ utf8-step (drop i s) n stands-there in
           record { within = scan-within; rest = rw (drop-drop n i s) at rest }
 
-pub ruleset scan-laws = (scan-start, scan-end, scan-not, scan-fits, scan-next)
+pub ruleset scan_laws = (scan-start, scan-end, scan-not, scan-fits, scan-next)

@@ -6,7 +6,7 @@ use Rattle.basis.proofs.Kit.{arith}
 use Rattle.reply.specs.declared.Refusal.{Refusal}
 use Rattle.field.specs.Field.{field_at, field}
 use Rattle.field.specs.Walk.{Walk, step, walk}
-use Rattle.field.proofs.FieldLaws.{field-bounds, field-inside, field-place-laws}
+use Rattle.field.proofs.FieldLaws.{field-bounds, field-inside, field_place_laws}
 use Rattle.field.proofs.Rest.{rest_end, rest-cut, rest-step}
 use Rattle.sheet.specs.declared.declaration.Shape.{Shape}
 use Rattle.request.specs.Tree.{unnamed, elements_in, constant_in}
@@ -74,7 +74,7 @@ module _ (L : Lookups) (s r : List ℕ) (h : Shape) (d from to : ℕ) where
               front-next v (list_of L s r h d) r from to i l m at p k (f.to - f.from) f.to element-size (field-inside r i to x q f g)
               (value_made L s r h d f.tag f.from f.to) m' y u list-first
 
-pub ruleset list-laws = (
+pub ruleset list_laws = (
   list-start,
   front_length,
   front-after,
@@ -84,5 +84,5 @@ pub ruleset list-laws = (
   list-falls,
   list-refused,
   list-next,
-  field-place-laws,
+  field_place_laws,
 )

@@ -12,7 +12,7 @@ use Rattle.scope.specs.declared.lookup.LookupScope.{LookupScope}
 use Rattle.records.specs.Made.{Made, holding}
 use Rattle.records.specs.inner.Emits.{wrote_of, Emits}
 use Rattle.records.proofs.EmitsLaws.{wrote-tells, refuses}
-use Rattle.records.proofs.InsideLaws.{inside-laws}
+use Rattle.records.proofs.InsideLaws.{inside_laws}
 use Rattle.lookups.specs.Lookups.{Lookups}
 use Rattle.lookups.proofs.LookupLaws.{message-lies}
 use Rattle.values.specs.Values.{in_message}
@@ -39,6 +39,6 @@ module _ (L : Lookups) (s r : List ℕ) (h : Shape) (d a e : ℕ) (t : ℕ) (k :
         simp (in_message, ← k, eq-eqb t TYPE_MESSAGE x, ← q, g) in
         subst (λ (m : Made Refusal). Emits wrote_of m n l at l' y) o u
 
-pub ruleset message-laws = (message-other, message-none, message-is, message-lies)
+pub ruleset message_laws = (message-other, message-none, message-is, message-lies)
 
-pub ruleset put-inside-laws = (inside-laws, wrote-tells)
+pub ruleset put_inside_laws = (inside_laws, wrote-tells)

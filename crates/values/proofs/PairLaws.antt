@@ -31,7 +31,7 @@ use Rattle.request.specs.Tree.{constant_in}
 use Rattle.pair.specs.declared.Pair.{Pair}
 use Rattle.pair.specs.inner.Pair.{pair_at}
 use Rattle.pair.proofs.PairLaws.{Pairless, broken, alone, cut_short, unnamed as misnamed, rest-pairless, rest-pair}
-use Rattle.pair.proofs.PairLaws.{pair-fields, pair-places, pair-constant-inside}
+use Rattle.pair.proofs.PairLaws.{pair-fields, pair_places, pair-constant-inside}
 use Rattle.records.specs.Records.{nil}
 use Rattle.records.specs.Made.{Made, made, wrong, after, both}
 use Rattle.records.specs.inner.Emits.{bytes_most, wrote_of, Emits, Roomy}
@@ -84,7 +84,7 @@ module _ (s r : List ℕ) (c : LookupScope) (d : ℕ) (x : Pair) (u : Option Con
           go option.none e = never cc
           go (option.some f') e = let y : f ≡ f' = cc in rw y
 
-pub ruleset target-laws = (target_none, target-other, target-unknown, target_is)
+pub ruleset target_laws = (target_none, target-other, target-unknown, target_is)
 
 -- ---- what a pair comes to, by its target
 abbrev on_target : Result (Option Shape) Refusal → (Shape → Made Refusal) → Made Refusal
@@ -197,7 +197,7 @@ module _ (s r : List ℕ) (c : LookupScope) (l : InSheet s c) (x : Pair) where
     pub target-within : h.path.to ≤ length s
     target-within = target-lies.1
 
-pub ruleset pair-laws = (pair-passed, pair-unknown, pair-value, target-ordered, target-within)
+pub ruleset pair_laws = (pair-passed, pair-unknown, pair-value, target-ordered, target-within)
 
 -- ---- put_pairs
 pair_size : (r : List ℕ) (i to : ℕ) (x : Option Pair) → x ≡ pair_at r i to → (z : Pair) → x ≡ Some z
@@ -290,7 +290,7 @@ module _ (L : Lookups) (s r : List ℕ) (c : LookupScope) (d from to : ℕ) wher
               front-next v (pairs_of L s r c d) r from to i l m at p k (z.constant.to - z.constant.from) z.constant.to pair-header
               (pair-constant-inside r i to x q z g) (pair_made L s r c d z) m' y u pairs_first
 
-pub ruleset pairs-laws = (
+pub ruleset pairs_laws = (
   pairs_start,
   front_length,
   front-after,
@@ -300,5 +300,5 @@ pub ruleset pairs-laws = (
   pairs-falls,
   pairs-refused,
   pairs_next,
-  pair-places,
+  pair_places,
 )

@@ -62,4 +62,4 @@ module _ (L : Lookups) (s r : List ℕ) (h : Shape) (c : Constant) (x : Result B
   scalar-wrote b g i l at l' n a =
       emits-laid wrote-tells (record_of r h b) n a (ap (made_of r h) (sym q ∙ g)) (record-few i b g) refl
 
-pub ruleset put-scalar-laws = (scalar-refused, scalar-wrote, body-inside)
+pub ruleset put_scalar_laws = (scalar-refused, scalar-wrote, body-inside)

@@ -101,7 +101,7 @@ module _ (r : List ℕ) (d t a e : ℕ) where
       go zero z = absurd (z refl)
       go (suc d) z = q
 
-pub ruleset held-laws = (held_none, held-some)
+pub ruleset held_laws = (held_none, held-some)
 
 -- what is held was read, with a level less left
 module _ (r : List ℕ) (d t a e : ℕ) (u : Option Constant) (q : u ≡ held_at d r t a e) (c : Constant) (g : u ≡ Some c) where
@@ -178,4 +178,4 @@ roomy-scalar at n r x = omega (arith, x.room)
 pub roomy-list : (at n : ℕ) (r : List ℕ) → Roomy at (3 + n) r → Roomy at n r
 roomy-list at n r x = record { room = omega (arith, x.room) }
 
-pub ruleset value-laws = (value_none, held-level, held-inside, value-scalar, value-list, value-message, roomy-scalar, roomy-list)
+pub ruleset value_laws = (value_none, held-level, held-inside, value-scalar, value-list, value-message, roomy-scalar, roomy-list)

@@ -238,4 +238,4 @@ module _ (s : List ℕ) (at end : ℕ) (r : Option Read) (p : r ≡ varint_at s 
   pub varint-value : x.value < 2 ^ 64
   varint-value = bounds.small
 
-pub ruleset varint-bounds = (varint-after, varint-inside, varint-value)
+pub ruleset varint_bounds = (varint-after, varint-inside, varint-value)

@@ -56,5 +56,5 @@ module _ (v : ℕ) where
 
 -- what is below a lower limit is below the limit: if one of the code's is too low, the length above it is refused, which is wrong, and
 -- not the one below it, which holds
-pub ruleset varint-lengths =
+pub ruleset varint_lengths =
     (one_byte, two_bytes, three-bytes, four_bytes, five-bytes, six-bytes, seven-bytes, eight-bytes, nine-bytes, ten-bytes, lt_of_lt_of_le)

@@ -41,4 +41,4 @@ module _ (l : List ℕ) (at v : ℕ) (m : List ℕ) (x i : ℕ) (w : Writing l a
   pub writing-length : (b : ℕ) (l' : List ℕ) → l' ≡ sets m i (b ∷ []) → length l' ≡ length l
   writing-length b l' e = ap length e ∙ length-sets m i (b ∷ []) ∙ halfway-length w.laid
 
-pub ruleset writing-laws = (writing_start, writing-fits, writing-next, writing-end, writing-length)
+pub ruleset writing_laws = (writing_start, writing-fits, writing-next, writing-end, writing-length)

@@ -142,6 +142,6 @@ module _ (s : List ℕ) (at end value scale more i : ℕ) (k : Reading s at end 
               rest = onwards;
             }
 
-pub ruleset scaled-laws = (scale-fits, sum-last, product-last, sum_one, product-one, sum_more, product-more)
+pub ruleset scaled_laws = (scale-fits, sum-last, product-last, sum_one, product-one, sum_more, product-more)
 
-pub ruleset reading-laws = (reading-start, reading-end, reading-last, reading-over, reading-one, reading-more, scaled-laws)
+pub ruleset reading_laws = (reading-start, reading-end, reading-last, reading-over, reading-one, reading-more, scaled_laws)

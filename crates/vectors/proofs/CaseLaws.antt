@@ -5,10 +5,10 @@ use Rattle.basis.proofs.Kit.{arith}
 use Rattle.field.specs.Leaf.{leaf_at, span}
 use Rattle.field.proofs.FieldLaws.{Bounds, field-ordered, field-within, field-less}
 use Rattle.field.proofs.LeafLaws.{leaf-bounds, leaf-within}
-use Rattle.console.proofs.InputLaws.{input-laws}
+use Rattle.console.proofs.InputLaws.{input_laws}
 use Rattle.field.specs.declared.Span.{Span}
 
-pub ruleset case-laws = (field-ordered, field-within, field-less, leaf-within, input-laws)
+pub ruleset case_laws = (field-ordered, field-within, field-less, leaf-within, input_laws)
 
 -- ---- the loop over the examples
 module _ (k : ℕ) (good : List ℕ → Bool) (s : List ℕ) (at end : ℕ) (r : Option Span) (q : r ≡ leaf_at k good s at end) (p : Span)
@@ -22,4 +22,4 @@ module _ (k : ℕ) (good : List ℕ → Bool) (s : List ℕ) (at end : ℕ) (r :
   pub held_next : (held one : ℕ) → held ≤ at → one ≤ 1 → held + one ≤ p.to
   held_next held one h h' = omega (arith, bounds.starts, bounds.ordered)
 
-pub ruleset run-laws = (leaf-less, held_next, case-laws)
+pub ruleset run_laws = (leaf-less, held_next, case_laws)

@@ -34,7 +34,7 @@ module _ (l : List ℕ) (at v width : ℕ) (m : List ℕ) (x i : ℕ) (f : Filli
   pub filling-length : length m ≡ length l
   filling-length = halfway-length f.laid
 
-pub ruleset filling-laws = (filling-start, filling-next, filling-end, filling-length)
+pub ruleset filling_laws = (filling-start, filling-next, filling-end, filling-length)
 
 -- ---- `little_at`: n is the number of the bytes from the i-th on
 pub record Summing (s : List ℕ) (at width n i : ℕ) : Type 0 where
@@ -82,4 +82,4 @@ module _ (s : List ℕ) (at width n i : ℕ) (k : Summing s at width n i) where
   pub summing-small : i ≤ 0 → n < 256 ^ width
   summing-small h = let z : i ≡ 0 = omega arith in rw (z, sub-zero) at k.small
 
-pub ruleset summing-laws = (summing_start, sum_fits, summing-next, product-fits, summing-end, summing-small)
+pub ruleset summing_laws = (summing_start, sum_fits, summing-next, product-fits, summing-end, summing-small)

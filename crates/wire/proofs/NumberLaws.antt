@@ -39,7 +39,7 @@ pub widen32-minus : (u : ℕ) → 2 ^ 31 ≤ u → u + (2 ^ 64 - 2 ^ 32) ≡ wid
 unfolding widen32_of
 widen32-minus u h = simp (widen32_of, le-ltb u (2 ^ 31) h)
 
-pub ruleset number-laws = (zigzag-plus, zigzag-minus, unzigzag-even, unzigzag-odd, low32-mod, widen32-plus, widen32-minus)
+pub ruleset number_laws = (zigzag-plus, zigzag-minus, unzigzag-even, unzigzag-odd, low32-mod, widen32-plus, widen32-minus)
 
 -- ---- zigzag and its inverse
 

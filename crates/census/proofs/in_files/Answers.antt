@@ -1,25 +1,25 @@
 -- `census::in_files` meets its contract, by its loop's invariant and laws.
 -- Assumes nothing.
-use Rattle.census.proofs.ItemLaws.{in-files-laws}
+use Rattle.census.proofs.ItemLaws.{in_files_laws}
 use Rattle.census.proofs.in_files.Goals as goal
 
 pub loop-p-init : goal.loop-p-init
-loop-p-init c = search in-files-laws
+loop-p-init c = search in_files_laws
 
 pub returns-in_default : goal.returns-in_default
-returns-in_default c = search in-files-laws
+returns-in_default c = search in_files_laws
 
 pub in_file-n-requires : goal.in_file-n-requires
-in_file-n-requires c = search in-files-laws
+in_file-n-requires c = search in_files_laws
 
 pub overflow_add-n : goal.overflow_add-n
-overflow_add-n c = search in-files-laws
+overflow_add-n c = search in_files_laws
 
 pub loop-p-smaller : goal.loop-p-smaller
-loop-p-smaller c = search in-files-laws
+loop-p-smaller c = search in_files_laws
 
 pub loop-p-preserved : goal.loop-p-preserved
-loop-p-preserved c = search in-files-laws
+loop-p-preserved c = search in_files_laws
 
 pub returns : goal.returns
-returns c = search in-files-laws
+returns c = search in_files_laws

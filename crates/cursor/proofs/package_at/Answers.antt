@@ -1,10 +1,10 @@
 -- `cursor::package_at` meets its contract.
 -- Assumes nothing.
-use Rattle.cursor.proofs.ScopesLaws.{package-laws}
+use Rattle.cursor.proofs.ScopesLaws.{package_laws}
 use Rattle.cursor.proofs.package_at.Goals as goal
 
 pub returns-then-tag-ne-FILE : goal.returns-then-tag-ne-FILE
-returns-then-tag-ne-FILE c = search package-laws
+returns-then-tag-ne-FILE c = search package_laws
 
 pub returns : goal.returns
-returns c = search package-laws
+returns c = search package_laws

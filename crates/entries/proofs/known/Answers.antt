@@ -1,13 +1,13 @@
 -- `entries::known` meets its contract.
 -- Assumes nothing.
-use Rattle.entries.proofs.RecordLaws.{known-laws}
+use Rattle.entries.proofs.RecordLaws.{known_laws}
 use Rattle.entries.proofs.known.Goals as goal
 
 pub returns-then-typ-eq-TYPE_MESSAGE : goal.returns-then-typ-eq-TYPE_MESSAGE
-returns-then-typ-eq-TYPE_MESSAGE c = search known-laws
+returns-then-typ-eq-TYPE_MESSAGE c = search known_laws
 
 pub returns-in-Wrong : goal.returns-in-Wrong
-returns-in-Wrong c = search known-laws
+returns-in-Wrong c = search known_laws
 
 pub returns-else-typ-eq-TYPE_MESSAGE : goal.returns-else-typ-eq-TYPE_MESSAGE
-returns-else-typ-eq-TYPE_MESSAGE c = search known-laws
+returns-else-typ-eq-TYPE_MESSAGE c = search known_laws

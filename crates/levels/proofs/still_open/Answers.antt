@@ -1,13 +1,13 @@
 -- `levels::still_open` meets its contract, by its loop's invariant and laws.
 -- Assumes nothing.
-use Rattle.levels.proofs.OpenLaws.{closing-laws}
+use Rattle.levels.proofs.OpenLaws.{closing_laws}
 use Rattle.levels.proofs.still_open.Goals as goal
 
 pub returns-then-at-stack : goal.returns-then-at-stack
-returns-then-at-stack c = search closing-laws
+returns-then-at-stack c = search closing_laws
 
 pub loop-depth-preserved : goal.loop-depth-preserved
-loop-depth-preserved c = search closing-laws
+loop-depth-preserved c = search closing_laws
 
 pub returns : goal.returns
-returns c = search closing-laws
+returns c = search closing_laws

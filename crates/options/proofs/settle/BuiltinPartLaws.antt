@@ -11,7 +11,7 @@ use Rattle.request.specs.declared.name.Part.{Part}
 use Rattle.request.specs.Name.{part_at, parts_in}
 use Rattle.request.specs.Request.{constant_of_field}
 use Rattle.request.specs.Tree.{Constants, unnamed, None as no_constant, constant_in}
-use Rattle.request.proofs.PartLaws.{parts-nil, parts-cons, part-places}
+use Rattle.request.proofs.PartLaws.{parts-nil, parts-cons, part_places}
 use Rattle.optionform.specs.inner.Parts.{LastConstant}
 use Rattle.lookups.specs.Lookups.{Lookups, Message}
 use Rattle.options.specs.inner.Written.{constant_at}
@@ -47,7 +47,7 @@ module _ (r : List ℕ) (from to : ℕ) (v : Option Part) (q : v ≡ part_at r f
       whole-alone z =
           sym (whole-cons ∙ ap (λ (ps : List Part). parted (builtin_part (p ∷ ps))) (parts-nil r p.name.to to u e z) ∙ rw x refl)
 
-pub ruleset builtin-part-laws = (whole-none, whole-extension, whole-more, whole-alone, part-places)
+pub ruleset builtin_part_laws = (whole-none, whole-extension, whole-more, whole-alone, part_places)
 
 -- ---- built_at
 module _ (r : List ℕ) (at to : ℕ) (f : Option Field) (q : f ≡ field_at r at to) where
@@ -63,4 +63,4 @@ module _ (r : List ℕ) (at to : ℕ) (f : Option Field) (q : f ≡ field_at r a
         → y ≡ builtin_of L s r m n (constant_in most_constants r unnamed here.tag here.from here.to no_constant) → y ≡ builtin_of L s r m n (constant_at r at to)
     built-is L s m n y o = o ∙ ap (λ (c : Constants). builtin_of L s r m n c) constant-is
 
-pub ruleset built-at-laws = (last-whole, built-is, built-inside, field-ordered, field-within)
+pub ruleset built_at_laws = (last-whole, built-is, built-inside, field-ordered, field-within)

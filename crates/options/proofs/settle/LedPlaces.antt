@@ -59,7 +59,7 @@ module _ (s r scope : List ℕ) (c : LookupScope) (from to i : ℕ) (o : Steppab
   pub part-fits : Fits w32 (i + 1)
   part-fits = record { fits = omega (arith, o.few) }
 
-pub ruleset led-places = (
+pub ruleset led_places = (
   constant-path-ordered,
   constant-path-within,
   constant-within,

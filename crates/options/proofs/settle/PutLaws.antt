@@ -17,7 +17,7 @@ use Rattle.records.specs.Records.{nil}
 use Rattle.records.specs.Made.{Made, made, holding}
 use Rattle.records.specs.inner.Emits.{bytes_most, wrote_of, Emits, Roomy}
 use Rattle.records.proofs.EmitsLaws.{Tells, wrote-tells, emits-next, emits-refused, refuses, emits-laid, writes-none, emits-more}
-use Rattle.records.proofs.InsideLaws.{inside-laws}
+use Rattle.records.proofs.InsideLaws.{inside_laws}
 use Rattle.lookups.specs.Lookups.{Lookups}
 use Rattle.values.specs.Values.{on, records}
 use Rattle.values.specs.inner.Writers.{value_made}
@@ -29,7 +29,7 @@ use Rattle.options.specs.Named.{at as at_part}
 use Rattle.faults.specs.Faults.{fault_at}
 use Rattle.faults.specs.inner.Answering.{stepped_by}
 use Rattle.options.specs.inner.Written.{stepped_of, constant_made, option_made}
-use Rattle.options.proofs.settle.LedPlaces.{led-places}
+use Rattle.options.proofs.settle.LedPlaces.{led_places}
 use Rattle.options.proofs.settle.OptionLaws.{option-of}
 use Rattle.field.specs.declared.Field.{Field}
 
@@ -91,13 +91,13 @@ module _ (L : Lookups) (s r : List ℕ) (h : Shape) (from to : ℕ) (f : Option 
           go (Ok n) k = constant-next n k i
           go (Err w) k = constant-refused w k i
 
-pub ruleset constant-laws = (constant-cut, constant-room, constant-last, field-ordered, field-within)
+pub ruleset constant_laws = (constant-cut, constant-room, constant-last, field-ordered, field-within)
 
 -- ---- put_inside
 pub inside-falls : (from to n : ℕ) → 2 * (to - from) + 1 ≡ n → 2 * (to - from) < n
 inside-falls from to n e = omega arith
 
-pub ruleset put-inside-laws = (inside-laws, stepped-tells, inside-falls)
+pub ruleset put_inside_laws = (inside_laws, stepped-tells, inside-falls)
 
 -- ---- put_option
 module _ (L : Lookups) (s r scope n : List ℕ) (c : LookupScope) (from to : ℕ) (v : Reach)
@@ -131,4 +131,4 @@ module _ (L : Lookups) (s r scope n : List ℕ) (c : LookupScope) (from to : ℕ
         (sym (option-of L s r scope i (message n c) from to (Inside h p x) (sym g ∙ q)))
         (emits-more (bytes_most (3 + (to - x))) u (omega (arith, b.further, b.within)))
 
-pub ruleset put-option-laws = (option-fails, option-nothing, option-constant, option_inside, led-places)
+pub ruleset put_option_laws = (option-fails, option-nothing, option-constant, option_inside, led_places)

@@ -56,7 +56,7 @@ module _ (b : Built) (i at : ℕ) where
   unfolding settling_of
   built-wrong w g y e = rw (g, e) refl
 
-pub ruleset settled-built-laws = (built-skipped, built-sets, built-wrong)
+pub ruleset settled_built_laws = (built-skipped, built-sets, built-wrong)
 
 -- ---- settle_named
 fault-inv : (i : ℕ) (f g : Fault) → Fails (cause_at i f) ≡ Fails (cause_at i g) → f ≡ g
@@ -127,7 +127,7 @@ module _ (s r : List ℕ) (h : Start) (option from to at : ℕ) (k : Settleable 
   pub settleable-room : Roomy at (to - from) r
   settleable-room = k.room
 
-pub ruleset settleable-laws = (
+pub ruleset settleable_laws = (
   settleable-started,
   settleable-count,
   settleable-ordered,
@@ -136,9 +136,9 @@ pub ruleset settleable-laws = (
   settleable-room,
 )
 
-pub ruleset start-laws = (start-scope-ordered, start-scope-within, start-type-ordered, start-type-within, start-steppable, settleable-laws)
+pub ruleset start_laws = (start-scope-ordered, start-scope-within, start-type-ordered, start-type-within, start-steppable, settleable_laws)
 
-pub ruleset settle-named-laws = (named-next, named-refused, start-laws)
+pub ruleset settle_named_laws = (named-next, named-refused, start_laws)
 
 -- ---- what `builtin_part` says of the option: a part alone, or another name
 pub record Alone (r : List ℕ) (from to : ℕ) (p : Part) : Type 0 where
@@ -264,6 +264,6 @@ module _ (r : List ℕ) (from to : ℕ) (v : Option Part) (q : v ≡ parted (bui
       let a = alone r from to v q p g in
       fine-part-last _ r p.name.to to (fine-part-next _ r from to o (Some p) (sym a.is) p refl) None (sym a.last) refl
 
-pub ruleset settle-laws = (settleable-laws, settle-named, settle-built, alone-ordered, alone-inside, alone-within, alone-last)
+pub ruleset settle_laws = (settleable_laws, settle-named, settle-built, alone-ordered, alone-inside, alone-within, alone-last)
 
-pub ruleset put-set-laws = (set-named, set-built, alone-ordered, alone-inside, alone-within, alone-last)
+pub ruleset put_set_laws = (set-named, set-built, alone-ordered, alone-inside, alone-within, alone-last)

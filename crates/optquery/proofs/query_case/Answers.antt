@@ -1,52 +1,52 @@
 -- `optquery::query_case` meets its contract.
 -- Assumes nothing.
-use Rattle.optquery.proofs.CaseLaws.{case-laws}
+use Rattle.optquery.proofs.CaseLaws.{case_laws}
 use Rattle.optquery.proofs.query_case.Goals as goal
 
 pub field_of-requires-2 : goal.field_of-requires-2
-field_of-requires-2 c = search case-laws
+field_of-requires-2 c = search case_laws
 
 pub field_of-requires-3 : goal.field_of-requires-3
-field_of-requires-3 c = search case-laws
+field_of-requires-3 c = search case_laws
 
 pub field_of-requires-4 : goal.field_of-requires-4
-field_of-requires-4 c = search case-laws
+field_of-requires-4 c = search case_laws
 
 pub slice_bounds-answer-count : goal.slice_bounds-answer-count
-slice_bounds-answer-count c = search case-laws
+slice_bounds-answer-count c = search case_laws
 
 pub slice_bounds-answer-start : goal.slice_bounds-answer-start
-slice_bounds-answer-start c = search case-laws
+slice_bounds-answer-start c = search case_laws
 
 pub slice_bounds-answer-end : goal.slice_bounds-answer-end
-slice_bounds-answer-end c = search case-laws
+slice_bounds-answer-end c = search case_laws
 
 pub slice_bounds-answer-count-2 : goal.slice_bounds-answer-count-2
-slice_bounds-answer-count-2 c = search case-laws
+slice_bounds-answer-count-2 c = search case_laws
 
 pub slice_bounds-answer-start-2 : goal.slice_bounds-answer-start-2
-slice_bounds-answer-start-2 c = search case-laws
+slice_bounds-answer-start-2 c = search case_laws
 
 pub slice_bounds-answer-end-2 : goal.slice_bounds-answer-end-2
-slice_bounds-answer-end-2 c = search case-laws
+slice_bounds-answer-end-2 c = search case_laws
 
 pub slice_bounds-answer-count-3 : goal.slice_bounds-answer-count-3
-slice_bounds-answer-count-3 c = search case-laws
+slice_bounds-answer-count-3 c = search case_laws
 
 pub slice_bounds-answer-start-3 : goal.slice_bounds-answer-start-3
-slice_bounds-answer-start-3 c = search case-laws
+slice_bounds-answer-start-3 c = search case_laws
 
 pub slice_bounds-answer-end-3 : goal.slice_bounds-answer-end-3
-slice_bounds-answer-end-3 c = search case-laws
+slice_bounds-answer-end-3 c = search case_laws
 
 pub slice_bounds-answer-count-4 : goal.slice_bounds-answer-count-4
-slice_bounds-answer-count-4 c = search case-laws
+slice_bounds-answer-count-4 c = search case_laws
 
 pub slice_bounds-answer-start-4 : goal.slice_bounds-answer-start-4
-slice_bounds-answer-start-4 c = search case-laws
+slice_bounds-answer-start-4 c = search case_laws
 
 pub slice_bounds-answer-end-4 : goal.slice_bounds-answer-end-4
-slice_bounds-answer-end-4 c = search case-laws
+slice_bounds-answer-end-4 c = search case_laws
 
 pub returns : goal.returns
-returns c = search case-laws
+returns c = search case_laws

@@ -1,10 +1,10 @@
 -- `query::query` meets its contract.
 -- Assumes nothing.
-use Rattle.query.proofs.CallLaws.{query-laws}
+use Rattle.query.proofs.CallLaws.{query_laws}
 use Rattle.query.proofs.query.Goals as goal
 
 pub returns-in-Refused : goal.returns-in-Refused
-returns-in-Refused c = search query-laws
+returns-in-Refused c = search query_laws
 
 pub returns : goal.returns
-returns c = search query-laws
+returns c = search query_laws

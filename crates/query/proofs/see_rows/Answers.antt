@@ -1,10 +1,10 @@
 -- `query::see_rows` meets its contract.
 -- Assumes nothing.
-use Rattle.query.proofs.SeenLaws.{see-rows-laws}
+use Rattle.query.proofs.SeenLaws.{see_rows_laws}
 use Rattle.query.proofs.see_rows.Goals as goal
 
 pub follow_rows-requires : goal.follow_rows-requires
-follow_rows-requires c = search see-rows-laws
+follow_rows-requires c = search see_rows_laws
 
 pub returns : goal.returns
-returns c = search see-rows-laws
+returns c = search see_rows_laws

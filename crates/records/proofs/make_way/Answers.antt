@@ -1,11 +1,11 @@
 -- `records::make_way` meets its contract.
 -- Assumes nothing.
 use Rattle.basis.proofs.Kit.{rules}
-use Rattle.records.proofs.EnclosedLaws.{way-laws}
+use Rattle.records.proofs.EnclosedLaws.{way_laws}
 use Rattle.records.proofs.make_way.Goals as goal
 
 pub move_on-requires : goal.move_on-requires
-move_on-requires c = search (rules, way-laws)
+move_on-requires c = search (rules, way_laws)
 
 pub returns : goal.returns
-returns c = search way-laws
+returns c = search way_laws

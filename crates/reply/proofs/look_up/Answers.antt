@@ -1,22 +1,22 @@
 -- `reply::look_up` meets its contract, by its loop's invariant and laws.
 -- Assumes nothing.
-use Rattle.reply.proofs.Names.{look-up-laws}
+use Rattle.reply.proofs.Names.{look_up_laws}
 use Rattle.reply.proofs.look_up.Goals as goal
 
 pub loop-at-init : goal.loop-at-init
-loop-at-init c = search look-up-laws
+loop-at-init c = search look_up_laws
 
 pub slice_bounds-spelled-end : goal.slice_bounds-spelled-end
-slice_bounds-spelled-end c = search look-up-laws
+slice_bounds-spelled-end c = search look_up_laws
 
 pub spelled-requires : goal.spelled-requires
-spelled-requires c = search look-up-laws
+spelled-requires c = search look_up_laws
 
 pub returns-then-wide-reply : goal.returns-then-wide-reply
-returns-then-wide-reply c = search look-up-laws
+returns-then-wide-reply c = search look_up_laws
 
 pub loop-at-preserved : goal.loop-at-preserved
-loop-at-preserved c = search (look-up-laws, c.if-wide-reply.false)
+loop-at-preserved c = search (look_up_laws, c.if-wide-reply.false)
 
 pub returns : goal.returns
-returns c = search look-up-laws
+returns c = search look_up_laws

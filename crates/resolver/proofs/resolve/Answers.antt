@@ -1,10 +1,10 @@
 -- `resolver::resolve` meets its contract.
 -- Assumes nothing.
-use Rattle.resolver.proofs.CallLaws.{resolve-laws}
+use Rattle.resolver.proofs.CallLaws.{resolve_laws}
 use Rattle.resolver.proofs.resolve.Goals as goal
 
 pub returns-in-Refused : goal.returns-in-Refused
-returns-in-Refused c = search resolve-laws
+returns-in-Refused c = search resolve_laws
 
 pub returns : goal.returns
-returns c = search resolve-laws
+returns c = search resolve_laws

@@ -1,10 +1,10 @@
 -- `resolver::verdict` meets its contract.
 -- Assumes nothing.
-use Rattle.resolver.proofs.CallLaws.{verdict-laws}
+use Rattle.resolver.proofs.CallLaws.{verdict_laws}
 use Rattle.resolver.proofs.verdict.Goals as goal
 
 pub returns-in-Refused : goal.returns-in-Refused
-returns-in-Refused c = search verdict-laws
+returns-in-Refused c = search verdict_laws
 
 pub returns : goal.returns
-returns c = search verdict-laws
+returns c = search verdict_laws

@@ -1,104 +1,104 @@
 -- What these functions promise follows from their laws.
 -- Assumes nothing.
 use Rattle.basis.proofs.Kit.{rules}
-use Rattle.values.proofs.ValueLaws.{value-laws}
-use Rattle.values.proofs.ListLaws.{list-laws}
-use Rattle.values.proofs.MessageLaws.{message-laws, put-inside-laws}
-use Rattle.values.proofs.PairLaws.{pair-laws, pairs-laws}
+use Rattle.values.proofs.ValueLaws.{value_laws}
+use Rattle.values.proofs.ListLaws.{list_laws}
+use Rattle.values.proofs.MessageLaws.{message_laws, put_inside_laws}
+use Rattle.values.proofs.PairLaws.{pair_laws, pairs_laws}
 use Rattle.values.proofs.+put_inside_put_list_put_message_put_pair_put_pairs_put_value.Goals as goal
 
 pub put_inside-returns-in_default : goal.put_inside-returns-in_default
-put_inside-returns-in_default t c = search (rules, put-inside-laws)
+put_inside-returns-in_default t c = search (rules, put_inside_laws)
 
 pub put_inside-overflow_sub-end : goal.put_inside-overflow_sub-end
-put_inside-overflow_sub-end t c = search (rules, put-inside-laws)
+put_inside-overflow_sub-end t c = search (rules, put_inside_laws)
 
 pub put_inside-enclose-requires : goal.put_inside-enclose-requires
-put_inside-enclose-requires t c = search (rules, put-inside-laws)
+put_inside-enclose-requires t c = search (rules, put_inside_laws)
 
 pub put_inside-returns : goal.put_inside-returns
-put_inside-returns t c = search (rules, put-inside-laws)
+put_inside-returns t c = search (rules, put_inside_laws)
 
 pub put_list-loop-i-init : goal.put_list-loop-i-init
-put_list-loop-i-init t c = search (rules, list-laws)
+put_list-loop-i-init t c = search (rules, list_laws)
 
 pub put_list-returns-in_default : goal.put_list-returns-in_default
-put_list-returns-in_default t c = search (rules, list-laws)
+put_list-returns-in_default t c = search (rules, list_laws)
 
 pub put_list-put_value-r-requires : goal.put_list-put_value-r-requires
-put_list-put_value-r-requires t c = search (rules, list-laws)
+put_list-put_value-r-requires t c = search (rules, list_laws)
 
 pub put_list-returns-in_default-r : goal.put_list-returns-in_default-r
-put_list-returns-in_default-r t c = search (rules, list-laws)
+put_list-returns-in_default-r t c = search (rules, list_laws)
 
 pub put_list-loop-i-preserved : goal.put_list-loop-i-preserved
-put_list-loop-i-preserved t c = search (rules, list-laws)
+put_list-loop-i-preserved t c = search (rules, list_laws)
 
 pub put_list-returns : goal.put_list-returns
-put_list-returns t c = search (rules, list-laws)
+put_list-returns t c = search (rules, list_laws)
 
 pub put_message-returns-then-wide-ne-TYPE_MESSAGE : goal.put_message-returns-then-wide-ne-TYPE_MESSAGE
-put_message-returns-then-wide-ne-TYPE_MESSAGE t c = search (rules, message-laws)
+put_message-returns-then-wide-ne-TYPE_MESSAGE t c = search (rules, message_laws)
 
 pub put_message-put_inside-requires : goal.put_message-put_inside-requires
-put_message-put_inside-requires t c = search (rules, message-laws)
+put_message-put_inside-requires t c = search (rules, message_laws)
 
 pub put_message-returns-in-NoMessage : goal.put_message-returns-in-NoMessage
-put_message-returns-in-NoMessage t c = search (rules, message-laws)
+put_message-returns-in-NoMessage t c = search (rules, message_laws)
 
 pub put_message-returns-in-Message : goal.put_message-returns-in-Message
-put_message-returns-in-Message t c = search (rules, message-laws)
+put_message-returns-in-Message t c = search (rules, message_laws)
 
 pub put_pair-put_value-requires : goal.put_pair-put_value-requires
-put_pair-put_value-requires t c = search (rules, pair-laws)
+put_pair-put_value-requires t c = search (rules, pair_laws)
 
 pub put_pair-returns-in-On : goal.put_pair-returns-in-On
-put_pair-returns-in-On t c = search (rules, pair-laws)
+put_pair-returns-in-On t c = search (rules, pair_laws)
 
 pub put_pair-returns-in-Passed : goal.put_pair-returns-in-Passed
-put_pair-returns-in-Passed t c = search (rules, pair-laws)
+put_pair-returns-in-Passed t c = search (rules, pair_laws)
 
 pub put_pair-returns-in-Unknown : goal.put_pair-returns-in-Unknown
-put_pair-returns-in-Unknown t c = search (rules, pair-laws)
+put_pair-returns-in-Unknown t c = search (rules, pair_laws)
 
 pub put_pairs-loop-i-init : goal.put_pairs-loop-i-init
-put_pairs-loop-i-init t c = search (rules, pairs-laws)
+put_pairs-loop-i-init t c = search (rules, pairs_laws)
 
 pub put_pairs-returns-in_default : goal.put_pairs-returns-in_default
-put_pairs-returns-in_default t c = search (rules, pairs-laws)
+put_pairs-returns-in_default t c = search (rules, pairs_laws)
 
 pub put_pairs-put_pair-r-requires : goal.put_pairs-put_pair-r-requires
-put_pairs-put_pair-r-requires t c = search (rules, pairs-laws)
+put_pairs-put_pair-r-requires t c = search (rules, pairs_laws)
 
 pub put_pairs-returns-in_default-r : goal.put_pairs-returns-in_default-r
-put_pairs-returns-in_default-r t c = search (rules, pairs-laws)
+put_pairs-returns-in_default-r t c = search (rules, pairs_laws)
 
 pub put_pairs-loop-i-smaller : goal.put_pairs-loop-i-smaller
-put_pairs-loop-i-smaller t c = search (rules, pairs-laws)
+put_pairs-loop-i-smaller t c = search (rules, pairs_laws)
 
 pub put_pairs-loop-i-preserved : goal.put_pairs-loop-i-preserved
-put_pairs-loop-i-preserved t c = search (rules, pairs-laws)
+put_pairs-loop-i-preserved t c = search (rules, pairs_laws)
 
 pub put_pairs-returns : goal.put_pairs-returns
-put_pairs-returns t c = search (rules, pairs-laws)
+put_pairs-returns t c = search (rules, pairs_laws)
 
 pub put_value-returns-in_default : goal.put_value-returns-in_default
-put_value-returns-in_default t c = search (rules, value-laws)
+put_value-returns-in_default t c = search (rules, value_laws)
 
 pub put_value-put_scalar-requires-clause-inside : goal.put_value-put_scalar-requires-clause-inside
-put_value-put_scalar-requires-clause-inside t c = search (rules, value-laws)
+put_value-put_scalar-requires-clause-inside t c = search (rules, value_laws)
 
 pub put_value-overflow_sub-left : goal.put_value-overflow_sub-left
-put_value-overflow_sub-left t c = search (rules, value-laws)
+put_value-overflow_sub-left t c = search (rules, value_laws)
 
 pub put_value-overflow_sub-left-in-Message : goal.put_value-overflow_sub-left-in-Message
-put_value-overflow_sub-left-in-Message t c = search (rules, value-laws)
+put_value-overflow_sub-left-in-Message t c = search (rules, value_laws)
 
 pub put_value-returns-in-Scalar : goal.put_value-returns-in-Scalar
-put_value-returns-in-Scalar t c = search (rules, value-laws)
+put_value-returns-in-Scalar t c = search (rules, value_laws)
 
 pub put_value-returns-in-List : goal.put_value-returns-in-List
-put_value-returns-in-List t c = search (rules, value-laws)
+put_value-returns-in-List t c = search (rules, value_laws)
 
 pub put_value-returns-in-Message : goal.put_value-returns-in-Message
-put_value-returns-in-Message t c = search (rules, value-laws)
+put_value-returns-in-Message t c = search (rules, value_laws)

@@ -1,10 +1,10 @@
 -- `inputs::words::words_of` meets its contract, by its loop's invariant and laws.
 -- Assumes nothing.
-use Rattle.inputs.proofs.WordLaws.{filling-laws}
+use Rattle.inputs.proofs.WordLaws.{filling_laws}
 use Rattle.inputs.proofs.words.words_of.Goals as goal
 
 pub loop-i-preserved : goal.loop-i-preserved
-loop-i-preserved c = search filling-laws
+loop-i-preserved c = search filling_laws
 
 pub returns : goal.returns
-returns c = search filling-laws
+returns c = search filling_laws

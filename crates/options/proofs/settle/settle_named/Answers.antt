@@ -1,13 +1,13 @@
 -- `settle::settle_named` meets its contract.
 -- Assumes nothing.
-use Rattle.options.proofs.settle.SettleLaws.{settle-named-laws}
+use Rattle.options.proofs.settle.SettleLaws.{settle_named_laws}
 use Rattle.options.proofs.settle.settle_named.Goals as goal
 
 pub put_option-requires : goal.put_option-requires
-put_option-requires c = search settle-named-laws
+put_option-requires c = search settle_named_laws
 
 pub returns-in-Next : goal.returns-in-Next
-returns-in-Next c = search settle-named-laws
+returns-in-Next c = search settle_named_laws
 
 pub returns-in-Refused : goal.returns-in-Refused
-returns-in-Refused c = search settle-named-laws
+returns-in-Refused c = search settle_named_laws

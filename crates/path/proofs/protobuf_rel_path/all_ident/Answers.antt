@@ -1,16 +1,16 @@
 -- `path::protobuf_rel_path::all_ident` meets its contract.
 -- Assumes nothing.
-use Rattle.path.proofs.Scans.{checked-laws}
+use Rattle.path.proofs.Scans.{checked_laws}
 use Rattle.path.proofs.protobuf_rel_path.all_ident.Goals as goal
 
 pub slice_bounds-is_ident-end : goal.slice_bounds-is_ident-end
-slice_bounds-is_ident-end c = search checked-laws
+slice_bounds-is_ident-end c = search checked_laws
 
 pub returns-then-not-is_ident : goal.returns-then-not-is_ident
-returns-then-not-is_ident c = search checked-laws
+returns-then-not-is_ident c = search checked_laws
 
 pub returns-then-s-end : goal.returns-then-s-end
-returns-then-s-end c = search checked-laws
+returns-then-s-end c = search checked_laws
 
 pub loop-from-preserved : goal.loop-from-preserved
-loop-from-preserved c = search checked-laws
+loop-from-preserved c = search checked_laws
