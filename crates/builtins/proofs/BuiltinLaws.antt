@@ -30,17 +30,17 @@ use Rattle.builtins.specs.declared.Built.TheVariants.{Skipped, Sets, Wrong}
 use Rattle.builtins.specs.Builtins.{repeated, field_options, is_skipped, built_of, builtin_on, builtin_field, builtin_of}
 
 -- ---- is_skipped and is_plain
-pub skipped-is : (m n : List ℕ) (a b c : Bool) → a ≡ same_bytes m field_options → b ≡ same_bytes n (ascii "default")
+pub skipped_is : (m n : List ℕ) (a b c : Bool) → a ≡ same_bytes m field_options → b ≡ same_bytes n (ascii "default")
     → c ≡ same_bytes n (ascii "json_name") → (a && (b || c)) ≡ is_skipped m n
 unfolding is_skipped
-skipped-is m n a b c p q r = rw (p, q, r)
+skipped_is m n a b c p q r = rw (p, q, r)
 
 -- the types that a builtin may have
 abbrev pub plain : List ℕ
 plain = TYPE_BOOL ∷ TYPE_ENUM ∷ TYPE_STRING ∷ []
 
-pub plain-is : (t : ℕ) → (eqb t TYPE_BOOL || eqb t TYPE_ENUM || eqb t TYPE_STRING) ≡ is_any t plain
-plain-is t = go (eqb t TYPE_BOOL) (eqb t TYPE_ENUM) (eqb t TYPE_STRING)
+pub plain_is : (t : ℕ) → (eqb t TYPE_BOOL || eqb t TYPE_ENUM || eqb t TYPE_STRING) ≡ is_any t plain
+plain_is t = go (eqb t TYPE_BOOL) (eqb t TYPE_ENUM) (eqb t TYPE_STRING)
   where
     go : (a b c : Bool) → (a || b || c) ≡ (a || (b || (c || false)))
     go true b c = refl

@@ -16,7 +16,7 @@ use Rattle.limits.specs.Figures.{most_messages}
 use Rattle.octets.specs.Octets.{part}
 use Rattle.field.specs.Leaf.{any_bytes, leaf_at, span}
 use Rattle.field.specs.Walk.{Walk, done, cut, step, walk}
-use Rattle.field.proofs.LeafLaws.{leaf-bounds, leaf-inside, leaf-ordered, leaf-within}
+use Rattle.field.proofs.LeafLaws.{leaf-bounds, leaf_inside, leaf-ordered, leaf-within}
 use Rattle.field.proofs.Tally.{Tally, total, tally-start, tally_laws}
 use Rattle.sheet.specs.Table.{file_tag, message_tag, package_tag, name_tag}
 use Rattle.sheet.specs.Tree.{Items, none, File, item_in, message_in, items_in, file_in, files_in, tree_of}
@@ -172,7 +172,7 @@ pub ruleset in_item_laws = (
   message-fits,
   none-few,
   few-one,
-  leaf-inside,
+  leaf_inside,
   leaf-ordered,
   leaf-within,
   not-true,
@@ -208,7 +208,7 @@ module _ (m : List ℕ) (x : Asked) (o s : List ℕ) (t a e : ℕ) where
         → (y : ℕ) → y ≡ items_asked m x o s v (items_in most_messages s (walk s l.to e)) → y ≡ files_asked m x o s (file_at s t a e)
     in-file-named l g v u y p = rw (file-named s t a e [] h r q l.from l.to g, p, u) (omega arith)
 
-pub ruleset in_file_laws = (in-file-other, in-file-unnamed, in-file-named, none-few, file-few, leaf-inside, leaf-ordered, leaf-within)
+pub ruleset in_file_laws = (in-file-other, in-file-unnamed, in-file-named, none-few, file-few, leaf_inside, leaf-ordered, leaf-within)
 
 -- ---- in_files
 pub ruleset in_files_laws = (files-start, tally_laws)

@@ -5,7 +5,7 @@ use Rattle.basis.specs.Kit.{sym, ap, ◌∙◌}
 use Rattle.basis.proofs.Kit.{arith, eq-eqb, ne_eqb, not-true, not-false}
 use borrow.Author.Tests.{eqb-true}
 use Rattle.field.specs.Leaf.{any_bytes, leaf_at, span}
-use Rattle.field.proofs.LeafLaws.{leaf-ordered, leaf-inside}
+use Rattle.field.proofs.LeafLaws.{leaf-ordered, leaf_inside}
 use Rattle.inputs.specs.declared.due.Due.{Due}
 use Rattle.inputs.specs.inner.Due.{due_at, due_leaf}
 use Rattle.inputs.proofs.DueLaws.{due-leaf}
@@ -24,19 +24,19 @@ size-no n size e = sym (ne_eqb n size e)
 pub ruleset size_told_laws = (size-yes, size-no)
 
 -- ---- `field_of`
-pub leaf-due : (k : ℕ) (s : List ℕ) (at : ℕ) (d : Due) → d ≡ due_at k s at → (r : Option Span) → r ≡ due_leaf d
+pub leaf_due : (k : ℕ) (s : List ℕ) (at : ℕ) (d : Due) → d ≡ due_at k s at → (r : Option Span) → r ≡ due_leaf d
     → r ≡ leaf_at k any_bytes s at (length s)
-leaf-due k s at d q r p = p ∙ ap due_leaf q ∙ due-leaf k s at
+leaf_due k s at d q r p = p ∙ ap due_leaf q ∙ due-leaf k s at
 
 -- ---- for the programs: a payload of so many bytes
 pub payload-holds : (k : ℕ) (s : List ℕ) (at end : ℕ) (r : Option Span) → r ≡ leaf_at k any_bytes s at end → (u : Span) → r ≡ Some u
     → (size : ℕ) (b : Bool) → b ≡ eqb (u.to - u.from) size → b ≡ true → u.from + size ≤ end
 payload-holds k s at end r q u g size b p t =
     let ordered = leaf-ordered k any_bytes s at end r q u.from u.to g in
-    let inside = leaf-inside k any_bytes s at end r q u.from u.to g in
+    let inside = leaf_inside k any_bytes s at end r q u.from u.to g in
     omega (arith, eqb-true (u.to - u.from) size (sym p ∙ t))
 
 pub input-within : (r : Option ℕ) (room : ℕ) → Fills r room → (n : ℕ) → r ≡ Some n → n ≤ room
 input-within r room f n e = rw e at f
 
-pub ruleset input_laws = (leaf-ordered, leaf-inside, payload-holds, input-within, words_count, not-true, not-false, front_laws)
+pub ruleset input_laws = (leaf-ordered, leaf_inside, payload-holds, input-within, words_count, not-true, not-false, front_laws)

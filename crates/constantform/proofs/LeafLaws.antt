@@ -9,9 +9,9 @@ use Rattle.request.specs.Table.{bool_tag, unsigned_tag, signed_tag, float_tag, s
 use Rattle.request.specs.Table.{pair_field_tag, pair_extension_tag, pair_url_tag, list_tag}
 use Rattle.constantform.specs.Leaves.{is_constant, is_bool, is_url, good_scalar, good_pair_name, good_part}
 
-pub constant-tag : (t : ℕ) → (leb bool_tag t && leb t message_constant_tag || eqb t list_tag) ≡ is_constant t
+pub constant_tag : (t : ℕ) → (leb bool_tag t && leb t message_constant_tag || eqb t list_tag) ≡ is_constant t
 unfolding is_constant
-constant-tag t = refl
+constant_tag t = refl
 
 -- ---- is_bool
 module _ (bs : List ℕ) where
@@ -25,9 +25,9 @@ module _ (bs : List ℕ) where
 
 pub ruleset bool_laws = (bool-size, bool-byte)
 
-pub url-size : (bs : List ℕ) → (leb 1 (length bs) && leb (length bs) most_url) ≡ is_url bs
+pub url_size : (bs : List ℕ) → (leb 1 (length bs) && leb (length bs) most_url) ≡ is_url bs
 unfolding is_url
-url-size bs = refl
+url_size bs = refl
 
 -- ---- good_scalar
 module _ (t : ℕ) (bs : List ℕ) where

@@ -9,7 +9,7 @@ use mir.Facts.{Fits-le}
 use Rattle.limits.specs.Figures.{most_messages}
 use Rattle.field.specs.Leaf.{span, any_bytes, on_leaf, leaf_at}
 use Rattle.field.specs.Walk.{Walk, done, cut, step, walk}
-use Rattle.field.proofs.LeafLaws.{leaf-bounds, leaf-inside}
+use Rattle.field.proofs.LeafLaws.{leaf-bounds, leaf_inside}
 use Rattle.sheet.specs.declared.declaration.Declaration.{Declaration}
 use Rattle.sheet.specs.declared.declaration.Value.{Value}
 use Rattle.sheet.specs.Table.{file_tag, message_tag, extension_tag, enum_tag, field_tag, value_tag, package_tag, name_tag}
@@ -183,7 +183,7 @@ module _ (y z : ℕ) (h : y ≤ 1) where
   pub part-fits : Fits w64 z → Fits w64 (y * z)
   part-fits = Fits-le (part-few z (le_refl z))
 
-pub ruleset holder_laws = (holder-few, holder-fits, leaf-inside)
+pub ruleset holder_laws = (holder-few, holder-fits, leaf_inside)
 
 module _ (k : ℕ) (s : List ℕ) (a e : ℕ) (r : Option Span) (q : r ≡ leaf_at name_tag any_bytes s a e) where
   pub enum-count-unnamed : r ≡ None → 0 ≡ items_hold k (enum_in s a e none)

@@ -14,7 +14,7 @@ use Rattle.limits.specs.Figures.{most_messages}
 use Rattle.octets.specs.Octets.{part, same_bytes}
 use Rattle.field.specs.Leaf.{span, any_bytes, leaf_at, on_leaf}
 use Rattle.field.specs.Walk.{walk}
-use Rattle.field.proofs.LeafLaws.{leaf-ordered, leaf-inside}
+use Rattle.field.proofs.LeafLaws.{leaf-ordered, leaf_inside}
 use Rattle.path.specs.inner.Places.{until_dot, names_from}
 use Rattle.path.proofs.Names.{end_after, end-within, names-past, names-next}
 use Rattle.sheet.specs.Table.{file_tag, package_tag}
@@ -55,7 +55,7 @@ module _ (s : List ℕ) (tag a e : ℕ) where
   package-within l q = go (eqb tag file_tag) q
     where
       go : (b : Bool) → l ≡ elim b [ true ↦ leaf_at package_tag any_bytes s a e | false ↦ None ] → Within l e
-      go true q = record { ordered = leaf-ordered package_tag any_bytes s a e l q; inside = leaf-inside package_tag any_bytes s a e l q }
+      go true q = record { ordered = leaf-ordered package_tag any_bytes s a e l q; inside = leaf_inside package_tag any_bytes s a e l q }
       go false q = record {
         ordered = λ n m g. never cc;
         inside = λ n m g. never cc;

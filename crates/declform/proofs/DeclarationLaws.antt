@@ -35,10 +35,10 @@ unfolding good_shape
 shape_is s h n x t y l z p q = rw (x, y, z, q)
 
 -- ---- good_field
-pub good-field-is : (s : List ℕ) (d : Declaration) (b : Bool) → b ≡ is_ident (part s d.name.from d.name.to)
+pub good_field_is : (s : List ℕ) (d : Declaration) (b : Bool) → b ≡ is_ident (part s d.name.from d.name.to)
     → (h : Bool) → h ≡ good_shape s d.shape → (b && h) ≡ good_field s d
 unfolding good_field
-good-field-is s d b x h y = rw (x, y)
+good_field_is s d b x h y = rw (x, y)
 
 -- ---- is_field
 module _ (s : List ℕ) (a e : ℕ) (r : Option Declaration) (q : r ≡ message_field_at s a e) where

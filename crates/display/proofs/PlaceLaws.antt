@@ -4,7 +4,7 @@ use Rattle.std.specs.Prelude.{◌≡◌, List, ℕ, ◌-◌, ◌≤◌, ◌<◌,
 use Rattle.basis.proofs.Kit.{arith}
 use Rattle.field.specs.Field.{field_at, field}
 use Rattle.field.proofs.FieldLaws.{field-bounds, field-inside, field_place_laws}
-use Rattle.field.proofs.PartLaws.{span-ordered, span-within}
+use Rattle.field.proofs.PartLaws.{span_ordered, span_within}
 use Rattle.lookups.proofs.LookupLaws.{enum-ordered, enum-within}
 use Rattle.field.specs.declared.Field.{Field}
 
@@ -16,4 +16,4 @@ module _ (s : List ℕ) (at end : ℕ) (r : Option Field) (q : r ≡ field_at s 
   pub field-entered : at < end → end - f.from < end - at
   field-entered h = let b = field-bounds s at end r q f g in omega (arith, b.starts)
 
-pub ruleset place_laws = (field-inside, field_place_laws, field-starts, field-entered, span-ordered, span-within, enum-ordered, enum-within)
+pub ruleset place_laws = (field-inside, field_place_laws, field-starts, field-entered, span_ordered, span_within, enum-ordered, enum-within)

@@ -77,13 +77,13 @@ module _ (q : Question) (s t : List ℕ) where
 
 pub ruleset why_not_laws = (why-long, why-short)
 
-pub unclean-is : (s : List ℕ) (r : Reason) → r ≡ why_not Clean s s → r ≡ why_unclean s
+pub unclean_is : (s : List ℕ) (r : Reason) → r ≡ why_not Clean s s → r ≡ why_unclean s
 unfolding why_not why_unclean
-unclean-is s r p = p
+unclean_is s r p = p
 
-pub uncontained-is : (s t : List ℕ) (r : Reason) → r ≡ why_not Contained s t → r ≡ why_uncontained s t
+pub uncontained_is : (s t : List ℕ) (r : Reason) → r ≡ why_not Contained s t → r ≡ why_uncontained s t
 unfolding why_not why_uncontained
-uncontained-is s t r p = p
+uncontained_is s t r p = p
 
 unclean-short : (s : List ℕ) → length s ≤ most_sheet → why_unclean s ≡ clean_reason s
 unfolding why_unclean

@@ -25,8 +25,8 @@ use Rattle.evolution.specs.inner.Bearers.{number_for, rest_flaw, own_flaw}
 use Rattle.evolution.proofs.LiesLaws.{declared_lies_laws, bearer_lies_laws}
 
 -- ---- names_one
-pub names-one-is : (s t : List ℕ) (k n : ℕ) → n ≡ bearing k t (every_declared s) → eqb n 1 ≡ names_one s k t
-names-one-is s t k n q = rw q refl
+pub names_one_is : (s t : List ℕ) (k n : ℕ) → n ≡ bearing k t (every_declared s) → eqb n 1 ≡ names_one s k t
+names_one_is s t k n q = rw q refl
 
 -- ---- path_named
 module _ (s : List ℕ) (d : Declaration) (t : ℕ) (e : t ≡ d.shape.typ) (b : Bool) (q : b ≡ has_type_path t) where

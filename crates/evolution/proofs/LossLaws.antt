@@ -42,10 +42,10 @@ number-loss-is s t m d k n q r u = u ∙ rw (count-any (λ (y : Number). same_by
 pub ruleset number_loss_laws = (number-loss-is, declared_lies_laws)
 
 -- ---- loss_of_name
-pub name-loss-is : (t x : List ℕ) (g : ℕ) (w : Why) (k n : ℕ) → n ≡ bearing g x (every_declared t)
+pub name_loss_is : (t x : List ℕ) (g : ℕ) (w : Why) (k n : ℕ) → n ≡ bearing g x (every_declared t)
     → (r : Reason) → r ≡ or_no (not (eqb n 0)) w k (span 0 0) → r ≡ name_loss t x g w k
 unfolding name_loss
-name-loss-is t x g w k n q r u = u ∙ rw (count-any (λ b. of_kind g b && bears x b) (every_declared t) n q) refl
+name_loss_is t x g w k n q r u = u ∙ rw (count-any (λ b. of_kind g b && bears x b) (every_declared t) n q) refl
 
 -- ---- own_loss
 module _ (t x : List ℕ) (k : ℕ) (b : Bearer) where

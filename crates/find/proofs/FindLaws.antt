@@ -16,7 +16,7 @@ use Rattle.reply.proofs.Outcomes.{answered-refused}
 use Rattle.reply.proofs.VerdictLaws.{first-fine-front}
 use Rattle.field.specs.declared.Span.{Span}
 use Rattle.field.specs.Part.{PartOf, no_bytes, span_in}
-use Rattle.field.proofs.PartLaws.{span-ordered, span-within}
+use Rattle.field.proofs.PartLaws.{span_ordered, span_within}
 use Rattle.sheetform.specs.Form.{judge_length, judge_sheet}
 use Rattle.search.specs.declared.extension.Found.{Found}
 use Rattle.search.specs.Lookup.{find_extension_by_path}
@@ -170,4 +170,4 @@ pub ruleset find_laws = (find-refused, find-found)
 
 pub ruleset name_in_laws = (name-ordered, name-within, name-bad-sheet, name-refused, name-found)
 
-pub ruleset found_name_laws = (span-ordered, span-within, name-no-scope, name-no-path, name-for)
+pub ruleset found_name_laws = (span_ordered, span_within, name-no-scope, name-no-path, name-for)

@@ -26,7 +26,7 @@ words-end l at ws m i k h = (laying-end l at ws m (length ws) i k h).left
 pub ruleset words_laws = (words-start, words-end, laying-next, laying-inside, laying-room, laying-length)
 
 -- ---- levels
-pub level-said : (st : List ℕ) (l : ℕ)
+pub level_said : (st : List ℕ) (l : ℕ)
     → record {
       end = get_or st (l * level_words) 0;
       name = span (get_or st (l * level_words + 1) 0) (get_or st (l * level_words + 2) 0);
@@ -38,19 +38,19 @@ pub level-said : (st : List ℕ) (l : ℕ)
       };
     } ≡ level_at st l
 unfolding level_at
-level-said st l = refl
+level_said st l = refl
 
 -- the code's word of a flag
 flag_word : (b : Bool) → bool_byte b ≡ only_if b 1 0
 flag_word true = refl
 flag_word false = refl
 
-pub level-written : (st : List ℕ) (l : ℕ) (v : Level) (st' : List ℕ)
+pub level_written : (st : List ℕ) (l : ℕ) (v : Level) (st' : List ℕ)
     → st' ≡ sets st (l * level_words)
     (v.end ∷ v.name.from ∷ v.name.to ∷ v.place.file ∷ bool_byte v.place.message ∷ v.place.body.from ∷ v.place.body.to
     ∷ v.place.left ∷ [])
     → st' ≡ sets st (l * level_words) (words_of v)
-level-written st l v st' e = rw (flag_word v.place.message) at e
+level_written st l v st' e = rw (flag_word v.place.message) at e
 
 flag-read : (b : Bool) → not (eqb (only_if b 1 0) 0) ≡ b
 flag-read true = refl

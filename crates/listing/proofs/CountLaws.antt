@@ -20,11 +20,11 @@ use Rattle.listing.specs.inner.Worded.{WroteAtMost}
 use Rattle.listing.specs.inner.Admitted.{counted}
 
 -- ---- count_words
-pub words-counted : (o : Outcome ℕ) (l l' : List ℕ) (r : Result ℕ Cause) → Puts o 0 l l' r → r ≡ counted o
-words-counted o l l' (Ok n) k =
+pub words_counted : (o : Outcome ℕ) (l l' : List ℕ) (r : Result ℕ Cause) → Puts o 0 l l' r → r ≡ counted o
+words_counted o l l' (Ok n) k =
     let g = put-wrote n k refl in
     ap Ok (g.laid.next ∙ zero-add (length g.elements)) ∙ sym (ap counted g.is)
-words-counted o l l' (Err c) k = sym (ap counted (put_refused c k refl))
+words_counted o l l' (Err c) k = sym (ap counted (put_refused c k refl))
 
 none-put : (l l' : List ℕ) (r : Result ℕ Cause) → Puts nothing 0 l l' r → ⊥
 none-put l l' (Ok n) k = let e = (put-wrote n k refl).is in never cc

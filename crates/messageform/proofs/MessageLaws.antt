@@ -10,7 +10,7 @@ use Rattle.field.specs.Walk.{Walk}
 use Rattle.field.specs.Leaf.{leaf_at, span}
 use Rattle.form.specs.Each.{each}
 use Rattle.field.proofs.FieldLaws.{field-ordered}
-use Rattle.field.proofs.LeafLaws.{leaf-inside}
+use Rattle.field.proofs.LeafLaws.{leaf_inside}
 use Rattle.field.proofs.Rest.{Rest, rest-start}
 use Rattle.form.proofs.EachLaws.{each_laws}
 use Rattle.sheet.specs.Table.{message_tag, extension_tag, enum_tag, field_tag, value_tag, name_tag}
@@ -42,7 +42,7 @@ module _ (s : List ℕ) (a e : ℕ) (r : Option Span) (q : r ≡ leaf_at name_ta
 
   pub enum-start : (p : Span) → r ≡ Some p → e ≤ length s → Rest (judge_enum s a e) (values s) s e p.to
   unfolding judge_enum
-  enum-start p g h = rw (← q, g) (rest-start (values s) s p.to e (leaf-inside name_tag is_ident s a e r q p.from p.to g) h)
+  enum-start p g h = rw (← q, g) (rest-start (values s) s p.to e (leaf_inside name_tag is_ident s a e r q p.from p.to g) h)
 
 pub ruleset enum_laws = (enum-unnamed, enum-start, field-ordered, each_laws)
 
@@ -118,4 +118,4 @@ module _ (d : ℕ) (s : List ℕ) (a e : ℕ) where
     pub message-named : (u : Span) → r ≡ Some u → (v : Verdict) → v ≡ judge_items (d - 1) true s u.to e → v ≡ judge_message d s a e
     message-named u g v p = p ∙ named s a e d z u.from u.to (sym q ∙ g)
 
-pub ruleset message_laws = (message-beyond, message-unnamed, message-named, leaf-inside)
+pub ruleset message_laws = (message-beyond, message-unnamed, message-named, leaf_inside)

@@ -11,7 +11,7 @@ use Rattle.basis.proofs.FirstLaws.{Every, none_of, one_of, every_append}
 use Rattle.limits.specs.Figures.{most_messages}
 use Rattle.field.specs.Leaf.{span, any_bytes, leaf_at, text, Lies}
 use Rattle.field.specs.Walk.{walk}
-use Rattle.field.proofs.LeafLaws.{leaf-inside}
+use Rattle.field.proofs.LeafLaws.{leaf_inside}
 use Rattle.field.proofs.WalkLaws.{walk-holds}
 use Rattle.sheet.specs.Table.{name_tag}
 use Rattle.sheet.specs.Tree.{Items, item_in, message_in, items_in, values_in, File}
@@ -34,7 +34,7 @@ All s bs = Every (λ b. Stands s b.what) bs
 module _ (d : ℕ) (s f : List ℕ) (c : Scope) (same : c.place.left ≡ d) (t a e : ℕ) (rest : Items) (h : e ≤ length s)
     (k : All s (declared_in s f c rest)) where
   body-lies : (q : Span) → leaf_at name_tag any_bytes s a e ≡ Some q → Lies (span q.to e) s
-  body-lies q p = (leaf-inside name_tag any_bytes s a e (Some q) (sym p) q refl, h)
+  body-lies q p = (leaf_inside name_tag any_bytes s a e (Some q) (sym p) q refl, h)
 
   item-stands : ((d ≡ 0 → ⊥) → (f : List ℕ) (c : Scope) → c.place.left ≡ d - 1 → (at : ℕ)
       → All s (declared_in s f c (items_in (d - 1) s (walk s at e))))

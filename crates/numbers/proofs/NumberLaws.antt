@@ -14,7 +14,7 @@ use Rattle.limits.specs.Figures.{most_messages}
 use Rattle.field.specs.Leaf.{is_text, any_bytes, leaf_at, span}
 use Rattle.field.specs.Field.{field_at, field}
 use Rattle.field.specs.Walk.{Walk, walk}
-use Rattle.field.proofs.LeafLaws.{leaf-inside}
+use Rattle.field.proofs.LeafLaws.{leaf_inside}
 use Rattle.field.proofs.Seek.{seek, seek_is, Seeking, seek-start, seek-next, seek_laws}
 use Rattle.sheet.specs.declared.declaration.Declaration.{Declaration}
 use Rattle.sheet.specs.Table.{file_tag, message_tag, extension_tag, field_tag, package_tag, name_tag}
@@ -103,7 +103,7 @@ module _ (good : Declaration → Bool) (d : ℕ) (s : List ℕ) (t a e : ℕ) wh
       in-item-named z u g x p =
           rw (item-message (message_in d s) s t a e none h, message-named d s a e none z l q u.from u.to g, append-nil) p
 
-pub ruleset in_item_laws = (in-item-other, in-item-beyond, in-item-unnamed, in-item-named, leaf-inside)
+pub ruleset in_item_laws = (in-item-other, in-item-beyond, in-item-unnamed, in-item-named, leaf_inside)
 
 abbrev pub item_where : (good : Declaration → Bool) (left : ℕ) (s : List ℕ) (tag from to : ℕ) → Option Declaration
 item_where good d s t a e = declared (first good (every_extension_of (item_at d s t a e)))
@@ -152,7 +152,7 @@ module _ (good : Declaration → Bool) (s : List ℕ) (t a e : ℕ) where
         → x ≡ declared (first good (every_extension (file_at s t a e)))
     in-file-named u g x p = rw (file-named s t a e [] h r q u.from u.to g, append-nil) p
 
-pub ruleset in_file_laws = (in-file-other, in-file-unnamed, in-file-named, leaf-inside)
+pub ruleset in_file_laws = (in-file-other, in-file-unnamed, in-file-named, leaf_inside)
 
 -- ---- extension_numbered
 abbrev pub file_where : (good : Declaration → Bool) (s : List ℕ) (tag from to : ℕ) → Option Declaration

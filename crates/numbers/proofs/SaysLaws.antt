@@ -8,7 +8,7 @@ use Rattle.basis.proofs.Never.{never}
 use Rattle.octets.specs.Octets.{big_at}
 use Rattle.field.specs.declared.Span.{Span}
 use Rattle.field.specs.Leaf.{span, any_bytes, of_size, leaf_at}
-use Rattle.field.proofs.LeafLaws.{leaf-inside, size_laws, on-leaf-some}
+use Rattle.field.proofs.LeafLaws.{leaf_inside, size_laws, on-leaf-some}
 use Rattle.sheet.specs.declared.declaration.Shape.{Shape}
 use Rattle.sheet.specs.declared.declaration.Declaration.{Declaration}
 use Rattle.sheet.specs.Table.{extension_tag, field_tag, name_tag, extendee_tag, number_tag, type_tag, label_tag}
@@ -25,7 +25,7 @@ module _ (k : ℕ) (s : List ℕ) (at end : ℕ) (r : Option Span) (q : r ≡ le
   pub says_some : (p : Span) → r ≡ Some p → (x : ℕ) → x ≡ big_at 4 s p.from → eqb x k ≡ says_number k s at end
   says_some p g x u = rw (← q, g, ← u)
 
-pub ruleset says_number_laws = (says_none, says_some, leaf-inside, size_laws)
+pub ruleset says_number_laws = (says_none, says_some, leaf_inside, size_laws)
 
 -- ---- field_says
 module _ (k : ℕ) (s : List ℕ) (a e : ℕ) (r : Option Span) (q : r ≡ leaf_at name_tag any_bytes s a e) where
@@ -46,9 +46,9 @@ module _ (k : ℕ) (s : List ℕ) (a e : ℕ) (r : Option Span) (q : r ≡ leaf_
     pub extension-says-some : (l : Span) → r' ≡ Some l → (b : Bool) → b ≡ says_number k s l.to e → b ≡ extension_says k s a e
     extension-says-some l g' b u = rw (← q, g, ← q', g') u
 
-pub ruleset field_says_laws = (field-says-none, field-says-some, leaf-inside)
+pub ruleset field_says_laws = (field-says-none, field-says-some, leaf_inside)
 
-pub ruleset extension_says_laws = (extension-says-none, extension-says-of-none, extension-says-some, leaf-inside)
+pub ruleset extension_says_laws = (extension-says-none, extension-says-of-none, extension-says-some, leaf_inside)
 
 -- ---- a declaration has the number that stands there
 shape-says : (k : ℕ) (s : List ℕ) (at end : ℕ) (h : Shape) → Some h ≡ shape_at s at end → eqb h.number k ≡ says_number k s at end

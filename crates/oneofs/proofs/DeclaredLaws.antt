@@ -53,6 +53,6 @@ fields-declared ws =
     ap (λ (o : Outcome ℕ). elim (ltb most_words (length ws)) [ true ↦ refuse BeyondLimit | false ↦ o ])
     (groups-same (real_count ws) 0 0 0 None 0 ws refl refl).words
 
-pub answered-declared : (ws before after : List ℕ) (a : Answer) → Answered (lower_fields_by declared ws) before after a
+pub answered_declared : (ws before after : List ℕ) (a : Answer) → Answered (lower_fields_by declared ws) before after a
     → Answered (lower_fields ws) before after a
-answered-declared ws before after a k = rw (fields-declared ws) at k
+answered_declared ws before after a k = rw (fields-declared ws) at k

@@ -167,9 +167,9 @@ module _
     (numbering step : ℕ) (t : step ≡ index_of numbering 0 (oneof real 0 1)) (reals : ℕ) (ws l m : List ℕ)
     (next-real next-synthetic member n i : ℕ) (u : Numbering numbering reals ws l m next-real next-synthetic member n i)
     (h : i < length ws) (a : get_or ws i 0 ≡ 0 → ⊥) where
-  pub numbering-optional : get_or ws i 0 ≡ 1 → (l' : List ℕ) → l' ≡ sets m n ((next-synthetic + 1) ∷ [])
+  pub numbering_optional : get_or ws i 0 ≡ 1 → (l' : List ℕ) → l' ≡ sets m n ((next-synthetic + 1) ∷ [])
       → Numbering numbering reals ws l l' (next-real + step) (next-synthetic + 1) 0 (n + 1) (i + 1)
-  numbering-optional b =
+  numbering_optional b =
       let k = held-optional numbering reals u.r u.s _ _ _ _ u.held step t in
       let e = words-optional numbering reals u.r u.s u.group (get_or ws i 0) (drop (i + 1) ws) a b in
       wrote numbering reals ws l m next-real next-synthetic member n i u h u.r (suc u.s) None
@@ -188,7 +188,7 @@ pub ruleset numbering_laws = (
   numbering-length,
   numbering-done,
   numbering-plain,
-  numbering-optional,
+  numbering_optional,
   numbering-opens,
   numbering-other,
   numbering-stray,

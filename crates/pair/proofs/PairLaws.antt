@@ -22,9 +22,9 @@ abbrev pub paired : ℕ → ℕ → ℕ → ℕ → ℕ → ℕ → Pair
 paired t a e k b f = record { by = t; name = span a e; tag = k; constant = span b f }
 
 -- ---- is_pair_name
-pub pair-name-is : (t : ℕ) → (leb pair_field_tag t && leb t pair_url_tag) ≡ is_pair_name t
+pub pair_name_is : (t : ℕ) → (leb pair_field_tag t && leb t pair_url_tag) ≡ is_pair_name t
 unfolding is_pair_name
-pair-name-is t = refl
+pair_name_is t = refl
 
 -- ---- pair_at
 module _ (s : List ℕ) (at end : ℕ) (r : Option Field) (q : r ≡ field_at s at end) where

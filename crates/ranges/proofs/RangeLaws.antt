@@ -30,9 +30,9 @@ word z = to_z w32 (of_z w32 z)
 word_back : (z : ℤ) → mag z < 2147483648 → word z ≡ z
 word_back z h = to_z-of_z {w = w32} (record { sfits = h })
 
-pub range-put : (l m l' : List ℤ) (at : ℕ) (s e : ℤ) → SFits w32 s → SFits w32 e
+pub range_put : (l m l' : List ℤ) (at : ℕ) (s e : ℤ) → SFits w32 s → SFits w32 e
     → m ≡ sets l at (word s ∷ []) → l' ≡ sets m (at + 1) (word e ∷ []) → l' ≡ sets l at (s ∷ e ∷ [])
-range-put l m l' at s e fs fe a b = b ∙ rw (a, to_z-of_z fs, to_z-of_z fe, add-one at)
+range_put l m l' at s e fs fe a b = b ∙ rw (a, to_z-of_z fs, to_z-of_z fe, add-one at)
 
 -- ---- the loop: the first i words are lowered
 pub record Ranging (k : ℕ) (ws l l' : List ℤ) (i : ℕ) : Type 0 where

@@ -87,10 +87,10 @@ module _ {n w : ℕ} {lead body ys : List ℕ} (f : Front n w lead body ys) wher
           let low = wire-read-lt w f.good in
           rw (body-is, number-of-tag-of n w low, wire-type-of-tag-of n w low) refl
 
-      plain-is : wire_of d.shape.typ ≡ w
+      plain_is : wire_of d.shape.typ ≡ w
           → by_declaration L s m place all (is d) (tag_of n w) (length v) (is extent)
           ≡ plain L s m place all d (tag_of n w) (length v) (is extent)
-      plain-is e =
+      plain_is e =
           let same : wire_of d.shape.typ ≡ wire_type_of (tag_of n w) = e ∙ sym (wire-type-of-tag-of n w (wire-read-lt w f.good)) in
           rw (known, eq-eqb _ _ same)
 
@@ -104,11 +104,11 @@ module _ {n w : ℕ} {lead body ys : List ℕ} (f : Front n w lead body ys) wher
       item-plain : (d.shape.typ ≡ TYPE_MESSAGE → ⊥)
           → item L s m place all ≡ some (entry_by (is d) n w at body ∷ []) (length (record_bytes n w lead body))
       item-plain h =
-          item-is ∙ rw q (plain-is d e ∙ rw (plain, ne_eqb _ _ h, entry-is d, size_is))
+          item-is ∙ rw q (plain_is d e ∙ rw (plain, ne_eqb _ _ h, entry-is d, size_is))
 
       item-message : d.shape.typ ≡ TYPE_MESSAGE → (p : LookupScope) → L.message (path_of s d) ≡ Ok p
           → item L s m place all ≡ into (entry_by (is d) n w at body) (reached_by s d p) (head_size n w lead) (length body)
-      item-message h p g = item-is ∙ rw q (plain-is d e ∙ rw (plain, eq-eqb _ _ h, entry-is d, g))
+      item-message h p g = item-is ∙ rw q (plain_is d e ∙ rw (plain, eq-eqb _ _ h, entry-is d, g))
 
     -- ---- the reading step, and what is left behind the record
     module _ (inner : Message → ℕ → List ℕ → Listed) where

@@ -250,10 +250,10 @@ module _ (s : List ℕ) (t a e : ℕ) (r : Option Constant) (q : r ≡ constant_
   pub span-place : p ≡ span a e
   span-place = span-placed a e o (subst (PlacedIn a e) (sym q ∙ g) (constant-placed a e s t))
 
-  pub span-ordered : a ≤ e → p.from ≤ p.to
-  span-ordered h = rw span-place h
+  pub span_ordered : a ≤ e → p.from ≤ p.to
+  span_ordered h = rw span-place h
 
-  pub span-within : e ≤ length s → p.to ≤ length s
-  span-within h = rw span-place h
+  pub span_within : e ≤ length s → p.to ≤ length s
+  span_within h = rw span-place h
 
-pub ruleset constant_spans = (text-span, ident-span, message-span, list-span, span-ordered, span-within)
+pub ruleset constant_spans = (text-span, ident-span, message-span, list-span, span_ordered, span_within)

@@ -9,7 +9,7 @@ use Rattle.field.specs.Field.{field_at, field}
 use Rattle.field.specs.Leaf.{span, any_bytes, on_leaf, leaf_at}
 use Rattle.field.specs.Walk.{walk}
 use Rattle.field.proofs.FieldLaws.{Bounds, field-bounds}
-use Rattle.field.proofs.LeafLaws.{leaf-bounds, leaf-inside}
+use Rattle.field.proofs.LeafLaws.{leaf-bounds, leaf_inside}
 use Rattle.field.proofs.WalkLaws.{walk-done, walk-cut, walk_step}
 use Rattle.field.proofs.Rest.{Rest, rest-start, rest_end}
 use Rattle.request.specs.declared.name.Part.{Part}
@@ -44,7 +44,7 @@ module _ (s : List ℕ) (l : Option Span) (q : l ≡ leaf_at scope_tag any_bytes
     pub heading-is : (u : Span) → l' ≡ Some u → heads p.from p.to u.from u.to ≡ heading_of s
     heading-is u g' = rw (heading-open, g')
 
-pub ruleset heading_laws = (heading-unscoped, heading-untyped, heading-is, leaf-inside)
+pub ruleset heading_laws = (heading-unscoped, heading-untyped, heading-is, leaf_inside)
 
 -- ---- where a heading lies
 pub record HeadingPlaces (s : List ℕ) (h : Heading) : Type 0 where

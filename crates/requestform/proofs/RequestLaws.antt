@@ -11,7 +11,7 @@ use Rattle.reply.specs.Verdicts.{judged, beyond, Verdict}
 use Rattle.reply.proofs.VerdictLaws.{says}
 use Rattle.reply.specs.declared.Refusal.{Refusal}
 use Rattle.field.specs.Leaf.{leaf_at, span}
-use Rattle.field.proofs.LeafLaws.{leaf-inside}
+use Rattle.field.proofs.LeafLaws.{leaf_inside}
 use Rattle.field.specs.Field.{field_at, field}
 use Rattle.field.specs.Walk.{walk}
 use Rattle.field.proofs.FieldLaws.{field-bounds, field-ordered}
@@ -57,7 +57,7 @@ module _ (s : List ℕ) where
       unfolding judge_request
       request-options w k v y = simp (judge_request, le-ltb most_request (length s) h, ← q, g, ← p, k) y
 
-pub ruleset request_laws = (says, request-long, request-scope, request-type, request-options, leaf-inside)
+pub ruleset request_laws = (says, request-long, request-scope, request-type, request-options, leaf_inside)
 
 -- ---- check_scope, check_options_type, check_path
 module _ (t : List ℕ) (b : Bool) (v : Verdict) (p : v ≡ judged BadRequest b) where

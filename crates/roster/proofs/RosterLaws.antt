@@ -50,8 +50,8 @@ use Rattle.sheet.specs.declared.declaration.Shape.{Shape}
 -- ---- put_name and put_inside
 module _ (s : List ℕ) (n m at : ℕ) (o : n ≤ m) (h : m ≤ length s) (g : at < n) (before : List ℕ) (k : length s ≤ length before)
     (after : List ℕ) (r : ℕ) where
-  pub name-spelt : Laid before at (part s n m) after r → Spelt before at (part s n m) after r
-  name-spelt = laid-spelt before at (part s n m) after r (omega (arith, part_length s n m h))
+  pub name_spelt : Laid before at (part s n m) after r → Spelt before at (part s n m) after r
+  name_spelt = laid-spelt before at (part s n m) after r (omega (arith, part_length s n m h))
 
   module _ (x : Spelt before at (part s n m) after r) where
     name-ends : r < m

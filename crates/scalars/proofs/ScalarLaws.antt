@@ -16,20 +16,20 @@ use Rattle.records.specs.declared.Body.TheVariants.{Bits, Bytes}
 use Rattle.scalars.specs.Scalars.{is_small, is_signed, is_integer, width, most_of, pattern_of, integer_on, float_on, string_on, bool_on}
 
 -- ---- the integer types
-pub is-small : (t : ℕ)
+pub is_small : (t : ℕ)
     → (eqb t TYPE_INT32 || eqb t TYPE_SINT32 || eqb t TYPE_SFIXED32 || eqb t TYPE_UINT32 || eqb t TYPE_FIXED32) ≡ is_small t
 unfolding is_small
-is-small t = refl
+is_small t = refl
 
-pub is-signed : (t : ℕ)
+pub is_signed : (t : ℕ)
     → (eqb t TYPE_INT32 || eqb t TYPE_SINT32 || eqb t TYPE_SFIXED32 || eqb t TYPE_INT64 || eqb t TYPE_SINT64 || eqb t TYPE_SFIXED64)
     ≡ is_signed t
 unfolding is_signed
-is-signed t = refl
+is_signed t = refl
 
-pub is-integer : (t : ℕ) (a b : Bool) → a ≡ is_small t → b ≡ is_signed t → (a || b || eqb t TYPE_UINT64 || eqb t TYPE_FIXED64) ≡ is_integer t
+pub is_integer : (t : ℕ) (a b : Bool) → a ≡ is_small t → b ≡ is_signed t → (a || b || eqb t TYPE_UINT64 || eqb t TYPE_FIXED64) ≡ is_integer t
 unfolding is_integer
-is-integer t a b p q = rw (p, q) refl
+is_integer t a b p q = rw (p, q) refl
 
 -- ---- most_of
 module _ (t : ℕ) (a b : Bool) (p : a ≡ is_signed t) (q : b ≡ is_small t) where

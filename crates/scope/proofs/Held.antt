@@ -15,7 +15,7 @@ use Rattle.field.specs.declared.Span.{Span}
 use Rattle.field.specs.Leaf.{span, is_text, any_bytes, leaf_at}
 use Rattle.field.specs.Walk.{walk}
 use Rattle.field.proofs.WalkLaws.{walk-holds}
-use Rattle.field.proofs.LeafLaws.{leaf-inside}
+use Rattle.field.proofs.LeafLaws.{leaf_inside}
 use Rattle.sheet.specs.Table.{name_tag}
 use Rattle.sheet.specs.Tree.{values_in, items_in}
 use Rattle.sheet.specs.Members.{Message, Enumeration, messages_of, enums_of}
@@ -42,10 +42,10 @@ module _ (d : ℕ) (s : List ℕ) (end : ℕ) where
   -- the message or the enum of the name n..m that a field a..e is
   module _ (a e : ℕ) (h : e ≤ end) (q : Span) (p : leaf_at name_tag any_bytes s a e ≡ Some q) where
     message-held : Held d s end (record { name = q; body = span q.to e; inside = items_in (d - 1) s (walk s q.to e) })
-    message-held = record { inside = refl; ordered = leaf-inside name_tag any_bytes s a e (Some q) (sym p) q refl; within = h }
+    message-held = record { inside = refl; ordered = leaf_inside name_tag any_bytes s a e (Some q) (sym p) q refl; within = h }
 
     enumeration-held : HeldEnum s end (record { name = q; body = span q.to e; values = values_in s (walk s q.to e) })
-    enumeration-held = record { values = refl; ordered = leaf-inside name_tag any_bytes s a e (Some q) (sym p) q refl; within = h }
+    enumeration-held = record { values = refl; ordered = leaf_inside name_tag any_bytes s a e (Some q) (sym p) q refl; within = h }
 
   messages-held : (at : ℕ) → Every (Held d s end) (messages_of (items_in d s (walk s at end)))
   unfolding items_in

@@ -156,9 +156,9 @@ module _ (s n : List ℕ) (p : LookupScope) where
 pub ruleset down_laws = (down-beyond, down-none, down-some)
 
 -- ---- enum_named
-pub enum-named-is : (s n : List ℕ) (p : LookupScope) (r : Option Span)
+pub enum_named_is : (s n : List ℕ) (p : LookupScope) (r : Option Span)
     → r ≡ body_named enum_tag n s (walk s p.body.from p.body.to) → r ≡ bodied (enum_named s n (holding s p))
-enum-named-is s n p r q =
+enum_named_is s n p r q =
     q ∙ sym (first-named p.left s n enum_tag enums_of (λ x. x.name) (λ x. x.body)
     (λ x y e. record { name = span x y; body = span y e; values = values_in s (walk s y e) }) refl
     (enums-other p.left s) (λ t a e rest q. enums-unnamed p.left s t a e rest None (sym q) refl)

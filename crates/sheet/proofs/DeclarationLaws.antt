@@ -4,7 +4,7 @@ use Rattle.std.specs.Prelude.{◌≡◌, List, ℕ, None, Some, Option}
 use Rattle.basis.proofs.Kit.{eq-eqb, ne_eqb}
 use Rattle.octets.specs.Octets.{big_at}
 use Rattle.field.specs.Leaf.{span, any_bytes, of_size, leaf_at}
-use Rattle.field.proofs.LeafLaws.{leaf-inside, size_laws}
+use Rattle.field.proofs.LeafLaws.{leaf_inside, size_laws}
 use Rattle.sheet.specs.declared.declaration.Shape.{Shape}
 use Rattle.sheet.specs.Table.{name_tag, extendee_tag, signed_number_tag}
 use Rattle.sheet.specs.Declaration.{last_at, shape_at, extension_at, message_field_at, value_at}
@@ -31,7 +31,7 @@ module _ (s : List ℕ) (a e : ℕ) (r : Option Span) (q : r ≡ leaf_at name_ta
       unfolding extension_at
       extension-whole h y = rw (← q, g, ← q', g', ← z, y)
 
-pub ruleset extension_laws = (extension-unnamed, extension-of-none, extension-no-shape, extension-whole, leaf-inside)
+pub ruleset extension_laws = (extension-unnamed, extension-of-none, extension-no-shape, extension-whole, leaf_inside)
 
 -- ---- message_field_at
 module _ (s : List ℕ) (a e : ℕ) (r : Option Span) (q : r ≡ leaf_at name_tag any_bytes s a e) where
@@ -49,7 +49,7 @@ module _ (s : List ℕ) (a e : ℕ) (r : Option Span) (q : r ≡ leaf_at name_ta
     unfolding message_field_at
     field-whole h y = rw (← q, g, ← z, y)
 
-pub ruleset field_laws = (field-unnamed, field-no-shape, field-whole, leaf-inside)
+pub ruleset field_laws = (field-unnamed, field-no-shape, field-whole, leaf_inside)
 
 -- ---- value_at
 module _ (s : List ℕ) (a e : ℕ) (r : Option Span) (q : r ≡ leaf_at name_tag any_bytes s a e) where
@@ -72,4 +72,4 @@ module _ (s : List ℕ) (a e : ℕ) (r : Option Span) (q : r ≡ leaf_at name_ta
       unfolding value_at
       value-whole h number u = rw (← q, g, ← q', g') (simp (last_at, eq-eqb l.to e h, u))
 
-pub ruleset value_laws = (value-unnamed, value-no-number, value-early, value-whole, leaf-inside, size_laws)
+pub ruleset value_laws = (value-unnamed, value-no-number, value-early, value-whole, leaf_inside, size_laws)

@@ -12,7 +12,7 @@ use Rattle.limits.specs.Figures.{most_messages}
 use Rattle.field.specs.declared.Span.{Span}
 use Rattle.field.specs.Leaf.{span, any_bytes, leaf_at, Lies}
 use Rattle.field.specs.Walk.{walk}
-use Rattle.field.proofs.LeafLaws.{leaf-inside}
+use Rattle.field.proofs.LeafLaws.{leaf_inside}
 use Rattle.field.proofs.WalkLaws.{walk-holds}
 use Rattle.sheet.specs.declared.declaration.Declaration.{Declaration}
 use Rattle.sheet.specs.declared.declaration.Value.{Value}
@@ -40,7 +40,7 @@ pub data Lying (s : List ℕ) : Items → Type 0 where
 
 module _ (d : ℕ) (s : List ℕ) (t a e : ℕ) (rest : Items) (h : e ≤ length s) (k : Lying s rest) where
   body-lies : (g : ℕ) (q : Span) → leaf_at g any_bytes s a e ≡ Some q → Lies (span q.to e) s
-  body-lies g q p = (leaf-inside g any_bytes s a e (Some q) (sym p) q refl, h)
+  body-lies g q p = (leaf_inside g any_bytes s a e (Some q) (sym p) q refl, h)
 
   item-lies : ((d ≡ 0 → ⊥) → (at : ℕ) → Lying s (items_in (d - 1) s (walk s at e))) → Lying s (item_in (message_in d s) s t a e rest)
   item-lies inner =
@@ -80,7 +80,7 @@ files-lie s at end h =
     (λ _ t a e w b k. file-cases (λ f. Filed s (f (files_in s w))) s t a e k λ n m p.
     filed-one
     (record {
-      ordered = leaf-inside package_tag any_bytes s a e (Some (span n m)) (sym p) n m refl;
+      ordered = leaf_inside package_tag any_bytes s a e (Some (span n m)) (sym p) n m refl;
       within = omega (arith, b.inside);
       held = refl;
     })

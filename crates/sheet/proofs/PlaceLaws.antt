@@ -7,7 +7,7 @@ use Rattle.basis.proofs.Never.{never}
 use Rattle.octets.specs.Octets.{big_at}
 use Rattle.field.specs.declared.Span.{Span}
 use Rattle.field.specs.Leaf.{span, any_bytes, of_size, leaf_at}
-use Rattle.field.proofs.LeafLaws.{leaf-ordered, leaf-inside, on-leaf-some}
+use Rattle.field.proofs.LeafLaws.{leaf-ordered, leaf_inside, on-leaf-some}
 use Rattle.sheet.specs.declared.declaration.Declaration.{Declaration}
 use Rattle.sheet.specs.declared.declaration.Value.{Value}
 use Rattle.sheet.specs.Table.{name_tag, extendee_tag, signed_number_tag}
@@ -19,7 +19,7 @@ name-lies : (k : ℕ) (s : List ℕ) (a e : ℕ) (q : Span) → leaf_at k any_by
 name-lies k s a e q p =
     record {
       ordered = leaf-ordered k any_bytes s a e (Some q) (sym p) q refl;
-      inside = leaf-inside k any_bytes s a e (Some q) (sym p) q refl;
+      inside = leaf_inside k any_bytes s a e (Some q) (sym p) q refl;
     }
 
 pub record Places (end : ℕ) (d : Declaration) : Type 0 where

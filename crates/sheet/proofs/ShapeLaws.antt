@@ -8,16 +8,16 @@ use Rattle.basis.proofs.Never.{never}
 use Rattle.octets.specs.Octets.{big_at}
 use Rattle.types.specs.Types.{TYPE_GROUP, TYPE_MESSAGE, TYPE_ENUM}
 use Rattle.field.specs.Leaf.{any_bytes, of_size, leaf_at, span}
-use Rattle.field.proofs.LeafLaws.{leaf-ordered, leaf-inside, size_laws, on-leaf-some}
+use Rattle.field.proofs.LeafLaws.{leaf-ordered, leaf_inside, size_laws, on-leaf-some}
 use Rattle.sheet.specs.declared.declaration.Shape.{Shape}
 use Rattle.sheet.specs.Table.{number_tag, type_tag, label_tag, type_path_tag}
 use Rattle.sheet.specs.Declaration.{has_type_path, last_at, type_path_at, shape, shape_at}
 use Rattle.field.specs.declared.Span.{Span}
 
 -- ---- has_type_path
-pub has-type-path : (t : ℕ) → (eqb t TYPE_GROUP || eqb t TYPE_MESSAGE || eqb t TYPE_ENUM) ≡ has_type_path t
+pub has_type_path : (t : ℕ) → (eqb t TYPE_GROUP || eqb t TYPE_MESSAGE || eqb t TYPE_ENUM) ≡ has_type_path t
 unfolding has_type_path
-has-type-path t = refl
+has_type_path t = refl
 
 -- ---- type_path_at
 module _ (t : ℕ) (s : List ℕ) (at end : ℕ) (b : Bool) (x : b ≡ has_type_path t) where
@@ -86,7 +86,7 @@ type-path-lies t s at end w p = go (has_type_path t) (eqb at end) (leaf_at type_
     last u q true p =
         record {
           ordered = leaf-ordered type_path_tag any_bytes s at end (Some w) (p ∙ q) w refl;
-          inside = leaf-inside type_path_tag any_bytes s at end (Some w) (p ∙ q) w refl;
+          inside = leaf_inside type_path_tag any_bytes s at end (Some w) (p ∙ q) w refl;
         }
 
     go : (b b' : Bool) (l : Option Span) → l ≡ leaf_at type_path_tag any_bytes s at end
@@ -122,4 +122,4 @@ module _ (s : List ℕ) (at end : ℕ) (r : Option Shape) (q : r ≡ shape_at s 
   shape-path-within k = omega (arith, (shape-lies s at end h (sym g ∙ q)).inside)
 
 pub ruleset shape_laws =
-    (shape-no-number, shape-no-type, shape-no-label, shape-no-path, shape-whole, leaf-inside, size_laws)
+    (shape-no-number, shape-no-type, shape-no-label, shape-no-path, shape-whole, leaf_inside, size_laws)

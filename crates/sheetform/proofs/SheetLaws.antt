@@ -15,7 +15,7 @@ use Rattle.field.specs.Walk.{Walk}
 use Rattle.field.specs.Leaf.{leaf_at, span}
 use Rattle.form.specs.Each.{each_from}
 use Rattle.field.proofs.FieldLaws.{field-ordered}
-use Rattle.field.proofs.LeafLaws.{leaf-inside}
+use Rattle.field.proofs.LeafLaws.{leaf_inside}
 use Rattle.field.proofs.Rest.{Rest, rest-start}
 use Rattle.form.proofs.EachLaws.{each_from_laws}
 use Rattle.sheet.specs.Table.{file_tag, package_tag}
@@ -44,7 +44,7 @@ module _ (s : List ℕ) (i t a e : ℕ) where
       unfolding judge_file
       file-items u g v p = simp (judge_file, eq-eqb t file_tag y, lt-ltb i most_files h, ← q, g) p
 
-pub ruleset file_laws = (file-other, file-beyond, file-unnamed, file-items, leaf-inside)
+pub ruleset file_laws = (file-other, file-beyond, file-unnamed, file-items, leaf_inside)
 
 -- ---- check_files
 abbrev pub files : List ℕ → ℕ → Walk → Verdict

@@ -55,6 +55,6 @@ module _ (t : ℕ) (g : tag_good t ≡ true) where
   tag-good-wire = ((and-eq-true_iff (leb 1 (number_of t) && leb (number_of t) most_number) _).0 g).1
 
 -- the tests of `tag_good`
-pub tag-good-is : (t n w : ℕ) → n ≡ number_of t → w ≡ wire_type_of t → (leb 1 n && leb n most_number && wire_read w) ≡ tag_good t
+pub tag_good_is : (t n w : ℕ) → n ≡ number_of t → w ≡ wire_type_of t → (leb 1 n && leb n most_number && wire_read w) ≡ tag_good t
 unfolding tag_good
-tag-good-is t n w p q = rw (p, q)
+tag_good_is t n w p q = rw (p, q)

@@ -1,7 +1,7 @@
 -- `oneofs::lower_fields` meets its contract.
 -- Assumes nothing.
-use Rattle.oneofs.proofs.DeclaredLaws.{answered-declared}
+use Rattle.oneofs.proofs.DeclaredLaws.{answered_declared}
 use Rattle.oneofs.proofs.lower_fields.Goals as goal
 
 pub returns : goal.returns
-returns c = search answered-declared
+returns c = search answered_declared

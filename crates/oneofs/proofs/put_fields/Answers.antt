@@ -2,7 +2,7 @@
 -- Assumes nothing.
 -- the turn of an optional field is searched for by its own law alone: beside `numbering-plain`, which fits too, the search finds no way
 use Rattle.basis.proofs.Kit.{rules}
-use Rattle.oneofs.proofs.WritingLaws.{numbering_laws, numbering-optional}
+use Rattle.oneofs.proofs.WritingLaws.{numbering_laws, numbering_optional}
 use Rattle.oneofs.proofs.put_fields.Goals as goal
 
 pub shared_step-step-requires : goal.shared_step-step-requires
@@ -54,7 +54,7 @@ pub loop-i-smaller-then-w-eq-OPTIONAL : goal.loop-i-smaller-then-w-eq-OPTIONAL
 loop-i-smaller-then-w-eq-OPTIONAL c = search (rules, numbering_laws)
 
 pub loop-i-preserved-then-w-eq-OPTIONAL : goal.loop-i-preserved-then-w-eq-OPTIONAL
-loop-i-preserved-then-w-eq-OPTIONAL c = search numbering-optional
+loop-i-preserved-then-w-eq-OPTIONAL c = search numbering_optional
 
 pub overflow_add-member : goal.overflow_add-member
 overflow_add-member c = search (rules, numbering_laws)

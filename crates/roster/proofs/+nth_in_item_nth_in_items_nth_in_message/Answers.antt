@@ -1,6 +1,6 @@
 -- What these functions promise follows from their laws.
 -- Assumes nothing.
-use Rattle.field.proofs.LeafLaws.{leaf-inside}
+use Rattle.field.proofs.LeafLaws.{leaf_inside}
 use Rattle.roster.proofs.RosterLaws.{item_laws, items_laws, message_laws, leaf_laws}
 use Rattle.basis.proofs.Kit.{rules}
 use Rattle.roster.proofs.+nth_in_item_nth_in_items_nth_in_message.Goals as goal
@@ -33,19 +33,19 @@ pub nth_in_items-returns : goal.nth_in_items-returns
 nth_in_items-returns t c = search (rules, items_laws)
 
 pub nth_in_message-put_name-size-requires-clause-lies : goal.nth_in_message-put_name-size-requires-clause-lies
-nth_in_message-put_name-size-requires-clause-lies t c = search (rules, message_laws, leaf_laws, leaf-inside)
+nth_in_message-put_name-size-requires-clause-lies t c = search (rules, message_laws, leaf_laws, leaf_inside)
 
 pub nth_in_message-put_name-size-requires-clause-at_lt_from : goal.nth_in_message-put_name-size-requires-clause-at_lt_from
-nth_in_message-put_name-size-requires-clause-at_lt_from t c = search (rules, message_laws, leaf_laws, leaf-inside)
+nth_in_message-put_name-size-requires-clause-at_lt_from t c = search (rules, message_laws, leaf_laws, leaf_inside)
 
 pub nth_in_message-put_inside-size-requires-clause-lies : goal.nth_in_message-put_inside-size-requires-clause-lies
-nth_in_message-put_inside-size-requires-clause-lies t c = search (rules, message_laws, leaf_laws, leaf-inside)
+nth_in_message-put_inside-size-requires-clause-lies t c = search (rules, message_laws, leaf_laws, leaf_inside)
 
 pub nth_in_message-put_inside-size-requires-clause-at_lt_from : goal.nth_in_message-put_inside-size-requires-clause-at_lt_from
-nth_in_message-put_inside-size-requires-clause-at_lt_from t c = search (rules, message_laws, leaf_laws, leaf-inside)
+nth_in_message-put_inside-size-requires-clause-at_lt_from t c = search (rules, message_laws, leaf_laws, leaf_inside)
 
 pub nth_in_message-nth_in_items-requires : goal.nth_in_message-nth_in_items-requires
-nth_in_message-nth_in_items-requires t c = search (rules, message_laws, leaf_laws, leaf-inside)
+nth_in_message-nth_in_items-requires t c = search (rules, message_laws, leaf_laws, leaf_inside)
 
 pub nth_in_message-returns : goal.nth_in_message-returns
-nth_in_message-returns t c = search (rules, message_laws, leaf_laws, leaf-inside)
+nth_in_message-returns t c = search (rules, message_laws, leaf_laws, leaf_inside)
