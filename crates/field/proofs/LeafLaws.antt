@@ -51,8 +51,8 @@ module _ (k : ℕ) (good : List ℕ → Bool) (s : List ℕ) (at end : ℕ) (r :
   pub leaf-ordered : p.from ≤ p.to
   leaf-ordered = leaf-bounds.ordered
 
-  pub leaf_inside : p.to ≤ end
-  leaf_inside = leaf-bounds.inside
+  pub leaf-inside : p.to ≤ end
+  leaf-inside = leaf-bounds.inside
 
   pub leaf-within : end ≤ length s → p.to ≤ length s
   leaf-within h = omega (arith, leaf-bounds.inside)

@@ -43,8 +43,8 @@ fits-row w rows at t =
     let s : get_or rows (at + 2) 0 ≤ most_name = leb→le (get_or rows (at + 2) 0) most_name (and_left small (same mine its) t) in
     record { numbered = cc; seconded = cc; named = cc; short = s }
 
-pub rows-tabled : (rows : List ℕ) → T (every (λ w. fits w rows (place w * row_size))) → length rows ≡ refusals * row_size → Tabled rows
-rows-tabled rows t e = record {
+pub rows_tabled : (rows : List ℕ) → T (every (λ w. fits w rows (place w * row_size))) → length rows ≡ refusals * row_size → Tabled rows
+rows_tabled rows t e = record {
   most = refusals;
   size = e;
   place = place;

@@ -17,11 +17,11 @@ module _ (u v : Verdict) where
   first_fine g = rw g
 
 module _ (w : Refusal) (b : Bool) where
-  pub judged-true : b ≡ true → Ok tt ≡ judged w b
-  judged-true g = rw g
+  pub judged_true : b ≡ true → Ok tt ≡ judged w b
+  judged_true g = rw g
 
-  pub judged-false : b ≡ false → Err w ≡ judged w b
-  judged-false g = rw g
+  pub judged_false : b ≡ false → Err w ≡ judged w b
+  judged_false g = rw g
 
 -- ---- an answer that is a verdict has its number and its second word
 pub says : (v r : Verdict) → r ≡ v → Says v r
@@ -57,8 +57,8 @@ pub ruleset answer_laws = (answer-fine, answer-refused)
 abbrev answer : (word : ℕ) → Answer
 answer w = record { reply = 0; second = w; absent = 0; length = 0; option = nowhere; part = nowhere }
 
-pub decided-yes : (b : Bool) → b ≡ true → answer 1 ≡ decided b
-decided-yes b h = rw h refl
+pub decided_yes : (b : Bool) → b ≡ true → answer 1 ≡ decided b
+decided_yes b h = rw h refl
 
-pub decided-no : (b : Bool) → b ≡ false → answer 0 ≡ decided b
-decided-no b h = rw h refl
+pub decided_no : (b : Bool) → b ≡ false → answer 0 ≡ decided b
+decided_no b h = rw h refl
