@@ -1,13 +1,13 @@
 -- What an option comes to does not depend on what stands around it. The statement stands at the end.
 -- Assumes nothing.
-use Rattle.std.specs.Prelude.{◌≡◌, refl, true, List, [], ◌∷◌, ◌++◌, ℕ, ◌+◌, ◌-◌, ◌≤◌, length, take, Some, Ok, Option}
+use Rattle.std.specs.Prelude.{◌≡◌, refl, true, List, [], ◌∷◌, ◌++◌, ℕ, ◌+◌, ◌-◌, ◌≤◌, length, take, Some, Option}
 use Rattle.basis.specs.Kit.{sym, ap, ◌∙◌}
 use Rattle.basis.proofs.Kit.{arith}
 use lib.ListN.{get_elem?}
 use Rattle.limits.specs.Figures.{most_request}
 use Rattle.path.specs.Path.{is_rel_path, is_rel_or_empty}
 use Rattle.reply.specs.declared.Refusal.TheVariants.{BadRequest}
-use Rattle.reply.specs.Verdicts.{first_fault, Verdict}
+use Rattle.reply.specs.Verdicts.{first_fault, Verdict, fine}
 use Rattle.field.specs.Field.{field_at}
 use Rattle.field.specs.Leaf.{text, any_bytes, leaf_at, span}
 use Rattle.field.specs.Walk.{done, step, walk}
@@ -38,7 +38,7 @@ use Rattle.alone.proofs.Placed.{Placed, placed}
 use Rattle.alone.proofs.Taken.{taken, taken-length, front-twin, back-twin}
 use Rattle.alone.proofs.Headings.{Leaves, leaves_kept, heading-kept, scope_kept, type-kept}
 
-module _ (r : List ℕ) (f : judge_request r ≡ Ok tt) (h : Heading) (q : heading_of r ≡ Some h) (i : ℕ) (o : tree.Option)
+module _ (r : List ℕ) (f : judge_request r ≡ fine) (h : Heading) (q : heading_of r ≡ Some h) (i : ℕ) (o : tree.Option)
     (p : Placed r h.options (walk r h.options (length r)) i o) where
   abbrev own : List ℕ
   own = taken r h.options p.at p.to
@@ -110,14 +110,14 @@ module _ (r : List ℕ) (f : judge_request r ≡ Ok tt) (h : Heading) (q : headi
   own-options = ap (λ (v : Option Heading). (request_with own v).options) own-heading ∙ ap (options_in own) own-walk
 
   -- ---- the form
-  own-judged : judge_option own 0 option_tag from to ≡ Ok tt
+  own-judged : judge_option own 0 option_tag from to ≡ fine
   own-judged =
       sym (option-same back p.index 0 (option-few r p.index p.start p.to p.fine) (omega arith) own-field.places) ∙ p.fine
 
-  own-judged-all : Ok tt ≡ judge_options own h.options (length own)
+  own-judged-all : fine ≡ judge_options own h.options (length own)
   unfolding judge_options
   own-judged-all =
-      sym (ap (each_from BadRequest (judge_option own) 0) own-walk ∙ ap (λ (v : Verdict). first_fault v (Ok tt)) own-judged)
+      sym (ap (each_from BadRequest (judge_option own) 0) own-walk ∙ ap (λ (v : Verdict). first_fault v fine) own-judged)
 
   own-scoped : Some (span h.scope.from h.scope.to) ≡ leaf_at scope_tag is_rel_or_empty own 0 (length own)
   own-scoped =
@@ -134,10 +134,10 @@ module _ (r : List ℕ) (f : judge_request r ≡ Ok tt) (h : Heading) (q : headi
   own-short : length own ≤ most_request
   own-short = omega (arith, own-length, fine-short r f, p.begun, bounds.starts, bounds.ordered, bounds.inside)
 
-  own-fine : judge_request own ≡ Ok tt
+  own-fine : judge_request own ≡ fine
   own-fine =
       sym (request-options own own-short (Some (span h.scope.from h.scope.to)) own-scoped h.scope.from h.scope.to refl
-      (Some (span h.options_type.from h.options_type.to)) own-typed h.options_type.from h.options_type.to refl (Ok tt)
+      (Some (span h.options_type.from h.options_type.to)) own-typed h.options_type.from h.options_type.to refl fine
       (own-judged-all ∙ ap (λ (n : ℕ). judge_options own n (length own)) own-leaves.options))
 
   -- ---- what the option comes to
@@ -164,7 +164,7 @@ module _ (r : List ℕ) (f : judge_request r ≡ Ok tt) (h : Heading) (q : headi
 -- ==== the statement
 -- An option that is taken out of its fine request and put into a request of its own, with the same scope and options type, is fine there,
 -- is the only option, and has the same fault as before, or none.
-pub own-request : (r : List ℕ) → judge_request r ≡ Ok tt → (i : ℕ) (o : tree.Option) → get_elem? (request_of r).options i ≡ Some o → Own r i o
+pub own-request : (r : List ℕ) → judge_request r ≡ fine → (i : ℕ) (o : tree.Option) → get_elem? (request_of r).options i ≡ Some o → Own r i o
 unfolding request_of
 own-request r f i o g =
     let v = fine-options r f (heading_of r) refl in

@@ -3,7 +3,7 @@
 --   Placed r from w i o <-> the i-th of the fields w, from the place `from` on in r, is a fine option, and in the tree it is o
 --
 -- Assumes nothing.
-use Rattle.std.specs.Prelude.{◌≡◌, refl, Bool, true, false, List, ℕ, zero, suc, ◌+◌, ◌-◌, ◌≤◌, ◌<◌, ltb, length, Some, Ok, None, Option}
+use Rattle.std.specs.Prelude.{◌≡◌, refl, Bool, true, false, List, ℕ, zero, suc, ◌+◌, ◌-◌, ◌≤◌, ◌<◌, ltb, length, Some, None, Option}
 use Rattle.basis.specs.Kit.{sym, ap, ◌∙◌}
 use Rattle.basis.proofs.Kit.{arith}
 use lib.ListN.{get_elem?}
@@ -25,6 +25,7 @@ use Rattle.optionform.proofs.FineLaws.{option-tagged}
 use Rattle.requestform.proofs.FineLaws.{fine-option-at, fine-option-next}
 use Rattle.alone.specs.Alone.{field_bytes}
 use Rattle.field.specs.declared.Field.{Field}
+use Rattle.reply.specs.Verdicts.{fine}
 
 -- the first of fine options, n before it
 record Opened (r : List ℕ) (n at : ℕ) : Type 0 where
@@ -32,8 +33,8 @@ record Opened (r : List ℕ) (n at : ℕ) : Type 0 where
   to : ℕ
   field : field_at r at (length r) ≡ Some (field option_tag from to)
   walks : walk r at (length r) ≡ step option_tag from to (walk r to (length r))
-  fine : judge_option r n option_tag from to ≡ Ok tt
-  next : each_from BadRequest (judge_option r) (n + 1) (walk r to (length r)) ≡ Ok tt
+  fine : judge_option r n option_tag from to ≡ fine
+  next : each_from BadRequest (judge_option r) (n + 1) (walk r to (length r)) ≡ fine
 
 pub record Placed (r : List ℕ) (from : ℕ) (w : Walk) (i : ℕ) (o : tree.Option) : Type 0 where
   pub at : ℕ
@@ -43,11 +44,11 @@ pub record Placed (r : List ℕ) (from : ℕ) (w : Walk) (i : ℕ) (o : tree.Opt
   pub begun : from ≤ at
   pub field : field_at r at (length r) ≡ Some (field option_tag start to)
   pub bytes : field_bytes r w i ≡ part r at to
-  pub fine : judge_option r index option_tag start to ≡ Ok tt
+  pub fine : judge_option r index option_tag start to ≡ fine
   pub is : o ≡ option_of r start to
 
 module _ (r : List ℕ) where
-  module _ (n at : ℕ) (f : each_from BadRequest (judge_option r) n (walk r at (length r)) ≡ Ok tt) where
+  module _ (n at : ℕ) (f : each_from BadRequest (judge_option r) n (walk r at (length r)) ≡ fine) where
     open-field : at < length r → (v : Option Field) → v ≡ field_at r at (length r) → Opened r n at
     open-field l None q =
         absurd (refused-fine BadRequest (ap (each_from BadRequest (judge_option r) n) (sym (walk-cut r at (length r) l None q refl)) ∙ f))
@@ -72,7 +73,7 @@ module _ (r : List ℕ) where
             let z = ap (λ (w : Walk). get_elem? (options_in r w) i) (sym (walk-done r at (length r) (ltb-false at (length r) l))) ∙ g in
             never cc
 
-  pub placed : (i n at : ℕ) (o : tree.Option) → each_from BadRequest (judge_option r) n (walk r at (length r)) ≡ Ok tt
+  pub placed : (i n at : ℕ) (o : tree.Option) → each_from BadRequest (judge_option r) n (walk r at (length r)) ≡ fine
       → get_elem? (options_in r (walk r at (length r))) i ≡ Some o → Placed r at (walk r at (length r)) i o
   unfolding option_in
   placed zero n at o f g =

@@ -8,7 +8,7 @@
 --                        which has the fault that o has in r, or none where o has none
 --
 -- Assumes nothing.
-use Rattle.std.specs.Prelude.{◌≡◌, List, [], ◌∷◌, ◌++◌, ℕ, zero, suc, ◌-◌, length, take, Option, None, Some, Ok}
+use Rattle.std.specs.Prelude.{◌≡◌, List, [], ◌∷◌, ◌++◌, ℕ, zero, suc, ◌-◌, length, take, Option, None, Some}
 use Rattle.octets.specs.Octets.{part}
 use Rattle.field.specs.Field.{header}
 use Rattle.field.specs.Leaf.{text}
@@ -20,6 +20,7 @@ use Rattle.lookups.specs.Lookups.{Lookups, Message}
 use Rattle.faults.specs.declared.Fault.{Fault}
 use Rattle.options.specs.Settle.{Settled, known, others, fails, settle}
 use Rattle.request.specs.declared.heading.Heading.{Heading}
+use Rattle.reply.specs.Verdicts.{fine}
 
 abbrev pub field_bytes : (r : List ℕ) → Walk → (index : ℕ) → List ℕ
 field_bytes r done i = []
@@ -40,7 +41,7 @@ fault_of (others x) = None
 fault_of (fails f) = Some f
 
 pub record Own (r : List ℕ) (i : ℕ) (o : tree.Option) : Type 0 where
-  pub fine : judge_request (alone r i) ≡ Ok tt
+  pub fine : judge_request (alone r i) ≡ fine
   pub scope : text (alone r i) (request_of (alone r i)).scope ≡ text r (request_of r).scope
   pub type : text (alone r i) (request_of (alone r i)).options_type ≡ text r (request_of r).options_type
   pub own : tree.Option

@@ -1,13 +1,13 @@
 -- Constants: the ways through `check_constant`, `check_elements` and `check_pairs`.
 -- Assumes nothing.
-use Rattle.std.specs.Prelude.{◌≡◌, refl, Bool, true, false, List, ℕ, zero, suc, ◌-◌, ◌≤◌, ◌<◌, length, Err, None, Some, Ok, Option}
+use Rattle.std.specs.Prelude.{◌≡◌, refl, Bool, true, false, List, ℕ, zero, suc, ◌-◌, ◌≤◌, ◌<◌, length, Err, None, Some, Option}
 use Rattle.basis.specs.Kit.{sym, ap, ◌∙◌}
 use Rattle.basis.proofs.Kit.{arith, eq-eqb, ne_eqb, not-true, not-false}
 use mathlib.Core.Bool.{false≢true}
 use Rattle.octets.specs.Octets.{part}
 use Rattle.reply.specs.declared.Refusal.{Refusal}
 use Rattle.reply.specs.declared.Refusal.TheVariants.{BadRequest}
-use Rattle.reply.specs.Verdicts.{judged, Verdict}
+use Rattle.reply.specs.Verdicts.{judged, Verdict, fine}
 use Rattle.field.specs.Walk.{Walk, done, cut, step}
 use Rattle.form.specs.Each.{each}
 use Rattle.field.proofs.FieldLaws.{field-ordered}
@@ -90,7 +90,7 @@ pairless-malformed inner s (step t a e cut) (unnamed y) = refl
 pairless-malformed inner s (step t a e (step k b f w)) (unnamed y) = simp (← unnamed-bad t (part s a e) y)
 
 module _ (inner : ℕ → ℕ → ℕ → Verdict) (v : Verdict) (s : List ℕ) (to i : ℕ) (k : Rest v (pairs_of inner s) s to i) where
-  pub pairs_end : to ≤ i → Ok tt ≡ v
+  pub pairs_end : to ≤ i → fine ≡ v
   pairs_end h = sym (rest_end v (pairs_of inner s) s to i k h)
 
   module _ (r : Option Pair) (q : r ≡ pair_at s i to) where
@@ -105,7 +105,7 @@ module _ (inner : ℕ → ℕ → ℕ → Verdict) (v : Verdict) (s : List ℕ) 
         pub pairs-refused : (w : Refusal) → u ≡ Err w → Err w ≡ v
         pairs-refused w o = rw (rest-pair v (pairs_of inner s) s to i k r q p g, ← x, y, ← z, o)
 
-        pub pairs_next : u ≡ Ok tt → Rest v (pairs_of inner s) s to p.constant.to
+        pub pairs_next : u ≡ fine → Rest v (pairs_of inner s) s to p.constant.to
         pairs_next o = rest-pair-next v (pairs_of inner s) s to i k r q p g (pairs_of inner s) (rw (← x, y, ← z, o))
 
 pub ruleset pairs_laws =

@@ -1,7 +1,7 @@
 -- What a fine verdict says of the tree of constants, from the leaves up: of payloads inside the bytes, of values, and of constants at
 -- every depth.
 -- Assumes nothing.
-use Rattle.std.specs.Prelude.{◌≡◌, refl, Bool, true, false, ◌&&◌, List, ◌∷◌, map, ℕ, zero, suc, ◌+◌, ◌-◌, ◌*◌, ◌^◌, ◌≤◌, eqb, ltb, leb, length, get_or, Some, Ok, Option}
+use Rattle.std.specs.Prelude.{◌≡◌, refl, Bool, true, false, ◌&&◌, List, ◌∷◌, map, ℕ, zero, suc, ◌+◌, ◌-◌, ◌*◌, ◌^◌, ◌≤◌, eqb, ltb, leb, length, get_or, Some, Option}
 use Rattle.basis.specs.Kit.{sym, ap, ◌∙◌}
 use Rattle.basis.proofs.Kit.{arith, ne_eqb}
 use mathlib.Core.Bool.{false≢true}
@@ -11,7 +11,7 @@ use lib.Ieee.{binary64, of_bits, nan_bits}
 use Rattle.octets.specs.Octets.{part, big_at}
 use Rattle.octets.proofs.Parts.{part-cons, part_length}
 use Rattle.reply.specs.declared.Refusal.TheVariants.{BadRequest, BeyondLimit}
-use Rattle.reply.specs.Verdicts.{first_fault, judged, Verdict}
+use Rattle.reply.specs.Verdicts.{first_fault, judged, Verdict, fine}
 use Rattle.reply.proofs.VerdictLaws.{refused-fine, first-fine-front, first-fine-rest, judged-fine}
 use Rattle.field.specs.Leaf.{span}
 use Rattle.field.specs.Walk.{Walk, done, cut, step, walk, tags_in}
@@ -184,7 +184,7 @@ pub record FinePairs (s : List ℕ) (w : Walk) (c : Constants) : Type 0 where
   pub tags : constant_tags c ≡ map kind_of (tags_in w)
 
 abbrev pub FineAt : ℕ → List ℕ → Type 0
-FineAt d s = (l : PairName) → good_name s l ≡ true → (t a e : ℕ) (rest : Constants) → e ≤ length s → judge_constant d s t a e ≡ Ok tt
+FineAt d s = (l : PairName) → good_name s l ≡ true → (t a e : ℕ) (rest : Constants) → e ≤ length s → judge_constant d s t a e ≡ fine
     → FineConstant s l t rest (constant_in d s l t a e rest)
 
 -- a tag is one of the three of a pair's name, or another
@@ -224,7 +224,7 @@ pair-first inner t a e k b f w = go (is_pair_name t)
     go false y = absurd (false≢true y)
 
 module _ (d : ℕ) (s : List ℕ) (fine : FineAt d s) where
-  elements-with : (w : Walk) → Within s w → each BadRequest (judge_constant d s) w ≡ Ok tt → FineElements s w (elements_in (constant_in d s) w)
+  elements-with : (w : Walk) → Within s w → each BadRequest (judge_constant d s) w ≡ fine → FineElements s w (elements_in (constant_in d s) w)
   elements-with done i p = record { good = refl; whole = refl; tags = refl }
   elements-with cut i p = absurd (refused-fine BadRequest p)
   elements-with (step t a e w) i p =
@@ -238,7 +238,7 @@ module _ (d : ℕ) (s : List ℕ) (fine : FineAt d s) where
         tags = here.tags ∙ ap (λ (r : List ℕ). kind_of t ∷ r) rest.tags;
       }
 
-  pairs-with : (w : Walk) → Within s w → pairs_of (judge_constant d s) s w ≡ Ok tt → FinePairs s w (pairs_in (constant_in d s) w)
+  pairs-with : (w : Walk) → Within s w → pairs_of (judge_constant d s) s w ≡ fine → FinePairs s w (pairs_in (constant_in d s) w)
   pairs-with done i p = record { good = refl; whole = refl; tags = refl }
   pairs-with cut i p = absurd (refused-fine BadRequest p)
   pairs-with (step t a e done) i p = absurd (refused-fine BadRequest p)
@@ -264,7 +264,7 @@ module _ (d : ℕ) (s : List ℕ) (fine : FineAt d s) where
 -- ---- constants, with d levels left
 module _ (d : ℕ) (s : List ℕ) (fine : FineAt d s) (l : PairName) (named : good_name s l ≡ true) (a e : ℕ) (rest : Constants)
     (h : e ≤ length s) where
-  constant-with : (t : ℕ) → constant_with (judge_constant d s) s t a e ≡ Ok tt → FineConstant s l t rest (constant_in (suc d) s l t a e rest)
+  constant-with : (t : ℕ) → constant_with (judge_constant d s) s t a e ≡ fine → FineConstant s l t rest (constant_in (suc d) s l t a e rest)
   unfolding constant_of
   constant-with t p = elim (ℕ_discrete t message_constant_tag) [
     | yes y ↦ rw y (at-message (rw y at p))
@@ -277,19 +277,19 @@ module _ (d : ℕ) (s : List ℕ) (fine : FineAt d s) (l : PairName) (named : go
     ]
   ]
     where
-      at-message : pairs_of (judge_constant d s) s (walk s a e) ≡ Ok tt
+      at-message : pairs_of (judge_constant d s) s (walk s a e) ≡ fine
           → FineConstant s l message_constant_tag rest (constant_in (suc d) s l message_constant_tag a e rest)
       at-message q =
           let i = pairs-with d s fine (walk s a e) (walk-within s e h a) q in
           record { good = λ r. rw (named, i.good, r); whole = refl; tags = refl }
 
-      at-list : each BadRequest (judge_constant d s) (walk s a e) ≡ Ok tt
+      at-list : each BadRequest (judge_constant d s) (walk s a e) ≡ fine
           → FineConstant s l list_tag rest (constant_in (suc d) s l list_tag a e rest)
       at-list q =
           let i = elements-with d s fine (walk s a e) (walk-within s e h a) q in
           record { good = λ r. rw (named, i.good, r); whole = refl; tags = refl }
 
-pub constant-opened : (b : Bool) (v : Verdict) → elim b [ true ↦ v | false ↦ bad_request ] ≡ Ok tt → v ≡ Ok tt
+pub constant-opened : (b : Bool) (v : Verdict) → elim b [ true ↦ v | false ↦ bad_request ] ≡ fine → v ≡ fine
 constant-opened true v p = p
 constant-opened false v p = absurd (refused-fine BadRequest p)
 
@@ -299,10 +299,10 @@ constant-fine (suc d) s l named t a e rest h p =
     constant-with d s (constant-fine d s) l named a e rest h t
     (constant-opened (is_constant t) (constant_with (judge_constant d s) s t a e) p)
 
-pub elements-fine : (d : ℕ) (s : List ℕ) (w : Walk) → Within s w → each BadRequest (judge_constant d s) w ≡ Ok tt
+pub elements-fine : (d : ℕ) (s : List ℕ) (w : Walk) → Within s w → each BadRequest (judge_constant d s) w ≡ fine
     → FineElements s w (elements_in (constant_in d s) w)
 elements-fine d s = elements-with d s (constant-fine d s)
 
-pub pairs-fine : (d : ℕ) (s : List ℕ) (w : Walk) → Within s w → pairs_of (judge_constant d s) s w ≡ Ok tt
+pub pairs-fine : (d : ℕ) (s : List ℕ) (w : Walk) → Within s w → pairs_of (judge_constant d s) s w ≡ fine
     → FinePairs s w (pairs_in (constant_in d s) w)
 pairs-fine d s = pairs-with d s (constant-fine d s)

@@ -9,10 +9,10 @@
 --           judge_pairs d s a e == the pairs of a message constant
 --
 -- Assumes nothing.
-use Rattle.std.specs.Prelude.{true, false, List, ℕ, zero, suc, eqb, Err, Ok}
+use Rattle.std.specs.Prelude.{true, false, List, ℕ, zero, suc, eqb, Err}
 use Rattle.octets.specs.Octets.{part}
 use Rattle.reply.specs.declared.Refusal.TheVariants.{BadRequest}
-use Rattle.reply.specs.Verdicts.{first_fault, judged, beyond, Verdict}
+use Rattle.reply.specs.Verdicts.{first_fault, judged, beyond, Verdict, fine}
 use Rattle.field.specs.Walk.{Walk, done, cut, step, walk}
 use Rattle.form.specs.Each.{each}
 use Rattle.request.specs.Table.{message_constant_tag, list_tag}
@@ -23,7 +23,7 @@ bad_request = Err BadRequest
 
 -- "26 message, pairs of a name .. and a constant" [FORM-4, FAULT-7]
 abbrev pub pairs_of : (inner : (tag from to : ℕ) → Verdict) (s : List ℕ) → Walk → Verdict
-pairs_of inner s done = Ok tt
+pairs_of inner s done = fine
 pairs_of inner s cut = bad_request
 pairs_of inner s (step t a e done) = bad_request
 pairs_of inner s (step t a e cut) = bad_request

@@ -1,6 +1,6 @@
 -- The laws of the calls: no reason is found exactly where a sheet is clean, or contained in another; and what a call answers of that.
 -- Assumes nothing.
-use Rattle.std.specs.Prelude.{◌≡◌, refl, Bool, true, false, ◌&&◌, List, ℕ, ◌≤◌, ◌<◌, length, Err, Ok}
+use Rattle.std.specs.Prelude.{◌≡◌, refl, Bool, true, false, ◌&&◌, List, ℕ, ◌≤◌, ◌<◌, length, Err}
 use Rattle.basis.specs.Kit.{sym, ap, ◌∙◌}
 use Rattle.basis.specs.Count.{once, every}
 use Rattle.basis.proofs.Kit.{lt-ltb, le-ltb}
@@ -9,7 +9,7 @@ use Rattle.limits.specs.Figures.{most_sheet}
 use Rattle.reply.specs.declared.Refusal.{Refusal}
 use Rattle.reply.specs.declared.Answer.{Answer}
 use Rattle.reply.specs.Reply.{refused_by, decided}
-use Rattle.reply.specs.Verdicts.{Says, Verdict}
+use Rattle.reply.specs.Verdicts.{Says, Verdict, fine}
 use Rattle.sheetform.specs.Form.{judge_sheet}
 use Rattle.sheetform.proofs.SheetLaws.{fine-length, sheet-length}
 use Rattle.names.specs.Names.{Named, every_declared}
@@ -98,10 +98,10 @@ module _ (s : List ℕ) (v : Verdict) (q : Says (judge_sheet s) v) where
   pub clean-refused : (w : Refusal) → v ≡ Err w → (a : Answer) → a ≡ refused_by w → a ≡ clean_answer s
   clean-refused w g a u = u ∙ rw (sym q.is ∙ g) refl
 
-  short : v ≡ Ok tt → length s ≤ most_sheet
+  short : v ≡ fine → length s ≤ most_sheet
   short g = fine-length s (sheet-length s (sym q.is ∙ g))
 
-  pub clean-asked : v ≡ Ok tt → (r : Reason) → r ≡ why_unclean s → (b : Bool) → b ≡ holds r → (a : Answer) → a ≡ decided b
+  pub clean-asked : v ≡ fine → (r : Reason) → r ≡ why_unclean s → (b : Bool) → b ≡ holds r → (a : Answer) → a ≡ decided b
       → a ≡ clean_answer s
   clean-asked g r p b h a u = u ∙ rw (sym q.is ∙ g) (ap decided (h ∙ ap holds (p ∙ unclean-short s (short g)) ∙ clean-holds s))
 
@@ -111,11 +111,11 @@ module _ (s t : List ℕ) (v : Verdict) (q : Says (judge_sheet s) v) where
   pub older-refused : (w : Refusal) → v ≡ Err w → (a : Answer) → a ≡ refused_by w → a ≡ contained_answer s t
   older-refused w g a u = u ∙ rw (sym q.is ∙ g) refl
 
-  module _ (g : v ≡ Ok tt) (v' : Verdict) (q' : Says (judge_sheet t) v') where
+  module _ (g : v ≡ fine) (v' : Verdict) (q' : Says (judge_sheet t) v') where
     pub newer-refused : (w : Refusal) → v' ≡ Err w → (a : Answer) → a ≡ refused_by w → a ≡ contained_answer s t
     newer-refused w g' a u = u ∙ rw (sym q.is ∙ g, sym q'.is ∙ g') refl
 
-    pub contained-asked : v' ≡ Ok tt → (r : Reason) → r ≡ why_uncontained s t → (b : Bool) → b ≡ holds r → (a : Answer) → a ≡ decided b
+    pub contained-asked : v' ≡ fine → (r : Reason) → r ≡ why_uncontained s t → (b : Bool) → b ≡ holds r → (a : Answer) → a ≡ decided b
         → a ≡ contained_answer s t
     contained-asked g' r p b h a u =
         u ∙ rw (sym q.is ∙ g, sym q'.is ∙ g') (ap decided (h ∙ ap holds (p ∙ uncontained-short s t (short s v q g)) ∙ contained-holds s t))

@@ -8,7 +8,7 @@ use Rattle.basis.specs.First.{only_if}
 use Rattle.basis.proofs.Never.{never}
 use Rattle.octets.specs.Octets.{part}
 use Rattle.octets.proofs.Parts.{part_length}
-use Rattle.field.specs.Field.{field_at, field}
+use Rattle.field.specs.Field.{field_at}
 use Rattle.field.specs.Leaf.{any_bytes, of_size, on_leaf, leaf_of, leaf_at, span}
 use Rattle.field.proofs.FieldLaws.{Bounds, field-bounds}
 use Rattle.field.specs.declared.Field.{Field}
@@ -51,8 +51,8 @@ module _ (k : ℕ) (good : List ℕ → Bool) (s : List ℕ) (at end : ℕ) (r :
   pub leaf-ordered : p.from ≤ p.to
   leaf-ordered = leaf-bounds.ordered
 
-  pub leaf-inside : p.to ≤ end
-  leaf-inside = leaf-bounds.inside
+  pub leaf_inside : p.to ≤ end
+  leaf_inside = leaf-bounds.inside
 
   pub leaf-within : end ≤ length s → p.to ≤ length s
   leaf-within h = omega (arith, leaf-bounds.inside)

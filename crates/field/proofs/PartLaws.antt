@@ -38,11 +38,11 @@ span-inside t p l = go (leb p.from p.to) refl (leb p.to (length t)) refl
         rw u record { ordered = leb-true p.from p.to x; within = leb-true p.to (length t) x' }
 
 module _ (t : List ℕ) (p : Span) (r : Option Span) (q : r ≡ span_in t p) (u : Span) (g : r ≡ Some u) where
-  pub span-ordered : u.from ≤ u.to
-  span-ordered = (span-inside t p u (sym g ∙ q)).ordered
+  pub span_ordered : u.from ≤ u.to
+  span_ordered = (span-inside t p u (sym g ∙ q)).ordered
 
-  pub span-within : u.to ≤ length t
-  span-within = (span-inside t p u (sym g ∙ q)).within
+  pub span_within : u.to ≤ length t
+  span_within = (span-inside t p u (sym g ∙ q)).within
 
 -- ---- none_of: no bytes, wherever they start
 pub empty-part : (s : List ℕ) (a : ℕ) → part s a a ≡ []

@@ -16,7 +16,6 @@ use Rattle.std.specs.Prelude.{◌≡◌, List, ℕ, ◌-◌, ◌≤◌, ◌<◌,
 use Rattle.basis.specs.Kit.{sym, ◌∙◌}
 use Rattle.basis.proofs.Kit.{arith}
 use Rattle.field.specs.Walk.{Reader}
-use Rattle.field.specs.Field.{field}
 use Rattle.field.specs.declared.Field.{Field}
 
 -- an empty payload too starts further on: past its header

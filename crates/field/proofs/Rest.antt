@@ -15,7 +15,7 @@
 -- Assumes nothing.
 use Rattle.std.specs.Prelude.{◌≡◌, refl, List, ℕ, ◌≤◌, ◌<◌, length, None, Some, Option}
 use Rattle.basis.specs.Kit.{ap, ◌∙◌}
-use Rattle.field.specs.Field.{field_at, field}
+use Rattle.field.specs.Field.{field_at}
 use Rattle.field.specs.Walk.{Reader, Walk, done, cut, step, walk_by, walk}
 use Rattle.field.proofs.ReaderLaws.{Reads, reads-inside}
 use Rattle.field.proofs.FieldLaws.{field-reads}

@@ -17,7 +17,7 @@
 -- Assumes nothing.
 use Rattle.std.specs.Prelude.{◌≡◌, List, ℕ, ◌≤◌, ◌<◌, length, None, Some, Option}
 use Rattle.basis.specs.Kit.{sym, ap, ◌∙◌}
-use Rattle.field.specs.Field.{field_at, field}
+use Rattle.field.specs.Field.{field_at}
 use Rattle.field.specs.Walk.{Reader, Walk, done, cut, step, walk_by}
 use Rattle.field.proofs.ReaderLaws.{Reads}
 use Rattle.field.proofs.FieldLaws.{field-reads, field_place_laws}

@@ -22,7 +22,7 @@ use Rattle.basis.specs.Kit.{sym, ◌∙◌}
 use Rattle.basis.proofs.Kit.{arith, w64, Fits}
 use native.Mathlib.Nat.{zero-add, add-zero, add_assoc}
 use mir.Facts.{Fits-le}
-use Rattle.field.specs.Field.{field_at, field}
+use Rattle.field.specs.Field.{field_at}
 use Rattle.field.specs.Walk.{Reader, Walk, done, cut, step, walk_by, walk}
 use Rattle.field.proofs.ReaderLaws.{Reads, reads-ahead}
 use Rattle.field.proofs.FieldLaws.{field-reads, field_place_laws}

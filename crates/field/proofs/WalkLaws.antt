@@ -12,7 +12,7 @@ use Rattle.std.specs.Prelude.{◌≡◌, refl, Bool, true, false, List, ℕ, zer
 use Rattle.basis.specs.Kit.{ap, ◌∙◌}
 use Rattle.basis.proofs.Kit.{arith, lt-ltb, le-ltb}
 use borrow.Author.Tests.{ltb-true}
-use Rattle.field.specs.Field.{field_at, field}
+use Rattle.field.specs.Field.{field_at}
 use Rattle.field.specs.Walk.{Reader, Walk, done, cut, step, walk_on, walk_for, walk_by, walk}
 use Rattle.field.proofs.ReaderLaws.{Ahead, Reads, reads-ahead}
 use Rattle.field.proofs.FieldLaws.{field-reads}

@@ -25,6 +25,7 @@ pub struct Span {
 // The bytes of a field before its payload.
 const HEADER: usize = 3;
 
+#[tactic(auto, using(crate::proofs::FieldLaws::field_laws))]
 pub fn field_at(s: &[u8], at: usize, end: usize) -> Option<Field>
     requires { (at ≤ end) × (end ≤ length s.now) }
     ensures { result ≡ field_at s.now at end }
@@ -45,6 +46,7 @@ pub fn field_at(s: &[u8], at: usize, end: usize) -> Option<Field>
 }
 
 // A field of this tag, with any payload.
+#[tactic(auto, using(crate::proofs::LeafLaws::leaf_any_laws))]
 pub fn leaf_at(s: &[u8], at: usize, end: usize, tag: u8) -> Option<Span>
     requires { (at ≤ end) × (end ≤ length s.now) }
     ensures { result ≡ leaf_at tag any_bytes s.now at end }
@@ -53,10 +55,14 @@ pub fn leaf_at(s: &[u8], at: usize, end: usize, tag: u8) -> Option<Span>
     if field.tag != tag {
         return None;
     }
-    Some(Span { from: field.from, to: field.to })
+    Some(Span {
+        from: field.from,
+        to: field.to,
+    })
 }
 
 // A field of this tag whose payload has this length.
+#[tactic(auto, using(crate::proofs::LeafLaws::sized_laws))]
 pub fn sized_at(s: &[u8], at: usize, end: usize, tag: u8, size: usize) -> Option<Span>
     requires { (at ≤ end) × (end ≤ length s.now) }
     ensures { result ≡ leaf_at tag (of_size size) s.now at end }

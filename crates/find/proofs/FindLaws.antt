@@ -27,11 +27,11 @@ use Rattle.find.specs.inner.Small.{word_bound, SmallSpan, Small}
 use Rattle.find.proofs.FindingLaws.{finding-tested, words-tested}
 use Rattle.sheetform.proofs.SheetLaws.{fine-length}
 use Rattle.field.specs.Leaf.{span}
-use Rattle.reply.specs.Verdicts.{Verdict}
+use Rattle.reply.specs.Verdicts.{Verdict, fine}
 
 -- ---- what was found
 record Finds (v : Verdict) (s c p : List ℕ) (f : Found) : Type 0 where
-  fine : judge_all v c p ≡ Ok tt
+  fine : judge_all v c p ≡ fine
   is : find_extension_by_path s c p ≡ Ok f
 
 finds : (v : Verdict) (s c p : List ℕ) (f : Found) → finding_by v s c p ≡ Ok f → Finds v s c p f
@@ -123,7 +123,7 @@ module _ (s c p l : List ℕ) (v : Verdict) (q : v ≡ judge_sheet s) (a : Answe
   unfolding find_words finding_by judge_all
   find-refused w g e = rw e (answered-refused (find_words s c p) l (bare w) (rw (← q, g)))
 
-  pub find-found : v ≡ Ok tt → (l' : List ℕ) → Answered (find_tested s c p) l l' a → Answered (find_words s c p) l l' a
+  pub find-found : v ≡ fine → (l' : List ℕ) → Answered (find_tested s c p) l l' a → Answered (find_words s c p) l l' a
   find-found g l' h = rw (words-tested s c p (sym q ∙ g)) h
 
 -- ---- found_name
@@ -149,7 +149,7 @@ module _ (s c p : List ℕ) (b o : ℕ) (v : Verdict) (q : v ≡ judge_sheet s) 
   unfolding finding_by judge_all
   name-bad-sheet w g x b' o' h = rw (← q, g) h
 
-  module _ (g : v ≡ Ok tt) (r : Result Found Refusal) (q' : r ≡ finding_tested s c p) where
+  module _ (g : v ≡ fine) (r : Result Found Refusal) (q' : r ≡ finding_tested s c p) where
     pub name-refused : (w : Refusal) → r ≡ Err w → (x : List ℕ) (b' o' : ℕ) → PartOf no_bytes s b o x b' o'
         → PartOf (name_span (finding s c p)) s b o x b' o'
     name-refused w g' x b' o' h = rw (finding-tested s c p (sym q ∙ g), ← q', g') h

@@ -7,7 +7,7 @@ use Rattle.path.specs.Path.{Path, is_path}
 use Rattle.candidates.specs.Candidates.{candidates}
 use Rattle.reply.specs.declared.Refusal.{Refusal}
 use Rattle.reply.specs.declared.Refusal.TheVariants.{BadRequest, ExtensionNotFound}
-use Rattle.reply.specs.Verdicts.{first_fault}
+use Rattle.reply.specs.Verdicts.{first_fault, fine}
 use Rattle.reply.specs.Outcome.{refuse, give}
 use Rattle.reply.proofs.Outcomes.{refuse-inv}
 use Rattle.reply.proofs.VerdictLaws.{first-fine-rest, judged-fine}
@@ -23,7 +23,7 @@ use Rattle.find.specs.Find.{judge_all, finding_by, words_of, worded, find_words,
 use Rattle.find.proofs.FindingLaws.{words-tested}
 
 -- ---- what a fine input comes to
-module _ (s c p : List ℕ) (h : judge_all (judge_sheet s) c p ≡ Ok tt) where
+module _ (s c p : List ℕ) (h : judge_all (judge_sheet s) c p ≡ fine) where
   words_open : find_words s c p ≡ worded (find_extension_by_path s c p)
   unfolding find_words finding_by
   words_open = rw h
@@ -67,5 +67,5 @@ unfolding find_words finding_by
 form-first s c p w h = rw h
 
 -- ---- `find_tested` answers as `find` does, of every sheet whose form is fine
-pub find-tested : (s c p : List ℕ) → judge_sheet s ≡ Ok tt → find_words s c p ≡ find_tested s c p
+pub find-tested : (s c p : List ℕ) → judge_sheet s ≡ fine → find_words s c p ≡ find_tested s c p
 find-tested = words-tested

@@ -1,7 +1,7 @@
 -- In a sheet that is fine, and in which no two share a full name, a full name is found exactly if it is declared, and then it is that
 -- declaration. The statements stand at the end.
 -- Assumes nothing.
-use Rattle.std.specs.Prelude.{◌≡◌, refl, true, List, [], ◌∷◌, ◌++◌, ℕ, Option, None, Some, Ok}
+use Rattle.std.specs.Prelude.{◌≡◌, refl, true, List, [], ◌∷◌, ◌++◌, ℕ, Option, None, Some}
 use Rattle.basis.specs.Kit.{sym, ap, ◌∙◌}
 use Rattle.basis.proofs.Never.{never}
 use Rattle.basis.specs.First.{first_some, collect}
@@ -32,6 +32,7 @@ use Rattle.finds.proofs.Declared.{made, collected, message-some, scopes-led, fil
 use Rattle.finds.proofs.Declared.{gives-holds, scope-declared, look-declared, look_one, single-unique}
 use Rattle.finds.proofs.Located.{located, before, holder-alone, path-before, holder-at, message-at}
 use Rattle.finds.proofs.Extensions.{extension_borne, extension-borne, extensions-by}
+use Rattle.reply.specs.Verdicts.{fine}
 
 module _ (s : List ℕ) where
   -- ---- messages
@@ -151,7 +152,7 @@ module _ (s : List ℕ) where
       → Among d (every_extension (tree_of s))
   named-extension t d m = rw extensions-named (collected extension_borne m refl)
 
-  module _ (fine : judge_sheet s ≡ Ok tt) where
+  module _ (fine : judge_sheet s ≡ fine) where
     -- Every full name of a fine sheet is a path of identifiers.
     pub names-path : (b : Named) → Among b (every_declared s) → all_ident (components b.name) ≡ true
     names-path b m = (located s fine b m).idents

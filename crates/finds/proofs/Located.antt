@@ -4,7 +4,7 @@
 --   Located s b <-> b stands in a file; the package and the names that lead to it in the file are the components of its full name
 --
 -- Assumes nothing.
-use Rattle.std.specs.Prelude.{◌≡◌, refl, true, ◌&&◌, List, [], ◌∷◌, ◌++◌, ℕ, zero, suc, Some, Ok}
+use Rattle.std.specs.Prelude.{◌≡◌, refl, true, ◌&&◌, List, [], ◌∷◌, ◌++◌, ℕ, zero, suc, Some}
 use Rattle.basis.specs.Kit.{sym, ap, ◌∙◌}
 use Rattle.basis.proofs.Kit.{arith}
 use lib.ListN.{get_elem?}
@@ -30,6 +30,7 @@ use Rattle.finds.proofs.Follows.{Alone, reach-follow}
 use Rattle.finds.proofs.Files.{Filed, stands}
 use Rattle.finds.proofs.Declared.{filed-declared, Single, single-unique}
 use Rattle.finds.proofs.Placed.{Placed, placed}
+use Rattle.reply.specs.Verdicts.{fine}
 
 -- the message that a scope holds is reached by one name more
 reach-held : (s : List ℕ) {ns : Path} {c d : Scope} {n : Name} (m : Scope) → Reach s ns c d → Holds s d n (message m)
@@ -56,7 +57,7 @@ module _ (s : List ℕ) where
     pub idents : all_ident (components b.name) ≡ true
     pub before-idents : all_ident (components (text s file.package_name) ++ place.names) ≡ true
 
-  module _ (fine : judge_sheet s ≡ Ok tt) where
+  module _ (fine : judge_sheet s ≡ fine) where
     filed-located : (b : Named) (at : ℕ) (f : File) → get_elem? (tree_of s) at ≡ Some f → Filed s at f b → Located b
     filed-located b at f e m =
         let g = good-file (tree_of s) at f (fine-good s fine) e in

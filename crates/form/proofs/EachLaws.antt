@@ -9,7 +9,7 @@
 -- `field_at` needs, but its start, which is `rest-start`.
 --
 -- Assumes nothing.
-use Rattle.std.specs.Prelude.{◌≡◌, List, ℕ, ◌+◌, ◌≤◌, ◌<◌, Err, Ok, None, Option, Some}
+use Rattle.std.specs.Prelude.{◌≡◌, List, ℕ, ◌+◌, ◌≤◌, ◌<◌, Err, None, Option, Some}
 use Rattle.basis.specs.Kit.{sym, ◌∙◌}
 use Rattle.reply.specs.declared.Refusal.{Refusal}
 use Rattle.reply.proofs.VerdictLaws.{first-refused, first_fine}
@@ -19,11 +19,11 @@ use Rattle.field.proofs.FieldLaws.{field-within, field-less}
 use Rattle.field.proofs.Rest.{RestBy, rest_end, rest-cut, rest-step, rest-next}
 use Rattle.field.specs.Field.{field}
 use Rattle.field.specs.declared.Field.{Field}
-use Rattle.reply.specs.Verdicts.{Verdict}
+use Rattle.reply.specs.Verdicts.{Verdict, fine}
 
 module _ {next : Reader} (bad : Refusal) (f : ℕ → ℕ → ℕ → Verdict) (v : Verdict) (s : List ℕ) (to i : ℕ)
     (k : RestBy next v (each bad f) s to i) where
-  pub each-end : to ≤ i → Ok tt ≡ v
+  pub each-end : to ≤ i → fine ≡ v
   each-end h = sym (rest_end v (each bad f) s to i k h)
 
   module _ (h : i < to) (r : Option Field) (q : r ≡ next s i to) where
@@ -35,13 +35,13 @@ module _ {next : Reader} (bad : Refusal) (f : ℕ → ℕ → ℕ → Verdict) (
       each-refused w x =
           first-refused (f here.tag here.from here.to) (each bad f (walk_by next s here.to to)) w (sym p ∙ x) ∙ sym (rest-step v (each bad f) s to i k h r q here g)
 
-      pub each_next : u ≡ Ok tt → RestBy next v (each bad f) s to here.to
+      pub each_next : u ≡ fine → RestBy next v (each bad f) s to here.to
       each_next x = rest-next v (each bad f) s to i k h r q here g (each bad f)
           (sym (first_fine (f here.tag here.from here.to) (each bad f (walk_by next s here.to to)) (sym p ∙ x)))
 
 module _ {next : Reader} (bad : Refusal) (f : ℕ → ℕ → ℕ → ℕ → Verdict) (v : Verdict) (s : List ℕ) (to i n : ℕ)
     (k : RestBy next v (each_from bad f n) s to i) where
-  pub each-from-end : to ≤ i → Ok tt ≡ v
+  pub each-from-end : to ≤ i → fine ≡ v
   each-from-end h = sym (rest_end v (each_from bad f n) s to i k h)
 
   module _ (h : i < to) (r : Option Field) (q : r ≡ next s i to) where
@@ -54,7 +54,7 @@ module _ {next : Reader} (bad : Refusal) (f : ℕ → ℕ → ℕ → ℕ → Ve
           first-refused (f n here.tag here.from here.to) (each_from bad f (n + 1) (walk_by next s here.to to)) w (sym p ∙ x)
           ∙ sym (rest-step v (each_from bad f n) s to i k h r q here g)
 
-      pub each-from-next : u ≡ Ok tt → RestBy next v (each_from bad f (n + 1)) s to here.to
+      pub each-from-next : u ≡ fine → RestBy next v (each_from bad f (n + 1)) s to here.to
       each-from-next x =
           rest-next v (each_from bad f n) s to i k h r q here g (each_from bad f (n + 1))
           (sym (first_fine (f n here.tag here.from here.to) (each_from bad f (n + 1) (walk_by next s here.to to)) (sym p ∙ x)))

@@ -5,17 +5,17 @@
 --   each_from bad f n w == likewise, by f index tag from to, the first of them having the index n
 --
 -- Assumes nothing.
-use Rattle.std.specs.Prelude.{ℕ, ◌+◌, Err, Ok}
+use Rattle.std.specs.Prelude.{ℕ, ◌+◌, Err}
 use Rattle.reply.specs.declared.Refusal.{Refusal}
-use Rattle.reply.specs.Verdicts.{first_fault, Verdict}
+use Rattle.reply.specs.Verdicts.{first_fault, Verdict, fine}
 use Rattle.field.specs.Walk.{Walk, done, cut, step}
 
 abbrev pub each : (bad : Refusal) (judge : (tag from to : ℕ) → Verdict) → Walk → Verdict
-each bad f done = Ok tt
+each bad f done = fine
 each bad f cut = Err bad
 each bad f (step t a e w) = first_fault (f t a e) (each bad f w)
 
 abbrev pub each_from : (bad : Refusal) (judge : (index tag from to : ℕ) → Verdict) (index : ℕ) → Walk → Verdict
-each_from bad f n done = Ok tt
+each_from bad f n done = fine
 each_from bad f n cut = Err bad
 each_from bad f n (step t a e w) = first_fault (f n t a e) (each_from bad f (n + 1) w)

@@ -27,7 +27,7 @@ use Rattle.levels.specs.inner.Left.{flat}
 use Rattle.listing.specs.Listing.{judge_inputs, listed, listing_by, listing, listing_tested}
 use Rattle.listing.specs.inner.Worded.{worded}
 use Rattle.listing.specs.inner.Admitted.{admitted}
-use Rattle.reply.specs.Verdicts.{Verdict}
+use Rattle.reply.specs.Verdicts.{Verdict, fine}
 
 -- ---- options_message
 module _ (s type bs : List ℕ) (u : Verdict) (x : u ≡ judge_length s) where
@@ -35,17 +35,17 @@ module _ (s type bs : List ℕ) (u : Verdict) (x : u ≡ judge_length s) where
   unfolding admitted judge_inputs
   message-long w h = rw (← x, h)
 
-  module _ (h : u ≡ Ok tt) (v : Verdict) (q : v ≡ judge_options_type type) where
+  module _ (h : u ≡ fine) (v : Verdict) (q : v ≡ judge_options_type type) where
     pub message-bad-type : (w : Refusal) → v ≡ Err w → Err w ≡ admitted (judge_length s) s type bs
     unfolding admitted judge_inputs
     message-bad-type w g = rw (← x, h, ← q, g)
 
-    module _ (g : v ≡ Ok tt) (v' : Verdict) (q' : v' ≡ judge_bytes bs) where
+    module _ (g : v ≡ fine) (v' : Verdict) (q' : v' ≡ judge_bytes bs) where
       pub message-long-bytes : (w : Refusal) → v' ≡ Err w → Err w ≡ admitted (judge_length s) s type bs
       unfolding admitted judge_inputs
       message-long-bytes w g' = rw (← x, h, ← q, g, ← q', g')
 
-      pub message-is : v' ≡ Ok tt → (r : Result LookupScope Refusal) → r ≡ (walking s).message type → r ≡ admitted (judge_length s) s type bs
+      pub message-is : v' ≡ fine → (r : Result LookupScope Refusal) → r ≡ (walking s).message type → r ≡ admitted (judge_length s) s type bs
       unfolding admitted judge_inputs
       message-is g' r y = rw (← x, h, ← q, g, ← q', g') y
 
@@ -98,7 +98,7 @@ module _ (s type bs : List ℕ) (r : Result LookupScope Refusal) (q : r ≡ admi
 pub ruleset list_tested_laws = (tested-refused, tested-inside, tested-short, tested-listed)
 
 -- ---- `list` answers as `list_tested` does, of every sheet whose form is fine
-pub list-tested : (s type bs : List ℕ) → judge_sheet s ≡ Ok tt → listing s type bs ≡ listing_tested s type bs
+pub list-tested : (s type bs : List ℕ) → judge_sheet s ≡ fine → listing s type bs ≡ listing_tested s type bs
 list-tested s type bs h = ap (λ v. listing_by v s type bs) (h ∙ sym (sheet-length s h))
 
 module _ (s type bs : List ℕ) (v : Verdict) (q : v ≡ judge_sheet s) (l : List ℕ) (a : Answer) where
@@ -106,7 +106,7 @@ module _ (s type bs : List ℕ) (v : Verdict) (q : v ≡ judge_sheet s) (l : Lis
   unfolding listing_by judge_inputs
   list-refused w g e = rw e (answered-refused _ l (bare w) (rw (← q, g)))
 
-  pub list-listed : v ≡ Ok tt → (l' : List ℕ) → Answered (listing_tested s type bs) l l' a → Answered (listing s type bs) l l' a
+  pub list-listed : v ≡ fine → (l' : List ℕ) → Answered (listing_tested s type bs) l l' a → Answered (listing s type bs) l l' a
   list-listed g l' h = rw (list-tested s type bs (sym q ∙ g)) h
 
 pub ruleset list_laws = (list-refused, list-listed)

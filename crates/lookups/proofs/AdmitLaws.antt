@@ -8,11 +8,11 @@ use Rattle.reply.specs.Outcome.{Outcome, refuse, unless}
 use Rattle.scope.specs.declared.lookup.LookupScope.{LookupScope}
 use Rattle.lookups.specs.Lookups.{walking}
 use Rattle.lookups.specs.inner.Admitted.{unless_faulty}
-use Rattle.reply.specs.Verdicts.{Verdict}
+use Rattle.reply.specs.Verdicts.{Verdict, fine}
 
 -- ---- the message that the options type is, of inputs that are judged v
 pub record Admits (v : Verdict) (s type : List ℕ) (p : LookupScope) : Type 0 where
-  pub fine : v ≡ Ok tt
+  pub fine : v ≡ fine
   pub is : (walking s).message type ≡ Ok p
 
 module _ (s type : List ℕ) where

@@ -1,6 +1,6 @@
 -- What a fine verdict says of the tree, from the leaves up: of a leaf and what stands after it, of values, and of items at every depth.
 -- Assumes nothing.
-use Rattle.std.specs.Prelude.{◌≡◌, refl, Bool, true, false, ◌&&◌, List, ◌∷◌, ℕ, zero, suc, length, None, Some, Ok, Option}
+use Rattle.std.specs.Prelude.{◌≡◌, refl, Bool, true, false, ◌&&◌, List, ◌∷◌, ℕ, zero, suc, length, None, Some, Option}
 use Rattle.basis.specs.Kit.{sym, ap, ◌∙◌}
 use mathlib.Core.Bool.{false≢true}
 use native.Mathlib.Decide.{ℕ_discrete}
@@ -8,7 +8,7 @@ use Rattle.octets.specs.Octets.{part}
 use Rattle.ident.specs.Ident.{is_ident}
 use Rattle.path.specs.Path.{is_rel_path}
 use Rattle.reply.specs.declared.Refusal.TheVariants.{BadSheet, BeyondLimit}
-use Rattle.reply.specs.Verdicts.{judged, Verdict}
+use Rattle.reply.specs.Verdicts.{judged, Verdict, fine}
 use Rattle.reply.proofs.VerdictLaws.{refused-fine, first-fine-front, first-fine-rest, judged-fine}
 use Rattle.field.specs.Leaf.{text, any_bytes, on_leaf, leaf_at, span}
 use Rattle.field.specs.Walk.{Walk, done, cut, step, walk, tags_in}
@@ -31,12 +31,12 @@ pub record Inside (r : Option Span) (good : List ℕ → Bool) (s : List ℕ) (f
   pub to : ℕ
   pub named : r ≡ Some (span from to)
   pub tested : good (part s from to) ≡ true
-  pub fine : f to ≡ Ok tt
+  pub fine : f to ≡ fine
 
 pub leaf-fine : (k : ℕ) (good : List ℕ → Bool) (s : List ℕ) (a e : ℕ) (f : ℕ → Verdict)
-    → on_leaf bad_sheet (leaf_at k good s a e) (λ n m. f m) ≡ Ok tt → Inside (leaf_at k any_bytes s a e) good s f
+    → on_leaf bad_sheet (leaf_at k good s a e) (λ n m. f m) ≡ fine → Inside (leaf_at k any_bytes s a e) good s f
 leaf-fine k good s a e f p =
-    on-leaf-some bad_sheet (Ok tt) (leaf_at k good s a e) (λ n m. f m) (Inside (leaf_at k any_bytes s a e) good s f)
+    on-leaf-some bad_sheet fine (leaf_at k good s a e) (λ n m. f m) (Inside (leaf_at k any_bytes s a e) good s f)
     (λ q. refused-fine BadSheet (sym q))
     (λ n m l q. record {
       from = n;
@@ -52,7 +52,7 @@ pub record FineValues (s : List ℕ) (w : Walk) (vs : List Value) : Type 0 where
   pub good : good_values s vs ≡ true
   pub whole : length vs ≡ length (tags_in w)
 
-value-more : (s : List ℕ) (t a e : ℕ) (w : Walk) (vs : List Value) → judge_value s t a e ≡ Ok tt → FineValues s w vs
+value-more : (s : List ℕ) (t a e : ℕ) (w : Walk) (vs : List Value) → judge_value s t a e ≡ fine → FineValues s w vs
     → FineValues s (step t a e w) (value_in s t a e vs)
 unfolding judge_value value_in is_value
 value-more s t a e w vs p h = elim (ℕ_discrete t value_tag) [
@@ -65,10 +65,10 @@ value-more s t a e w vs p h = elim (ℕ_discrete t value_tag) [
     go (Some v) q = record { good = rw (q, h.good); whole = ap suc h.whole }
     go None q = absurd (false≢true q)
 
-    at_value : judge_value s value_tag a e ≡ Ok tt → FineValues s (step value_tag a e w) (value_in s value_tag a e vs)
+    at_value : judge_value s value_tag a e ≡ fine → FineValues s (step value_tag a e w) (value_in s value_tag a e vs)
     at_value q = go (value_at s a e) (judged-fine BadSheet (is_value s a e) q)
 
-pub values-fine : (s : List ℕ) (w : Walk) → each BadSheet (judge_value s) w ≡ Ok tt → FineValues s w (values_in s w)
+pub values-fine : (s : List ℕ) (w : Walk) → each BadSheet (judge_value s) w ≡ fine → FineValues s w (values_in s w)
 values-fine s done p = record { good = refl; whole = refl }
 values-fine s cut p = absurd (refused-fine BadSheet p)
 values-fine s (step t a e w) p =
@@ -77,7 +77,7 @@ values-fine s (step t a e w) p =
     let rest = first-fine-rest (judge t a e) (each BadSheet judge w) p in
     value-more s t a e w (values_in s w) front (values-fine s w rest)
 
-pub enum-inside : (s : List ℕ) (a e : ℕ) → judge_enum s a e ≡ Ok tt
+pub enum-inside : (s : List ℕ) (a e : ℕ) → judge_enum s a e ≡ fine
     → Inside (leaf_at name_tag any_bytes s a e) is_ident s (λ m. each BadSheet (judge_value s) (walk s m e))
 unfolding judge_enum
 enum-inside s a e p = leaf-fine name_tag is_ident s a e (λ m. each BadSheet (judge_value s) (walk s m e)) p
@@ -105,7 +105,7 @@ module _ (s : List ℕ) (rest : Items) where
       go (Some d) p = record { good = λ h. rw (p, h); whole = refl }
       go None p = absurd (false≢true p)
 
-  enum-fine : (a e : ℕ) → judge_enum s a e ≡ Ok tt → FineItem s enum_tag rest (enum_in s a e rest)
+  enum-fine : (a e : ℕ) → judge_enum s a e ≡ fine → FineItem s enum_tag rest (enum_in s a e rest)
   enum-fine a e p =
       let x = enum-inside s a e p in
       let vs = values-fine s (walk s x.to e) x.fine in
@@ -131,27 +131,27 @@ pub record FineItems (s : List ℕ) (w : Walk) (i : Items) : Type 0 where
   pub whole : item_tags i ≡ tags_in w
 
 Messages : ℕ → List ℕ → Type 0
-Messages d s = (a e : ℕ) (rest : Items) → judge_message d s a e ≡ Ok tt → FineItem s message_tag rest (message_in d s a e rest)
+Messages d s = (a e : ℕ) (rest : Items) → judge_message d s a e ≡ fine → FineItem s message_tag rest (message_in d s a e rest)
 
 module _ (d : ℕ) (fields : Bool) (s : List ℕ) (messages : Messages d s) where
-  item-fine : (t a e : ℕ) (rest : Items) → judge_item (judge_message d s) fields s t a e ≡ Ok tt
+  item-fine : (t a e : ℕ) (rest : Items) → judge_item (judge_message d s) fields s t a e ≡ fine
       → FineItem s t rest (item_in (message_in d s) s t a e rest)
   unfolding judge_item item_in Messages
   item-fine t a e rest =
       by-tag t
-      (λ t. judge_item (judge_message d s) fields s t a e ≡ Ok tt → FineItem s t rest (item_in (message_in d s) s t a e rest))
+      (λ t. judge_item (judge_message d s) fields s t a e ≡ fine → FineItem s t rest (item_in (message_in d s) s t a e rest))
       (messages a e rest)
       (λ p. extension-fine s rest a e (judged-fine BadSheet (is_extension s a e) p))
       (enum-fine s rest a e)
       (in-message fields)
       (λ m x n f p. absurd (refused-fine BadSheet (item-other d fields s t a e m x n f ∙ p)))
     where
-      in-message : (b : Bool) → elim b [ true ↦ judged BadSheet (is_field s a e) | false ↦ bad_sheet ] ≡ Ok tt
+      in-message : (b : Bool) → elim b [ true ↦ judged BadSheet (is_field s a e) | false ↦ bad_sheet ] ≡ fine
           → FineItem s field_tag rest (field_in (message_field_at s a e) rest)
       in-message true p = field-fine s rest a e (judged-fine BadSheet (is_field s a e) p)
       in-message false p = absurd (refused-fine BadSheet p)
 
-  items-with : (w : Walk) → each BadSheet (judge_item (judge_message d s) fields s) w ≡ Ok tt → FineItems s w (items_with (message_in d s) s w)
+  items-with : (w : Walk) → each BadSheet (judge_item (judge_message d s) fields s) w ≡ fine → FineItems s w (items_with (message_in d s) s w)
   items-with done p = record { good = refl; whole = refl }
   items-with cut p = absurd (refused-fine BadSheet p)
   items-with (step t a e w) p =
@@ -161,7 +161,7 @@ module _ (d : ℕ) (fields : Bool) (s : List ℕ) (messages : Messages d s) wher
       record { good = front.good rest.good; whole = front.whole ∙ ap (t ∷◌) rest.whole }
 
 -- ---- messages, with d levels left
-pub message-inside : (d : ℕ) (s : List ℕ) (a e : ℕ) → judge_message (suc d) s a e ≡ Ok tt
+pub message-inside : (d : ℕ) (s : List ℕ) (a e : ℕ) → judge_message (suc d) s a e ≡ fine
     → Inside (leaf_at name_tag any_bytes s a e) is_ident s (λ m. judge_items d true s m e)
 unfolding judge_items
 message-inside d s a e p = leaf-fine name_tag is_ident s a e (λ m. judge_items d true s m e) p
@@ -174,6 +174,6 @@ messages-fine (suc d) s a e rest p =
     let i = items-with d true s (messages-fine d s) (walk s x.to e) x.fine in
     rw x.named record { good = λ h. rw (x.tested, i.good, h); whole = refl }
 
-pub items-fine : (d : ℕ) (fields : Bool) (s : List ℕ) (w : Walk) → each BadSheet (judge_item (judge_message d s) fields s) w ≡ Ok tt
+pub items-fine : (d : ℕ) (fields : Bool) (s : List ℕ) (w : Walk) → each BadSheet (judge_item (judge_message d s) fields s) w ≡ fine
     → FineItems s w (items_with (message_in d s) s w)
 items-fine d fields s w p = items-with d fields s (messages-fine d s) w p

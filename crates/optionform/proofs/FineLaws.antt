@@ -9,7 +9,7 @@ use borrow.Author.Tests.{ltb-true, ltb-false, eqb-true, eqb-false, le-leb}
 use Rattle.basis.proofs.Never.{never}
 use Rattle.limits.specs.Figures.{most_options, most_parts, most_constants}
 use Rattle.reply.specs.declared.Refusal.TheVariants.{BadRequest, BeyondLimit}
-use Rattle.reply.specs.Verdicts.{judged}
+use Rattle.reply.specs.Verdicts.{judged, fine}
 use Rattle.reply.proofs.VerdictLaws.{refused-fine, first-fine-front, first-fine-rest, judged-fine}
 use Rattle.field.specs.Field.{field_at, field}
 use Rattle.field.specs.Leaf.{text}
@@ -107,19 +107,19 @@ record Named (s : List ℕ) (a e : ℕ) : Type 0 where
   place : ℕ
   parts : PartsTo s 0 place (parts_in (walk s a e)) (after_parts a (walk s a e))
   some : place ≡ a → ⊥
-  last : judge_last s place e ≡ Ok tt
+  last : judge_last s place e ≡ fine
 
-pub option-tagged : (s : List ℕ) (i t a e : ℕ) → judge_option s i t a e ≡ Ok tt → t ≡ option_tag
+pub option-tagged : (s : List ℕ) (i t a e : ℕ) → judge_option s i t a e ≡ fine → t ≡ option_tag
 option-tagged s i t a e p = elim (ℕ_discrete t option_tag) [
   | yes y ↦ y
   | no n ↦ absurd (refused-fine BadRequest (option-other s i t a e n ∙ p))
 ]
 
-last-opened : (s : List ℕ) (x e : ℕ) → judge_last s x e ≡ Ok tt → LastConstant s x e
+last-opened : (s : List ℕ) (x e : ℕ) → judge_last s x e ≡ fine → LastConstant s x e
 unfolding judge_last
 last-opened s x e = go (field_at s x e) refl
   where
-    go : (f : Option Field) → field_at s x e ≡ f → last_field s e f ≡ Ok tt → LastConstant s x e
+    go : (f : Option Field) → field_at s x e ≡ f → last_field s e f ≡ fine → LastConstant s x e
     go None q p = absurd (refused-fine BadRequest p)
     go (Some here) q p =
         let judge = judge_constant most_constants s here.tag here.from here.to in
@@ -148,11 +148,11 @@ last-alone s x e l =
     )
 
 module _ (s : List ℕ) (a e : ℕ) where
-  name-opened : (v : Result ℕ Refusal) → v ≡ parts_from s 0 a (walk s a e) → after_name s a e v ≡ Ok tt → Named s a e
+  name-opened : (v : Result ℕ Refusal) → v ≡ parts_from s 0 a (walk s a e) → after_name s a e v ≡ fine → Named s a e
   name-opened (Err w) q p = absurd (refused-fine w p)
   name-opened (Ok x) q p = go (eqb x a) refl p
     where
-      go : (b : Bool) → eqb x a ≡ b → elim b [ true ↦ bad_request | false ↦ judge_last s x e ] ≡ Ok tt → Named s a e
+      go : (b : Bool) → eqb x a ≡ b → elim b [ true ↦ bad_request | false ↦ judge_last s x e ] ≡ fine → Named s a e
       go true y p = absurd (refused-fine BadRequest p)
       go false y p = record {
         place = x;
@@ -161,15 +161,15 @@ module _ (s : List ℕ) (a e : ℕ) where
         last = p;
       }
 
-  option-opened : (i : ℕ) → judge_option s i option_tag a e ≡ Ok tt → Named s a e
+  option-opened : (i : ℕ) → judge_option s i option_tag a e ≡ fine → Named s a e
   unfolding judge_option
   option-opened i = go (ltb i most_options)
     where
-      go : (b : Bool) → elim b [ true ↦ after_name s a e (parts_from s 0 a (walk s a e)) | false ↦ beyond ] ≡ Ok tt → Named s a e
+      go : (b : Bool) → elim b [ true ↦ after_name s a e (parts_from s 0 a (walk s a e)) | false ↦ beyond ] ≡ fine → Named s a e
       go true p = name-opened (parts_from s 0 a (walk s a e)) refl p
       go false p = absurd (refused-fine BeyondLimit p)
 
-  pub option-good : (i : ℕ) → e ≤ length s → judge_option s i option_tag a e ≡ Ok tt → good_option s (option_of s a e) ≡ true
+  pub option-good : (i : ℕ) → e ≤ length s → judge_option s i option_tag a e ≡ fine → good_option s (option_of s a e) ≡ true
   unfolding option_of
   option-good i h p =
       let o = option-opened i p in
@@ -187,25 +187,25 @@ module _ (s : List ℕ) (a e : ℕ) where
         c.good refl,
       )
 
-pub option-few : (s : List ℕ) (i a e : ℕ) → judge_option s i option_tag a e ≡ Ok tt → i < most_options
+pub option-few : (s : List ℕ) (i a e : ℕ) → judge_option s i option_tag a e ≡ fine → i < most_options
 unfolding judge_option
 option-few s i a e = go (ltb i most_options) refl
   where
     go : (b : Bool) → ltb i most_options ≡ b
-        → elim b [ true ↦ after_name s a e (parts_from s 0 a (walk s a e)) | false ↦ beyond ] ≡ Ok tt → i < most_options
+        → elim b [ true ↦ after_name s a e (parts_from s 0 a (walk s a e)) | false ↦ beyond ] ≡ fine → i < most_options
     go true l q = ltb-true i most_options l
     go false l q = absurd (refused-fine BeyondLimit q)
 
 -- ==== the statements
 -- Where the parts of a fine option end, a fine constant stands, and it is the last.
-pub fine-option-constant : (s : List ℕ) (i t a e : ℕ) → judge_option s i t a e ≡ Ok tt → (x : ℕ) → x ≡ after_parts a (walk s a e)
+pub fine-option-constant : (s : List ℕ) (i t a e : ℕ) → judge_option s i t a e ≡ fine → (x : ℕ) → x ≡ after_parts a (walk s a e)
     → LastConstant s x e
 fine-option-constant s i t a e p x q =
     let o = option-opened s a e i (rw (option-tagged s i t a e p) at p) in
     subst (λ (z : ℕ). LastConstant s z e) (o.parts.ends ∙ sym q) (last-opened s o.place e o.last)
 
 -- Every field of a fine option but its last, the constant, is a part of it in the tree.
-pub fine-parts : (s : List ℕ) (i t a e : ℕ) → judge_option s i t a e ≡ Ok tt
+pub fine-parts : (s : List ℕ) (i t a e : ℕ) → judge_option s i t a e ≡ fine
     → length (tags_in (walk s a e)) ≡ length (option_of s a e).parts + 1
 unfolding option_of
 fine-parts s i t a e p =
@@ -214,13 +214,13 @@ fine-parts s i t a e p =
     parts-rest s e (walk s a e) a refl ∙ ap (λ (n : ℕ). length (parts_in (walk s a e)) + n) (last-alone s x e l)
 
 -- A fine option has a part.
-pub fine-option-some : (s : List ℕ) (i t a e : ℕ) → judge_option s i t a e ≡ Ok tt → 1 ≤ length (parts_in (walk s a e))
+pub fine-option-some : (s : List ℕ) (i t a e : ℕ) → judge_option s i t a e ≡ fine → 1 ≤ length (parts_in (walk s a e))
 fine-option-some s i t a e p =
     let o = option-opened s a e i (rw (option-tagged s i t a e p) at p) in
     parts-some (walk s a e) a (λ z. o.some (o.parts.ends ∙ z))
 
 -- From where a fine option starts stand good parts, and then its constant: PartsLaws.antt goes on from part to part.
-pub fine-option-parts : (s : List ℕ) (i t a e : ℕ) → judge_option s i t a e ≡ Ok tt → OptionParts s a e
+pub fine-option-parts : (s : List ℕ) (i t a e : ℕ) → judge_option s i t a e ≡ fine → OptionParts s a e
 fine-option-parts s i t a e p =
     let o = option-opened s a e i (rw (option-tagged s i t a e p) at p) in
     record { good = o.parts.good; follows = fine-option-constant s i t a e p (after_parts a (walk s a e)) refl }

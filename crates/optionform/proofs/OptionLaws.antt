@@ -9,7 +9,7 @@ use Rattle.limits.specs.Figures.{most_options, most_parts, most_constants}
 use Rattle.octets.specs.Octets.{part}
 use Rattle.reply.specs.declared.Refusal.{Refusal}
 use Rattle.reply.specs.declared.Refusal.TheVariants.{BadRequest, BeyondLimit}
-use Rattle.reply.specs.Verdicts.{judged, Verdict}
+use Rattle.reply.specs.Verdicts.{judged, Verdict, fine}
 use Rattle.field.specs.Field.{field_at, field}
 use Rattle.field.specs.Walk.{walk}
 use Rattle.field.proofs.FieldLaws.{field-reads, field-ordered}
@@ -103,7 +103,7 @@ module _ (s : List ℕ) (at end : ℕ) (r : Option Field) (q : r ≡ field_at s 
     unfolding judge_last
     last-refused w x = rw (← q, g, ← p, x)
 
-    pub last-fine : u ≡ Ok tt → (v : Verdict) → v ≡ judged BadRequest (eqb f.to end) → v ≡ judge_last s at end
+    pub last-fine : u ≡ fine → (v : Verdict) → v ≡ judged BadRequest (eqb f.to end) → v ≡ judge_last s at end
     unfolding judge_last
     last-fine x v y = rw (← q, g, ← p, x) y
 

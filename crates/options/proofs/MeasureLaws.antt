@@ -32,7 +32,7 @@ use Rattle.options.specs.Steps.{Steps, absent, refused, steps_in, steps_of, reso
 use Rattle.options.specs.inner.Measuring.{Open, Opens, at, none, lost, rest_of, Counted, Tallies, Measures, fine, refuses}
 use Rattle.options.specs.inner.Measuring as measuring
 use Rattle.options.specs.declared.measure.Measured.{Measured}
-use Rattle.reply.specs.Verdicts.{Verdict}
+use Rattle.reply.specs.Verdicts.{Verdict, fine}
 
 -- ---- what the loop over the options answered
 pub record Gave (made : ℕ → Recs) (k : ℕ) (g : Gathered) (at : ℕ) (l l' ns : List ℕ) (n next : ℕ) : Type 0 where
@@ -173,16 +173,16 @@ module _ (s r : List ℕ) (u : Verdict) (x : u ≡ judge_length s) (ns : List �
   unfolding resolving_by
   tested-long w h y e = rw (← x, h, e) refuses
 
-  module _ (h : u ≡ Ok tt) (v : Verdict) (q : v ≡ judge_request r) where
+  module _ (h : u ≡ fine) (v : Verdict) (q : v ≡ judge_request r) where
     pub tested-refused : (w : Refusal) → v ≡ Err w → (y : Cause) → y ≡ bare w → Measures s r (resolving_tested s r) ns (Err y)
     unfolding resolving_by
     tested-refused w g y e = rw (← x, h, ← q, g, e) refuses
 
-    pub tested-over : v ≡ Ok tt → (y : Result (Option Measured) Cause) → Measures s r (steps_of (walking s) s r) ns y → Measures s r (resolving_tested s r) ns y
+    pub tested-over : v ≡ fine → (y : Result (Option Measured) Cause) → Measures s r (steps_of (walking s) s r) ns y → Measures s r (resolving_tested s r) ns y
     unfolding resolving_by
     tested-over g y k = rw (← x, h, ← q, g) k
 
-pub tested-fine : (r : List ℕ) (v : Verdict) → v ≡ judge_request r → v ≡ Ok tt → judge_request r ≡ Ok tt
+pub tested-fine : (r : List ℕ) (v : Verdict) → v ≡ judge_request r → v ≡ fine → judge_request r ≡ fine
 tested-fine r v q g = sym q ∙ g
 
 pub ruleset measure_tested_laws = (tested-long, tested-refused, tested-over, tested-fine)

@@ -33,9 +33,10 @@ use Rattle.options.specs.inner.Gathering.{options_of, gathered_by}
 use Rattle.options.specs.Steps.{refused, on_type, some_options, steps_of}
 use Rattle.options.specs.inner.Measuring.{Opens, at, none, lost}
 use Rattle.field.specs.declared.Field.{Field}
+use Rattle.reply.specs.Verdicts.{fine}
 
 -- a fine request is no longer than 01 allows
-pub fine-short : (r : List ℕ) → judge_request r ≡ Ok tt → length r ≤ most_request
+pub fine-short : (r : List ℕ) → judge_request r ≡ fine → length r ≤ most_request
 fine-short r f = elim (dec_lt most_request (length r)) [
   | yes h ↦ absurd (refused-fine BeyondLimit (request-long r h ∙ f))
   | no h ↦ omega arith
@@ -47,7 +48,7 @@ pub record Some (os : List Option) : Type 0 where
   pub rest : List Option
   pub is : os ≡ first ∷ rest
 
-module _ (r : List ℕ) (i : ℕ) (f : each_from BadRequest (judge_option r) 0 (walk r i (length r)) ≡ Ok tt) (h : i < length r) where
+module _ (r : List ℕ) (i : ℕ) (f : each_from BadRequest (judge_option r) 0 (walk r i (length r)) ≡ fine) (h : i < length r) where
   some_at : (v : Option Field) → v ≡ field_at r i (length r) → Some (options_in r (walk r i (length r)))
   unfolding option_in
   some_at None q =
@@ -60,7 +61,7 @@ module _ (r : List ℕ) (i : ℕ) (f : each_from BadRequest (judge_option r) 0 (
         is = ap (options_in r) (walk_step r i (length r) h (Some found) q found refl) ∙ rw y refl;
       }
 
-module _ (s r : List ℕ) (f : judge_request r ≡ Ok tt) (v : Option Heading) (q : v ≡ heading_of r) where
+module _ (s r : List ℕ) (f : judge_request r ≡ fine) (v : Option Heading) (q : v ≡ heading_of r) where
   steps-with : steps_of (walking s) s r ≡ some_options (walking s) s r (request_with r v) (request_with r v).options
   unfolding steps_of request_of
   steps-with = rw q refl
@@ -73,7 +74,7 @@ module _ (s r : List ℕ) (f : judge_request r ≡ Ok tt) (v : Option Heading) (
     open-empty c = none (steps-with ∙ rw (g, walk-done r h.options (length r) c) refl)
 
     module _ (c : h.options < length r) (u : Result LookupScope Refusal) (e : u ≡ (walking s).message (text r h.options_type)) where
-      fine-here : each_from BadRequest (judge_option r) 0 (walk r h.options (length r)) ≡ Ok tt
+      fine-here : each_from BadRequest (judge_option r) 0 (walk r h.options (length r)) ≡ fine
       fine-here = fine-options-start r f v q h g
 
       steps_on : steps_of (walking s) s r ≡ on_type (walking s) s r (request_with r (Some h)) u

@@ -3,7 +3,7 @@
 --   Reached r h n i <-> the n options before the place i are done, and those from there on are fine
 --
 -- Assumes nothing.
-use Rattle.std.specs.Prelude.{◌≡◌, refl, List, [], ◌∷◌, ℕ, zero, suc, ◌+◌, ◌-◌, ◌≤◌, ◌<◌, length, drop, Some, Ok, None, Option}
+use Rattle.std.specs.Prelude.{◌≡◌, refl, List, [], ◌∷◌, ℕ, zero, suc, ◌+◌, ◌-◌, ◌≤◌, ◌<◌, length, drop, Some, None, Option}
 use Rattle.basis.specs.Kit.{sym, ap, ◌∙◌}
 use Rattle.basis.proofs.Kit.{arith, add-one, w64, Fits}
 use lib.ListN.{get_elem?}
@@ -28,13 +28,14 @@ use Rattle.options.specs.declared.settle.Start.{Start}
 use Rattle.options.specs.inner.Settling.{settled_at, set_recs}
 use Rattle.options.specs.inner.Gathering.{options_of, set_by, made_at, FineFrom}
 use Rattle.field.specs.declared.Field.{Field}
+use Rattle.reply.specs.Verdicts.{fine}
 
 pub record Reached (r : List ℕ) (h : Start) (n i : ℕ) : Type 0 where
   pub begun : h.options ≤ i
   pub inside : i ≤ length r
   pub count : n ≤ most_options
   pub left : drop n (options_of r h) ≡ options_in r (walk r i (length r))
-  pub fine : each_from BadRequest (judge_option r) n (walk r i (length r)) ≡ Ok tt
+  pub fine : each_from BadRequest (judge_option r) n (walk r i (length r)) ≡ fine
 
 -- ---- what a list has at a place, and what is left behind it
 module _ {A : Type 0} (x : A) (rest : List A) where
@@ -67,7 +68,7 @@ module _ (r : List ℕ) (h : Start) (n i : ℕ) (u : Reached r h n i) where
 
     -- ---- an option
     module _ (here : Field) (g : f ≡ Some here) where
-      judged-here : judge_option r n here.tag here.from here.to ≡ Ok tt
+      judged-here : judge_option r n here.tag here.from here.to ≡ fine
       judged-here = fine-option-at r n i (length r) u.fine l f q here g
 
       tagged : here.tag ≡ option_tag

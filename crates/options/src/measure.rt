@@ -11,6 +11,7 @@ ghost use Rattle.options.specs.inner.Settling.{Started};
 ghost use Rattle.options.specs.inner.Gathering.{gathered_by, knowns_of, FineFrom};
 ghost use Rattle.options.specs.Steps.{steps_in, steps_of, resolving_tested};
 ghost use Rattle.options.specs.inner.Measuring.{all_of, Opens, Counted, Tallies, Ready, Measures};
+ghost use Rattle.reply.specs.Verdicts.{fine};
 
 use crate::settle::{Settling, Start};
 use crate::{gather, put_known};
@@ -27,7 +28,7 @@ pub struct Measured {
 
 // What the options of a fine request start with.
 fn open(sheet: &[u8], request: &[u8]) -> Result<Option<Start>, Cause>
-    requires { judge_request request.now ≡ Ok tt }
+    requires { judge_request request.now ≡ fine }
     ensures { Opens sheet.now request.now result }
 {
     let Some(heading) = heading_of(request) else { return Ok(None); };
@@ -99,7 +100,7 @@ fn measure_from(sheet: &[u8], request: &[u8], start: Start, notes: &mut [usize])
 
 // The verdict on a fine request.
 fn measure_all(sheet: &[u8], request: &[u8], notes: &mut [usize]) -> Result<Option<Measured>, Cause>
-    requires request_value { judge_request request.now ≡ Ok tt }
+    requires request_value { judge_request request.now ≡ fine }
     requires most_options_in_bounds { most_options ≤ length notes.old }
     ensures { Measures sheet.now request.now
         (steps_of (walking sheet.now) sheet.now request.now) notes.new result }

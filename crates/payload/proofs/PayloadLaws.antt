@@ -1,7 +1,7 @@
 -- The laws of `payload`: the ways through the test of a place and a length, what it says where it is fine, and the part and the answer of
 -- its verdict.
 -- Assumes nothing.
-use Rattle.std.specs.Prelude.{◌≡◌, refl, Bool, true, false, List, ℕ, ◌+◌, ◌-◌, ◌≤◌, ◌<◌, leb, length, Err, Ok}
+use Rattle.std.specs.Prelude.{◌≡◌, refl, Bool, true, false, List, ℕ, ◌+◌, ◌-◌, ◌≤◌, ◌<◌, leb, length, Err}
 use Rattle.basis.specs.Kit.{sym, ap, ◌∙◌}
 use Rattle.basis.proofs.Kit.{arith, Fits, w64}
 use mir.Syntax.{w32}
@@ -11,7 +11,7 @@ use Rattle.octets.specs.Octets.{part}
 use Rattle.reply.specs.declared.Refusal.{Refusal}
 use Rattle.reply.specs.declared.Refusal.TheVariants.{BadRequest, BeyondLimit}
 use Rattle.reply.specs.declared.Answer.{Answer}
-use Rattle.reply.specs.Verdicts.{judged, Says, Verdict}
+use Rattle.reply.specs.Verdicts.{judged, Says, Verdict, fine}
 use Rattle.reply.specs.Reply.{refused_by, done_with}
 use Rattle.reply.proofs.VerdictLaws.{says, first-fine-front, first-fine-rest, judged-fine}
 use Rattle.field.specs.Part.{PartOf, no_bytes}
@@ -23,7 +23,7 @@ pub bytes-said : (bs : List ℕ) (b : Bool) (r : Verdict) → b ≡ leb (length 
 unfolding judge_bytes
 bytes-said bs b r p q = says _ r (q ∙ ap (judged BeyondLimit) p)
 
-pub bytes-short : (bs : List ℕ) (r : Verdict) → Says (judge_bytes bs) r → r ≡ Ok tt → length bs ≤ most_option_bytes
+pub bytes-short : (bs : List ℕ) (r : Verdict) → Says (judge_bytes bs) r → r ≡ fine → length bs ≤ most_option_bytes
 unfolding judge_bytes
 bytes-short bs r k q = leb-true (length bs) most_option_bytes (judged-fine BeyondLimit (leb (length bs) most_option_bytes) (sym k.is ∙ q))
 
@@ -42,7 +42,7 @@ module _ (bs : List ℕ) (at n : ℕ) (v : Verdict) (q : Says (judge_bytes bs) v
   unfolding judge_payload
   place-long w g = rw (← q.is, g)
 
-  module _ (g : v ≡ Ok tt) where
+  module _ (g : v ≡ fine) where
     pub place-past : length bs < at → Err BadRequest ≡ judge_payload bs at n
     unfolding judge_payload
     place-past h = rw (← q.is, g, lt-leb (at + n) (length bs) (omega arith))
@@ -54,7 +54,7 @@ module _ (bs : List ℕ) (at n : ℕ) (v : Verdict) (q : Says (judge_bytes bs) v
 pub ruleset place_laws = (place-long, place-past, place-judged)
 
 -- ---- what is fine
-module _ (bs : List ℕ) (at n : ℕ) (v : Verdict) (q : v ≡ judge_payload bs at n) (g : v ≡ Ok tt) where
+module _ (bs : List ℕ) (at n : ℕ) (v : Verdict) (q : v ≡ judge_payload bs at n) (g : v ≡ fine) where
   short : length bs ≤ most_option_bytes
   unfolding judge_payload judge_bytes
   short = leb-true _ _ (judged-fine BeyondLimit _ (first-fine-front (judge_bytes bs) _ (sym q ∙ g)))

@@ -18,7 +18,7 @@ use Rattle.reply.specs.declared.Refusal.{Refusal}
 use Rattle.reply.specs.declared.Cause.{Cause}
 use Rattle.reply.specs.declared.Where.TheVariants.{Nowhere}
 use Rattle.reply.specs.Reply.{bare}
-use Rattle.reply.specs.Verdicts.{first_fault, Verdict}
+use Rattle.reply.specs.Verdicts.{first_fault, Verdict, fine}
 use Rattle.reply.proofs.VerdictLaws.{refused-fine}
 use Rattle.scope.specs.declared.lookup.LookupScope.{LookupScope}
 use Rattle.sheetform.specs.Form.{judge_sheet}
@@ -149,7 +149,7 @@ module _ (L : Lookups) (s r scope : List ℕ) (m : Message) where
 
 -- ---- the call
 pub data Resolves (s r : List ℕ) : Type 0 where
-  refuses : (p : LookupScope) (k : ℕ) (e : Fault) → judge_sheet s ≡ Ok tt → judge_request r ≡ Ok tt
+  refuses : (p : LookupScope) (k : ℕ) (e : Fault) → judge_sheet s ≡ fine → judge_request r ≡ fine
       → (walking s).message (options_type r) ≡ Ok p → FirstFault (settled_in s r p) (request_of r).options k e
       → resolving s r ≡ refused (cause_at k e) → Resolves s r
   passes : (OptionRefused s r → ⊥) → ((c : Cause) → resolving s r ≡ refused c → c.place ≡ Nowhere) → Resolves s r
@@ -165,7 +165,7 @@ module _ (s r : List ℕ) where
   abbrev request : tree.Request
   request = request_of r
 
-  module _ (f : judge_sheet s ≡ Ok tt) (g : judge_request r ≡ Ok tt) where
+  module _ (f : judge_sheet s ≡ fine) (g : judge_request r ≡ fine) where
     steps-fine : resolving s r ≡ request_steps (walking s) s r request
     unfolding resolving_by steps_of
     steps-fine = rw (f, g) refl
@@ -208,7 +208,7 @@ module _ (s r : List ℕ) where
   unfolding resolving_by
   steps-faulty w f g h = rw (f, g, h) refl
 
-  by-request : judge_sheet s ≡ Ok tt → (v : Verdict) → judge_request r ≡ v → Resolves s r
+  by-request : judge_sheet s ≡ fine → (v : Verdict) → judge_request r ≡ v → Resolves s r
   by-request f (Ok _) g = by-options f g request.options refl
   by-request f (Err w) g = passes (λ k. refused-fine w (sym g ∙ k.request)) (refused-bare w (steps-faulty w f g refl))
 

@@ -19,8 +19,9 @@ use Rattle.options.specs.Steps.{records, refused, steps_in, on_type, resolving}
 use Rattle.alone.specs.Alone.{alone, fault_of, Own}
 use Rattle.places.specs.Places.{scope_of, options_type, options_at, settled_in}
 use Rattle.places.proofs.FirstLaws.{first-here, gather-first, gather-passed, steps-some}
+use Rattle.reply.specs.Verdicts.{fine}
 
-module _ (s r : List ℕ) (f : judge_sheet s ≡ Ok tt) (p : LookupScope) (t : (walking s).message (options_type r) ≡ Ok p)
+module _ (s r : List ℕ) (f : judge_sheet s ≡ fine) (p : LookupScope) (t : (walking s).message (options_type r) ≡ Ok p)
     (i : ℕ) (o : tree.Option) (k : Own r i o) where
   abbrev own : List ℕ
   own = alone r i

@@ -9,7 +9,7 @@ use Rattle.reply.specs.declared.Answer.{Answer}
 use Rattle.reply.specs.Reply.{nowhere, refused_for}
 use Rattle.reply.specs.Outcome.{Outcome, refuse, within, answer_of, Answered}
 use Rattle.reply.specs.Outcome as outcome
-use Rattle.reply.specs.Verdicts.{first_fault, Verdict}
+use Rattle.reply.specs.Verdicts.{first_fault, Verdict, fine}
 use Rattle.reply.proofs.VerdictLaws.{refused-fine, first-fine-front, first-fine-rest}
 use Rattle.sheetform.specs.Form.{judge_sheet}
 use Rattle.requestform.specs.Form.{judge_options_type, judge_name}
@@ -37,7 +37,7 @@ module _ (s type q bs : List ℕ) where
   unfolding query_by query_of
   query-named k = rw (k.fine, k.read, k.refused) refl
 
-  name-fine : judge_inputs (judge_sheet s) type q bs ≡ Ok tt → judge_name q ≡ Ok tt
+  name-fine : judge_inputs (judge_sheet s) type q bs ≡ fine → judge_name q ≡ fine
   unfolding judge_inputs
   name-fine f =
       first-fine-front (judge_name q) (judge_bytes bs)
@@ -55,7 +55,7 @@ module _ (s type q bs : List ℕ) where
   bare-answered None = bare-nothing
   bare-answered (Some y) = bare-give (words y)
 
-  module _ (f : judge_inputs (judge_sheet s) type q bs ≡ Ok tt) where
+  module _ (f : judge_inputs (judge_sheet s) type q bs ≡ fine) where
     of-records : (u : Under) → records_of (walking s) s type bs ≡ u → come ≡ on_records joins_none (walking s) s q u
     unfolding query_by query_of
     of-records u g = rw (f, g) refl

@@ -33,6 +33,7 @@ use Rattle.places.proofs.FirstLaws as first
 use Rattle.places.proofs.FirstLaws.{Resolves, refuses, passes, resolves}
 use Rattle.places.proofs.BareLaws.{bare-nowhere}
 use Rattle.places.proofs.OwnLaws.{own-refused, own-written}
+use Rattle.reply.specs.Verdicts.{fine}
 
 -- ---- the answer of what a request comes to
 module _ (s r : List ℕ) {before after : List ℕ} {a : Answer} (k : Answered (resolve_bytes s r) before after a) where
@@ -60,7 +61,7 @@ unfolding resolve_bytes
 resolve-bare s r h = steps-bare (resolving s r) h
 
 -- ---- refused at an option
-module _ (s r : List ℕ) (p : LookupScope) (n : ℕ) (e : Fault) (f : judge_sheet s ≡ Ok tt) (g : judge_request r ≡ Ok tt)
+module _ (s r : List ℕ) (p : LookupScope) (n : ℕ) (e : Fault) (f : judge_sheet s ≡ fine) (g : judge_request r ≡ fine)
     (t : (walking s).message (options_type r) ≡ Ok p) (u : FirstFault (settled_in s r p) (request_of r).options n e) where
   abbrev said : Answer
   said = refused_for (cause_at n e)

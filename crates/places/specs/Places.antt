@@ -48,6 +48,7 @@ use Rattle.entries.specs.Reading.{under, records_of}
 use Rattle.naming.specs.Name.{refused_at, of_part, declarations}
 use Rattle.query.specs.Query.{judge_inputs}
 use Rattle.places.specs.Parts.{AtPart, FaultOf}
+use Rattle.reply.specs.Verdicts.{fine}
 
 -- ---- a request
 abbrev pub scope_of : (r : List ℕ) → List ℕ
@@ -63,8 +64,8 @@ abbrev pub settled_in : (s r : List ℕ) → LookupScope → Option → Settled
 settled_in s r p o = settle (walking s) s r (scope_of r) (options_at r p) o
 
 pub record OptionRefused (s r : List ℕ) : Type 0 where
-  pub sheet : judge_sheet s ≡ Ok tt
-  pub request : judge_request r ≡ Ok tt
+  pub sheet : judge_sheet s ≡ fine
+  pub request : judge_request r ≡ fine
   pub place : LookupScope
   pub type : (walking s).message (options_type r) ≡ Ok place
   pub option : Option
@@ -118,7 +119,7 @@ abbrev pub NothingBehind : {A B : Type 0} → A → B → Type 0
 NothingBehind h w = ⊥
 
 pub record NameRefused (s type q bs : List ℕ) : Type 0 where
-  pub fine : judge_inputs (judge_sheet s) type q bs ≡ Ok tt
+  pub fine : judge_inputs (judge_sheet s) type q bs ≡ fine
   pub message : Message
   pub records : Tree
   pub read : records_of (walking s) s type bs ≡ under message records

@@ -1,7 +1,7 @@
 -- What a request writes reads back: by Encoding as these records, and under the same sheet, where that declares each number once, as rows
 -- that hold what they hold. The statements stand at the end.
 -- Assumes nothing.
-use Rattle.std.specs.Prelude.{◌≡◌, true, ◌&&◌, List, ℕ, ◌≤◌, length, Some, Ok}
+use Rattle.std.specs.Prelude.{◌≡◌, true, ◌&&◌, List, ℕ, ◌≤◌, length, Some}
 use Rattle.basis.proofs.Kit.{arith}
 use mathlib.Core.Bool.{and-eq-true_iff}
 use borrow.Author.Tests.{le-leb}
@@ -36,6 +36,7 @@ use Rattle.promises.proofs.Levels.{resolve-levels}
 use Rattle.promises.proofs.SizedLaws.{request-sized}
 use Rattle.promises.proofs.Declarations.{walking-steady}
 use Rattle.promises.proofs.WrittenLaws.{WrittenAt, steps-written}
+use Rattle.reply.specs.Verdicts.{fine}
 
 pub nested-few : (x : Recs) → nested x ≤ deepest x
 nested-few nil = omega arith
@@ -44,8 +45,8 @@ nested-few (bytes n t b r) = omega (arith, nested-few r)
 nested-few (message n i r) = omega (arith, nested-few i, nested-few r)
 
 -- ---- a listing whose inputs are fine
-module _ (s type bs : List ℕ) (sheet : judge_sheet s ≡ Ok tt) (name : is_rel_path type ≡ true) (few : length bs ≤ most_option_bytes) where
-  inputs-fine : judge_inputs (judge_sheet s) type bs ≡ Ok tt
+module _ (s type bs : List ℕ) (sheet : judge_sheet s ≡ fine) (name : is_rel_path type ≡ true) (few : length bs ≤ most_option_bytes) where
+  inputs-fine : judge_inputs (judge_sheet s) type bs ≡ fine
   unfolding judge_inputs judge_options_type judge_bytes
   inputs-fine = rw (sheet, name, le-leb (length bs) most_option_bytes few)
 
@@ -53,7 +54,7 @@ module _ (s type bs : List ℕ) (sheet : judge_sheet s ≡ Ok tt) (name : is_rel
   unfolding listing_by
   listing-is m t e = rw (inputs-fine, e)
 
-pub type-fine : (r : List ℕ) → judge_request r ≡ Ok tt → is_rel_path (text r (request_of r).options_type) ≡ true
+pub type-fine : (r : List ℕ) → judge_request r ≡ fine → is_rel_path (text r (request_of r).options_type) ≡ true
 type-fine r p =
     let q = request_of r in
     let scope = is_rel_or_empty (text r q.scope) in

@@ -13,7 +13,7 @@ use Rattle.basis.proofs.Never.{never}
 use borrow.Author.Tests.{ltb-true, ltb-false}
 use Rattle.limits.specs.Figures.{most_request, most_constants}
 use Rattle.reply.specs.declared.Refusal.TheVariants.{BeyondLimit}
-use Rattle.reply.specs.Verdicts.{first_fault, Verdict}
+use Rattle.reply.specs.Verdicts.{first_fault, Verdict, fine}
 use Rattle.reply.proofs.VerdictLaws.{refused-fine, first-fine-front, first-fine-rest}
 use Rattle.field.specs.Leaf.{text}
 use Rattle.field.specs.Walk.{Walk, done, cut, step, walk}
@@ -132,7 +132,7 @@ module _ (L : Lookups) (s r : List ℕ) where
       go (refused w) e stops = never cc
 
 -- ---- what is fine
-fine-length : (r : List ℕ) → judge_request r ≡ Ok tt → length r ≤ most_request
+fine-length : (r : List ℕ) → judge_request r ≡ fine → length r ≤ most_request
 fine-length r p = go (ltb most_request (length r)) refl
   where
     go : (b : Bool) → ltb most_request (length r) ≡ b → length r ≤ most_request
@@ -140,18 +140,18 @@ fine-length r p = go (ltb most_request (length r)) refl
     go false l = ltb-false most_request (length r) l
 
 module _ (v : Verdict) (s r : List ℕ) (x : Recs) (e : resolving_by v s r ≡ records x) where
-  fine-both : first_fault v (judge_request r) ≡ Ok tt
+  fine-both : first_fault v (judge_request r) ≡ fine
   unfolding resolving_by
   fine-both = go (first_fault v (judge_request r)) e
     where
-      go : (u : Verdict) → unless u (steps_of (walking s) s r) ≡ records x → u ≡ Ok tt
+      go : (u : Verdict) → unless u (steps_of (walking s) s r) ≡ records x → u ≡ fine
       go (Ok _) e = refl
       go (Err w) e = never cc
 
-  pub resolved-sheet : v ≡ Ok tt
+  pub resolved-sheet : v ≡ fine
   resolved-sheet = first-fine-front v (judge_request r) fine-both
 
-  pub resolved-fine : judge_request r ≡ Ok tt
+  pub resolved-fine : judge_request r ≡ fine
   resolved-fine = first-fine-rest v (judge_request r) fine-both
 
   pub resolved-steps : steps_of (walking s) s r ≡ records x
@@ -164,7 +164,7 @@ pub resolving-few : (L : Lookups) (s r : List ℕ) (x : Recs) → steps_of L s r
 resolving-few L s r x e = (records-small L s r x e).few
 
 -- A fine request, which has at most 8,192 bytes, writes at most 65,536.
-pub request-few : (L : Lookups) (s r : List ℕ) → judge_request r ≡ Ok tt → (x : Recs) → steps_of L s r ≡ records x → length (encode x) ≤ 65536
+pub request-few : (L : Lookups) (s r : List ℕ) → judge_request r ≡ fine → (x : Recs) → steps_of L s r ≡ records x → length (encode x) ≤ 65536
 request-few L s r p x e = omega (arith, resolving-few L s r x e, fine-length r p)
 
 -- So does every call of `resolve` and of `resolve_tested`, however the sheet is judged.

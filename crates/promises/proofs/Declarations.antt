@@ -43,6 +43,7 @@ use Rattle.entries.specs.Item.{declared}
 use Rattle.readback.specs.Once.{as-field, as-extension, Once}
 use Rattle.readback.proofs.OnceLaws.{declared-once}
 use Rattle.promises.proofs.SizedLaws.{value-small}
+use Rattle.reply.specs.Verdicts.{fine}
 
 pub record Usable (L : Lookups) (s : List ℕ) (m : Message) (d : Declaration) : Type 0 where
   pub declares : Once L s → declared s m d.shape.number ≡ Some d
@@ -207,7 +208,7 @@ files-held all (f ∷ fs) h =
     (files-held all fs (λ d k. h d (among-append-right (every_extension_of f.items) k)))
 
 -- ==== the statement
-module _ (s : List ℕ) (fine : judge_sheet s ≡ Ok tt) where
+module _ (s : List ℕ) (fine : judge_sheet s ≡ fine) where
   ranged : Every (λ f. Each InRange f.items) (tree_of s)
   ranged = files-ranged s (tree_of s) (fine-good s fine)
 

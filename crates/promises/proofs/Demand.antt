@@ -13,7 +13,7 @@ use Rattle.reply.specs.declared.Refusal.TheVariants.{NoRoom}
 use Rattle.reply.specs.declared.Cause.{Cause}
 use Rattle.reply.specs.declared.Answer.{Answer}
 use Rattle.reply.specs.Reply.{number, bare, refused_for, refused_by, done_with, decided}
-use Rattle.reply.specs.Verdicts.{first_fault, asked, Verdict}
+use Rattle.reply.specs.Verdicts.{first_fault, asked, Verdict, fine}
 use Rattle.reply.specs.Outcome.{refuse, give, within, answer_of, left_of, Answered}
 use Rattle.reply.proofs.Rows.{every-at}
 use Rattle.lookups.specs.Lookups.{Message, walking}
@@ -102,7 +102,7 @@ decided-true : (b : Bool) → decided b ≡ decided true → b ≡ true
 decided-true true e = refl
 decided-true false e = absurd (let none : 0 ≡ 1 = ap (λ (a : Answer). a.second) e in omega arith)
 
-asked-fine : (v : Verdict) (b : Bool) → asked v b ≡ decided true → v ≡ Ok tt
+asked-fine : (v : Verdict) (b : Bool) → asked v b ≡ decided true → v ≡ fine
 asked-fine (Ok _) b e = refl
 asked-fine (Err w) b e = absurd (refused-yes w e)
 

@@ -38,9 +38,10 @@ use Rattle.readback.specs.Older.{Kept, Keeps}
 use Rattle.readback.proofs.OnceLaws.{declared-only}
 use Rattle.promises.proofs.CleanLaws.{number, number_of, field-number, extension-number}
 use Rattle.promises.proofs.CleanLaws.{clean-name, number-once, path-message, extendee-message}
+use Rattle.reply.specs.Verdicts.{fine}
 
 -- ---- a clean sheet
-module _ (s : List ℕ) (fine : judge_sheet s ≡ Ok tt) (c : clean s ≡ true) where
+module _ (s : List ℕ) (fine : judge_sheet s ≡ fine) (c : clean s ≡ true) where
   only : (m : Message) → (walking s).message m.name ≡ Ok m.place → messages_at s (components m.name) ≡ holding s m.place ∷ []
   only m at = looked-up-is s (components m.name) ((walking s).message m.name) refl m.place at
 
@@ -96,7 +97,7 @@ module _ (s : List ℕ) (fine : judge_sheet s ≡ Ok tt) (c : clean s ≡ true) 
   clean_found t x k = ap looked_up (message-found s fine (clean-name s c) t x k)
 
 -- ---- two sheets, the older contained in the newer
-module _ (s t : List ℕ) (fine : judge_sheet s ≡ Ok tt) (clear : clean s ≡ true) (fine' : judge_sheet t ≡ Ok tt) (clear' : clean t ≡ true)
+module _ (s t : List ℕ) (fine : judge_sheet s ≡ fine) (clear : clean s ≡ true) (fine' : judge_sheet t ≡ fine) (clear' : clean t ≡ true)
     (within : contained s t ≡ true) where
   pub record One (m m' : Message) : Type 0 where
     pub name : m.name ≡ m'.name

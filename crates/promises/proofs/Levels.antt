@@ -1,6 +1,6 @@
 -- How deep the records lie that a fine request writes. The statements stand at the end.
 -- Assumes nothing.
-use Rattle.std.specs.Prelude.{◌≡◌, refl, Bool, true, false, ◌&&◌, List, [], ◌∷◌, ℕ, ◌≤◌, eqb, leb, length, Ok}
+use Rattle.std.specs.Prelude.{◌≡◌, refl, Bool, true, false, ◌&&◌, List, [], ◌∷◌, ℕ, ◌≤◌, eqb, leb, length}
 use Rattle.basis.proofs.Kit.{arith}
 use mathlib.Core.Bool.{false≢true, and-eq-true_iff}
 use borrow.Author.Tests.{leb-true}
@@ -19,7 +19,7 @@ use Rattle.options.specs.Steps.{records, steps_of}
 use Rattle.options.specs.Resolve.{resolving_by}
 use Rattle.promises.specs.Levels.{deepest}
 use Rattle.promises.proofs.Bounds.{longest, records-small, resolved-fine, resolved-steps}
-use Rattle.reply.specs.Verdicts.{Verdict}
+use Rattle.reply.specs.Verdicts.{Verdict, fine}
 
 parts-few : (r : List ℕ) (o : Option) → good_option r o ≡ true → length o.parts ≤ most_parts
 parts-few r o = go (leb 1 n) (leb n most_parts) refl (good_parts r o.parts) (eqb (count_of o.constant) 1) (good_constants r o.constant)
@@ -39,7 +39,7 @@ longest-few r (o ∷ os) h =
     let both = (and-eq-true_iff (good_option r o) (good_options r os)).0 h in
     omega (arith, parts-few r o both.0, longest-few r os both.1)
 
-fine-longest : (r : List ℕ) → judge_request r ≡ Ok tt → longest (request_of r).options ≤ most_parts
+fine-longest : (r : List ℕ) → judge_request r ≡ fine → longest (request_of r).options ≤ most_parts
 fine-longest r p =
     let q = request_of r in
     let heading = is_rel_or_empty (text r q.scope) && is_rel_path (text r q.options_type) in
@@ -47,7 +47,7 @@ fine-longest r p =
 
 -- ==== the statements
 -- The records of a fine request have at most 31 levels: none lies deeper than level 30, the outermost being at level 0.
-pub levels-few : (L : Lookups) (s r : List ℕ) → judge_request r ≡ Ok tt → (x : Recs) → steps_of L s r ≡ records x → deepest x ≤ 31
+pub levels-few : (L : Lookups) (s r : List ℕ) → judge_request r ≡ fine → (x : Recs) → steps_of L s r ≡ records x → deepest x ≤ 31
 levels-few L s r p x e = omega (arith, (records-small L s r x e).levels, fine-longest r p)
 
 -- So it is of every call of `resolve` and of `resolve_tested`, however the sheet is judged.

@@ -116,6 +116,7 @@ use Rattle.promises.proofs.CleanLaws as cleanly
 use Rattle.promises.proofs.EvolveLaws as evolves
 use Rattle.promises.proofs.Demand as demand
 use Rattle.promises.proofs.Demands as demands
+use Rattle.reply.specs.Verdicts.{fine}
 
 -- ==== Demand 1: every input gets an answer from 01's table; a refusal writes nothing; NoRoom comes last
 -- Of each call, `o` being what it comes to:
@@ -156,7 +157,7 @@ module _ (o : Outcome ℕ) (before : List ℕ) where
     absent-answer e = k.answer ∙ ap (λ x. answer_of (within (length before) x)) e
 
 -- A sheet that was tested once may be asked a thousand times: on it a call without that test comes to the same.
-module _ (s : List ℕ) (fine : judge_sheet s ≡ Ok tt) where
+module _ (s : List ℕ) (fine : judge_sheet s ≡ fine) where
   pub resolve-once : (r : List ℕ) → resolve_bytes s r ≡ resolve_tested s r
   resolve-once r = resolves.resolve-tested s r fine
 
@@ -250,7 +251,7 @@ module _ (s r before after : List ℕ) (a : Answer) (k : Answered (resolve_bytes
 
 -- A request of its own: `alone r i` is the heading of r and the field of its i-th option. It is a fine request, of the same scope and options
 -- type, and has that option alone, with the fault that it has in r, or none.
-pub option-own : (r : List ℕ) → judge_request r ≡ Ok tt → (i : ℕ) (o : Option) → get_elem? (request_of r).options i ≡ Some o → Own r i o
+pub option-own : (r : List ℕ) → judge_request r ≡ fine → (i : ℕ) (o : Option) → get_elem? (request_of r).options i ≡ Some o → Own r i o
 option-own = apart.own-request
 
 -- Of `query` the option is 65,535, and the part is a position exactly when its name is refused by its steps: that of the part at fault.
@@ -384,7 +385,7 @@ module _ (s type q bs : List ℕ) where
 
   -- What follows holds of it, its look-ups being those that walk over the sheet, and no records being joined: where its inputs are fine, so
   -- where it gives words or Absent.
-  pub query-fine : judge_inputs (judge_sheet s) type q bs ≡ Ok tt → query s type q bs ≡ query_of never (walking s) s type q bs
+  pub query-fine : judge_inputs (judge_sheet s) type q bs ≡ fine → query s type q bs ≡ query_of never (walking s) s type q bs
   query-fine = calls.query-fine s type bs q
 
   pub query-of : (ws : List ℕ) → query s type q bs ≡ give ws → query_of never (walking s) s type q bs ≡ give ws

@@ -32,9 +32,10 @@ use Rattle.readback.specs.Older.{told}
 use Rattle.places.specs.Places.{options_type}
 use Rattle.reply.specs.declared.Refusal.{Refusal}
 use Rattle.scope.specs.declared.lookup.LookupScope.{LookupScope}
+use Rattle.reply.specs.Verdicts.{fine}
 
 pub record CleanSheet (s : List ℕ) : Type 0 where
-  pub fine : judge_sheet s ≡ Ok tt
+  pub fine : judge_sheet s ≡ fine
   pub clear : clean s ≡ true
 
 abbrev pub declares : (s name : List ℕ) → Bool

@@ -11,7 +11,7 @@ use Rattle.reply.specs.declared.Refusal.TheVariants.{BeyondLimit, NoRoom}
 use Rattle.reply.specs.declared.Cause.{Cause}
 use Rattle.reply.specs.declared.Answer.{Answer}
 use Rattle.reply.specs.Reply.{bare, refused_for, refused_by as refused_answer, done_with, absent_answer}
-use Rattle.reply.specs.Verdicts.{first_fault, Verdict}
+use Rattle.reply.specs.Verdicts.{first_fault, Verdict, fine}
 use Rattle.reply.specs.Outcome.{refuse, unless, give, Answered}
 use Rattle.reply.proofs.Outcomes.{answered-refused, answered-absent, answered-no-room, answered-done}
 use Rattle.reply.proofs.VerdictLaws.{first-fine-front, first-fine-rest, judged-fine}
@@ -67,22 +67,22 @@ module _ (s type q bs : List ℕ) (u : Verdict) (x : u ≡ judge_length s) where
   unfolding admitted judge_inputs
   message-long w h = rw (← x, h)
 
-  module _ (h : u ≡ Ok tt) (v : Verdict) (y : v ≡ judge_options_type type) where
+  module _ (h : u ≡ fine) (v : Verdict) (y : v ≡ judge_options_type type) where
     pub message-bad-type : (w : Refusal) → v ≡ Err w → Err w ≡ admitted (judge_length s) s type q bs
     unfolding admitted judge_inputs
     message-bad-type w g = rw (← x, h, ← y, g)
 
-    module _ (g : v ≡ Ok tt) (n : Verdict) (z : n ≡ judge_name q) where
+    module _ (g : v ≡ fine) (n : Verdict) (z : n ≡ judge_name q) where
       pub message-bad-name : (w : Refusal) → n ≡ Err w → Err w ≡ admitted (judge_length s) s type q bs
       unfolding admitted judge_inputs
       message-bad-name w k = rw (← x, h, ← y, g, ← z, k)
 
-      module _ (k : n ≡ Ok tt) (b : Verdict) (c : b ≡ judge_bytes bs) where
+      module _ (k : n ≡ fine) (b : Verdict) (c : b ≡ judge_bytes bs) where
         pub message-long-bytes : (w : Refusal) → b ≡ Err w → Err w ≡ admitted (judge_length s) s type q bs
         unfolding admitted judge_inputs
         message-long-bytes w j = rw (← x, h, ← y, g, ← z, k, ← c, j)
 
-        pub message-is : b ≡ Ok tt → (r : Result LookupScope Refusal) → r ≡ (walking s).message type → r ≡ admitted (judge_length s) s type q bs
+        pub message-is : b ≡ fine → (r : Result LookupScope Refusal) → r ≡ (walking s).message type → r ≡ admitted (judge_length s) s type q bs
         unfolding admitted judge_inputs
         message-is j r e = rw (← x, h, ← y, g, ← z, k, ← c, j) e
 
@@ -132,11 +132,11 @@ module _ (s type q bs : List ℕ) (r : Result LookupScope Refusal) (e : r ≡ ad
     pub tested-inside : InSheet s p
     tested-inside = message-lies s type ((walking s).message type) refl p admitting.is
 
-    name-and-bytes : first_fault (judge_name q) (judge_bytes bs) ≡ Ok tt
+    name-and-bytes : first_fault (judge_name q) (judge_bytes bs) ≡ fine
     unfolding judge_inputs
     name-and-bytes = first-fine-rest (judge_options_type type) _ (first-fine-rest (judge_length s) _ admitting.fine)
 
-    pub tested-name : judge_name q ≡ Ok tt
+    pub tested-name : judge_name q ≡ fine
     tested-name = first-fine-front (judge_name q) (judge_bytes bs) name-and-bytes
 
     pub tested-short : length bs ≤ most_option_bytes
@@ -150,7 +150,7 @@ module _ (s type q bs : List ℕ) (r : Result LookupScope Refusal) (e : r ≡ ad
 pub ruleset query_tested_laws = (tested-refused, tested-inside, tested-name, tested-short, tested-seen)
 
 -- ---- `query` answers as `query_tested` does, of every sheet whose form is fine
-pub query-tested : (s type q bs : List ℕ) → judge_sheet s ≡ Ok tt → query s type q bs ≡ query_tested s type q bs
+pub query-tested : (s type q bs : List ℕ) → judge_sheet s ≡ fine → query s type q bs ≡ query_tested s type q bs
 query-tested s type q bs h = ap (λ v. query_by v s type q bs) (h ∙ sym (sheet-length s h))
 
 module _ (s type q bs : List ℕ) (v : Verdict) (e : v ≡ judge_sheet s) (l : List ℕ) (a : Answer) where
@@ -158,7 +158,7 @@ module _ (s type q bs : List ℕ) (v : Verdict) (e : v ≡ judge_sheet s) (l : L
   unfolding query_by judge_inputs
   query-refused w g d = rw d (answered-refused _ l (bare w) (rw (← e, g)))
 
-  pub query-answered : v ≡ Ok tt → (l' : List ℕ) → Answered (query_tested s type q bs) l l' a → Answered (query s type q bs) l l' a
+  pub query-answered : v ≡ fine → (l' : List ℕ) → Answered (query_tested s type q bs) l l' a → Answered (query s type q bs) l l' a
   query-answered g l' k = rw (query-tested s type q bs (sym e ∙ g)) k
 
 pub ruleset query_laws = (query-refused, query-answered)

@@ -39,6 +39,7 @@ use Rattle.query.specs.inner.Answering.{seen_in, count_of, settled, of_named, of
 use Rattle.naming.proofs.NameLaws.{declarations-length}
 use Rattle.following.proofs.FollowLaws.{step_after}
 use Rattle.following.proofs.ReachedLaws.{followed-reached}
+use Rattle.reply.specs.Verdicts.{fine}
 
 -- ---- follow_rows: the rows before the cursor are followed
 seen-push : (ks : List ℕ) (n : ℕ) (f : Followed) (x : Row) (o : Outcome Row)
@@ -142,7 +143,7 @@ module _ (p : LookupScope) (bs st : List ℕ) (c : Cursor) (k : Starts p bs st c
 pub ruleset see_rows_laws = (start-open, all_seen)
 
 -- ---- query_over
-module _ (q : List ℕ) (fine : judge_name q ≡ Ok tt) (us : List ℕ) (size : length us ≡ most_parts * key_words) where
+module _ (q : List ℕ) (fine : judge_name q ≡ fine) (us : List ℕ) (size : length us ≡ most_parts * key_words) where
   pub over-namable : (scope : List ℕ) → length scope ≡ 0 → Namable q scope 0 0 us
   over-namable scope e = record {
     within = omega arith;

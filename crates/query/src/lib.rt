@@ -18,6 +18,7 @@ ghost use Rattle.query.specs.Query.{query_tested, query as query_of};
 ghost use Rattle.following.specs.inner.Keys.{key_words};
 ghost use Rattle.following.specs.inner.Following.{nothing_yet};
 ghost use Rattle.query.specs.inner.Answering.{seen_in, count_of, settled, queried, outcome_of, admitted};
+ghost use Rattle.reply.specs.Verdicts.{fine};
 
 use entries::Row;
 use following::{Best, follow};
@@ -134,7 +135,7 @@ fn query_over(
     requires bytes_len_bound { length bytes.now ≤ most_option_bytes }
     requires stack_len { length stack.old ≡ stack_words }
     requires keys_len { length keys.old ≡ most_parts * key_words }
-    requires name_value { judge_name name.now ≡ Ok tt }
+    requires name_value { judge_name name.now ≡ fine }
     ensures { result ≡ queried (walking sheet.now) sheet.now name.now
         (message_of options_type.now place) bytes.now }
 {
@@ -163,7 +164,7 @@ fn query_in(
 ) -> Result<Option<Row>, Cause>
     requires in_sheet { InSheet sheet.now place }
     requires bytes_len_bound { length bytes.now ≤ most_option_bytes }
-    requires name_value { judge_name name.now ≡ Ok tt }
+    requires name_value { judge_name name.now ≡ fine }
     ensures { result ≡ queried (walking sheet.now) sheet.now name.now
         (message_of options_type.now place) bytes.now }
 {

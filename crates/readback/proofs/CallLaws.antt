@@ -17,14 +17,14 @@ use Rattle.query.specs.Query.{query_of, query_by, query}
 use Rattle.query.specs.Query as queries
 use Rattle.readback.specs.Follows.{OwnRow}
 use Rattle.readback.proofs.QueryLaws.{query-answers, leads-listed}
-use Rattle.reply.specs.Verdicts.{Verdict}
+use Rattle.reply.specs.Verdicts.{Verdict, fine}
 
 -- ---- an outcome that is no refusal is not that of a fault
-given-fine : (v : Verdict) (o : Outcome ℕ) (ws : List ℕ) → unless v o ≡ give ws → (v ≡ Ok tt) × (o ≡ give ws)
+given-fine : (v : Verdict) (o : Outcome ℕ) (ws : List ℕ) → unless v o ≡ give ws → (v ≡ fine) × (o ≡ give ws)
 given-fine (Ok _) o ws e = (refl, e)
 given-fine (Err w) o ws e = never cc
 
-nothing-fine : (v : Verdict) (o : Outcome ℕ) → unless v o ≡ nothing → (v ≡ Ok tt) × (o ≡ nothing)
+nothing-fine : (v : Verdict) (o : Outcome ℕ) → unless v o ≡ nothing → (v ≡ fine) × (o ≡ nothing)
 nothing-fine (Ok _) o e = (refl, e)
 nothing-fine (Err w) o e = never cc
 
@@ -50,7 +50,7 @@ module _ (s type bs : List ℕ) where
   module _ (q : List ℕ) where
     -- `query` comes to what its definition over any look-ups does, of those that walk over the sheet, no records being joined: where its
     -- inputs are fine, so where it gives words or Absent.
-    pub query-fine : queries.judge_inputs (judge_sheet s) type q bs ≡ Ok tt
+    pub query-fine : queries.judge_inputs (judge_sheet s) type q bs ≡ fine
         → query s type q bs ≡ query_of none_joins (walking s) s type q bs
     unfolding query_by
     query-fine e = rw e
@@ -64,7 +64,7 @@ module _ (s type bs : List ℕ) where
     query-of-none e = (nothing-fine (queries.judge_inputs (judge_sheet s) type q bs) _ e).1
 
     -- where its inputs are fine, so are those of `list`
-    inputs-fine : queries.judge_inputs (judge_sheet s) type q bs ≡ Ok tt → judge_inputs (judge_sheet s) type bs ≡ Ok tt
+    inputs-fine : queries.judge_inputs (judge_sheet s) type q bs ≡ fine → judge_inputs (judge_sheet s) type bs ≡ fine
     unfolding judge_inputs queries.judge_inputs
     inputs-fine e =
         let sheet = first-fine-front (judge_sheet s) _ e in

@@ -1,11 +1,11 @@
 -- What the call `payload` hands back: of a place and a length inside the option bytes that part, of others none.
 -- Assumes nothing.
-use Rattle.std.specs.Prelude.{◌≡◌, List, ℕ, ◌+◌, ◌≤◌, ◌<◌, length, Err, Ok}
+use Rattle.std.specs.Prelude.{◌≡◌, List, ℕ, ◌+◌, ◌≤◌, ◌<◌, length, Err}
 use Rattle.basis.specs.Kit.{sym, ap, ◌∙◌}
 use borrow.Author.Tests.{le-leb, lt-leb}
 use Rattle.limits.specs.Figures.{most_option_bytes}
 use Rattle.reply.specs.declared.Refusal.TheVariants.{BadRequest, BeyondLimit}
-use Rattle.reply.specs.Verdicts.{answer_for, Verdict}
+use Rattle.reply.specs.Verdicts.{answer_for, Verdict, fine}
 use Rattle.reply.specs.Reply.{refused_by, done_with}
 use Rattle.field.specs.declared.Span.{Span}
 use Rattle.field.specs.Leaf.{span}
@@ -13,7 +13,7 @@ use Rattle.field.specs.Part.{PartOf, no_bytes}
 use Rattle.payload.specs.Payload.{judge_bytes, judge_payload, span_for, payload_span, payload_answer}
 
 module _ (bs : List ℕ) (at n : ℕ) where
-  judged-inside : length bs ≤ most_option_bytes → at + n ≤ length bs → judge_payload bs at n ≡ Ok tt
+  judged-inside : length bs ≤ most_option_bytes → at + n ≤ length bs → judge_payload bs at n ≡ fine
   unfolding judge_payload judge_bytes
   judged-inside few h = rw (le-leb (length bs) most_option_bytes few, le-leb (at + n) (length bs) h)
 
@@ -34,7 +34,7 @@ module _ (bs : List ℕ) (at n : ℕ) where
   -- A place and a length inside give that part, and 0 with its length,
   pub payload-inside : length bs ≤ most_option_bytes → at + n ≤ length bs
       → (payload_span bs at n ≡ span at (at + n)) × (payload_answer bs at n ≡ done_with n)
-  payload-inside few h = handed (Ok tt) (judged-inside few h)
+  payload-inside few h = handed fine (judged-inside few h)
 
   -- others an empty part, and 2,
   pub payload-outside : length bs ≤ most_option_bytes → length bs < at + n

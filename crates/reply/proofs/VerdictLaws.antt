@@ -7,17 +7,17 @@ use Rattle.basis.proofs.Never.{never}
 use Rattle.reply.specs.declared.Refusal.{Refusal}
 use Rattle.reply.specs.declared.Answer.{Answer}
 use Rattle.reply.specs.Reply.{nowhere, refused_by, done_with, decided}
-use Rattle.reply.specs.Verdicts.{first_fault, judged, reply_of, second_of, answer_for, Says, Verdict}
+use Rattle.reply.specs.Verdicts.{first_fault, judged, reply_of, second_of, answer_for, Says, Verdict, fine}
 
 module _ (u v : Verdict) where
   pub first-refused : (w : Refusal) → u ≡ Err w → Err w ≡ first_fault u v
   first-refused w g = rw g
 
-  pub first_fine : u ≡ Ok tt → v ≡ first_fault u v
+  pub first_fine : u ≡ fine → v ≡ first_fault u v
   first_fine g = rw g
 
 module _ (w : Refusal) (b : Bool) where
-  pub judged_true : b ≡ true → Ok tt ≡ judged w b
+  pub judged_true : b ≡ true → fine ≡ judged w b
   judged_true g = rw g
 
   pub judged_false : b ≡ false → Err w ≡ judged w b
@@ -28,24 +28,24 @@ pub says : (v r : Verdict) → r ≡ v → Says v r
 says v r p = record { is = p; reply = ap reply_of p; second = ap second_of p }
 
 -- ---- what is fine
-pub refused-fine : (w : Refusal) → Err w ≡ Ok tt → ⊥
+pub refused-fine : (w : Refusal) → Err w ≡ fine → ⊥
 refused-fine w p = never cc
 
-pub first-fine-front : (u v : Verdict) → first_fault u v ≡ Ok tt → u ≡ Ok tt
+pub first-fine-front : (u v : Verdict) → first_fault u v ≡ fine → u ≡ fine
 first-fine-front (Ok _) v p = refl
 first-fine-front (Err w) v p = p
 
-pub first-fine-rest : (u v : Verdict) → first_fault u v ≡ Ok tt → v ≡ Ok tt
+pub first-fine-rest : (u v : Verdict) → first_fault u v ≡ fine → v ≡ fine
 first-fine-rest (Ok _) v p = p
 first-fine-rest (Err w) v p = absurd (refused-fine w p)
 
-pub judged-fine : (w : Refusal) (b : Bool) → judged w b ≡ Ok tt → b ≡ true
+pub judged-fine : (w : Refusal) (b : Bool) → judged w b ≡ fine → b ≡ true
 judged-fine w true p = refl
 judged-fine w false p = absurd (refused-fine w p)
 
 -- ---- the answer of a call whose inputs are judged
 module _ (n : ℕ) (v : Verdict) (r : Answer) where
-  pub answer-fine : v ≡ Ok tt → r ≡ done_with n → r ≡ answer_for n v
+  pub answer-fine : v ≡ fine → r ≡ done_with n → r ≡ answer_for n v
   answer-fine g e = rw g e
 
   pub answer-refused : (w : Refusal) → v ≡ Err w → r ≡ refused_by w → r ≡ answer_for n v

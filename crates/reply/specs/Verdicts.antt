@@ -10,7 +10,7 @@
 --         Says v r <-> the answer r is the verdict v, and so has its number and its second word
 --
 -- Assumes nothing.
-use Rattle.std.specs.Prelude.{◌≡◌, Bool, true, false, ℕ, Err, Ok}
+use Rattle.std.specs.Prelude.{◌≡◌, Bool, true, false, ℕ, Result, Ok, Err}
 use Rattle.reply.specs.declared.Refusal.{Refusal}
 use Rattle.reply.specs.declared.Refusal.TheVariants.{BeyondLimit}
 use Rattle.reply.specs.declared.Answer.{Answer}
@@ -19,12 +19,15 @@ use Rattle.reply.specs.Reply.{number, second, refused_by, done_with, decided}
 abbrev pub Verdict : Type 0
 Verdict = Result Unit Refusal
 
+abbrev pub fine : Verdict
+fine = Ok tt
+
 abbrev pub first_fault : (u v : Verdict) → Verdict
 first_fault (Ok _) v = v
 first_fault (Err w) v = Err w
 
 abbrev pub judged : Refusal → Bool → Verdict
-judged w true = Ok tt
+judged w true = fine
 judged w false = Err w
 
 -- 01, Replies: 3, "a figure of "Most allowed" .. passed" [LIMIT-1]

@@ -83,17 +83,15 @@ impl Refusal {
 }
 
 // Fine where the test holds.
+#[tactic(auto, using(crate::proofs::VerdictLaws::judged_false, crate::proofs::VerdictLaws::judged_true))]
 pub fn judge(holds: bool, why: Refusal) -> Result<(), Refusal>
     ensures { result ≡ judged why holds }
 {
-    if holds {
-        Ok(())
-    } else {
-        Err(why)
-    }
+    if holds { Ok(()) } else { Err(why) }
 }
 
 impl Where {
+    #[tactic(auto, using(crate::proofs::PlaceLaws::place_laws))]
     fn positions(self) -> Positions
         ensures { result ≡ positions_of self }
     {
@@ -125,6 +123,7 @@ pub fn bare(why: Refusal) -> Cause
 }
 
 // The answer of a refusal: nothing was written.
+#[tactic(auto, using(crate::proofs::Rows::row_laws))]
 pub fn refused_for(cause: Cause) -> Answer
     ensures { result ≡ refused_for cause }
 {
@@ -143,6 +142,7 @@ pub fn refused_for(cause: Cause) -> Answer
 }
 
 // The answer of this refusal, nowhere.
+#[tactic(auto, using(crate::proofs::Rows::row_laws))]
 pub fn refused(why: Refusal) -> Answer
     ensures { result ≡ refused_by why }
 {
@@ -178,6 +178,7 @@ pub fn absent() -> Answer
 }
 
 // The answer of a call that answers yes or no.
+#[tactic(auto, using(crate::proofs::VerdictLaws::decided_no, crate::proofs::VerdictLaws::decided_yes))]
 pub fn decided(holds: bool) -> Answer
     ensures { result ≡ decided_of holds }
 {
@@ -192,6 +193,7 @@ pub fn decided(holds: bool) -> Answer
 }
 
 // The answer of a call whose inputs are judged so, and that comes to this length where they are fine.
+#[tactic(auto, using(crate::proofs::VerdictLaws::answer_laws))]
 pub fn answer_for(length: u32, verdict: Result<(), Refusal>) -> Answer
     ensures { result ≡ answer_for length verdict }
 {
@@ -215,6 +217,7 @@ pub struct Name {
 const ROW: usize = 43;
 
 // A text as a name.
+#[tactic(auto, using(crate::proofs::Names::spelling_laws))]
 fn spelled(text: &[u8]) -> Name
     requires { length text.now ≤ most_name }
     ensures is { text_of result ≡ text.now }
@@ -251,6 +254,7 @@ fn look_up(rows: &[u8], reply: u32, second: u32) -> Name
 }
 
 // The name of the refusal that has this number and this second word, empty where there is none: 01's table, a row for each refusal.
+#[tactic(auto, using(crate::proofs::Names::rows_tabled))]
 pub fn name_of(reply: u32, second: u32) -> Name
     ensures is { NameOf reply second (text_of result) }
     ensures within { result.length ≤ most_name }

@@ -1,6 +1,6 @@
 -- Closed cases of the definitions, computed: of each rule one that holds, one at the limit and one refused just past it.
 -- Assumes nothing.
-use Rattle.std.specs.Prelude.{◌≡◌, refl, true, false, List, [], ◌∷◌, ◌++◌, map, ℕ, zero, suc, length, Ok}
+use Rattle.std.specs.Prelude.{◌≡◌, refl, true, false, List, [], ◌∷◌, ◌++◌, map, ℕ, zero, suc, length}
 use lib.ListN.{replicate}
 use Rattle.octets.specs.Octets.{big_at}
 use Rattle.ident.specs.Ident.{is_letter, is_digit, all_word, is_ident}
@@ -12,7 +12,7 @@ use Rattle.request.specs.Table.{option_tag, scope_tag, options_type_tag, direct_
 use Rattle.request.specs.Table.{message_constant_tag, pair_field_tag, pair_extension_tag, pair_url_tag, list_tag}
 use Rattle.request.specs.Name.{part_of}
 use Rattle.constantform.specs.Leaves.{is_constant, is_bool, is_url, good_scalar, good_pair_name, good_part}
-use Rattle.reply.specs.Verdicts.{beyond}
+use Rattle.reply.specs.Verdicts.{beyond, fine}
 use Rattle.constantform.specs.Form.{bad_request}
 use Rattle.optionform.specs.Form.{judge_last, judge_option}
 use Rattle.requestform.specs.Form.{judge_options, judge_request, judge_name}
@@ -94,19 +94,19 @@ bad =
 abbrev large : List (List ℕ)
 large = option direct (in_lists 16 yes) ∷ option (times 17 direct) yes ∷ replicate 8193 0 ∷ []
 
-requests : map judge_request (fine ++ bad ++ large) ≡ replicate 6 (Ok tt) ++ replicate 8 bad_request ++ replicate 3 beyond
+requests : map judge_request (fine ++ bad ++ large) ≡ replicate 6 fine ++ replicate 8 bad_request ++ replicate 3 beyond
 unfolding judge_request judge_options judge_option judge_last is_constant is_bool is_url good_scalar good_pair_name good_part
     leaf_at field_at big_at walk_by part_of
     is_rel_or_empty is_rel_path is_path rootless components split on_first all_ident is_ident is_letter is_digit all_word
 requests = refl
 
 -- ---- the 128th and the 129th option
-indices : map (λ i. judge_option (direct ++ yes) i option_tag 0 8) (127 ∷ 128 ∷ []) ≡ Ok tt ∷ beyond ∷ []
+indices : map (λ i. judge_option (direct ++ yes) i option_tag 0 8) (127 ∷ 128 ∷ []) ≡ fine ∷ beyond ∷ []
 unfolding judge_option judge_last is_constant is_bool good_scalar good_part field_at big_at walk_by part_of is_ident is_letter all_word
 indices = refl
 
 -- ---- names alone: a part; no bytes; a part and a constant
-names : map judge_name (direct ∷ [] ∷ (direct ++ yes) ∷ []) ≡ Ok tt ∷ bad_request ∷ bad_request ∷ []
+names : map judge_name (direct ∷ [] ∷ (direct ++ yes) ∷ []) ≡ fine ∷ bad_request ∷ bad_request ∷ []
 unfolding judge_name good_part field_at big_at walk_by part_of is_ident is_letter all_word
 names = refl
 
@@ -119,14 +119,14 @@ urls = refl
 abbrev texts : List (List ℕ)
 texts = [] ∷ (120 ∷ []) ∷ rooted ∷ (dot ∷ []) ∷ []
 
-scopes : map judge_scope texts ≡ Ok tt ∷ Ok tt ∷ bad_request ∷ bad_request ∷ []
+scopes : map judge_scope texts ≡ fine ∷ fine ∷ bad_request ∷ bad_request ∷ []
 unfolding judge_scope is_rel_or_empty all_ident components split on_first is_ident is_letter is_digit all_word
 scopes = refl
 
-options-types : map judge_options_type texts ≡ bad_request ∷ Ok tt ∷ bad_request ∷ bad_request ∷ []
+options-types : map judge_options_type texts ≡ bad_request ∷ fine ∷ bad_request ∷ bad_request ∷ []
 unfolding judge_options_type is_rel_path all_ident split on_first is_ident is_letter is_digit all_word
 options-types = refl
 
-paths : map judge_path texts ≡ bad_request ∷ Ok tt ∷ Ok tt ∷ bad_request ∷ []
+paths : map judge_path texts ≡ bad_request ∷ fine ∷ fine ∷ bad_request ∷ []
 unfolding judge_path is_path rootless all_ident split on_first is_ident is_letter is_digit all_word
 paths = refl

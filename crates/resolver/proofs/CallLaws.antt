@@ -16,7 +16,7 @@ use Rattle.options.specs.Resolve.{Steps, resolving_by, resolving, resolving_test
 use Rattle.resolver.specs.inner.Judging.{judged_by}
 use Rattle.options.proofs.TestedLaws.{resolve-tested, verdict-tested}
 use Rattle.resolver.proofs.WriteLaws.{measured-judged}
-use Rattle.reply.specs.Verdicts.{Verdict}
+use Rattle.reply.specs.Verdicts.{Verdict, fine}
 
 -- ---- resolve
 module _ (s r l : List ℕ) (a : Answer) (v : Verdict) (q : v ≡ judge_sheet s) where
@@ -24,7 +24,7 @@ module _ (s r l : List ℕ) (a : Answer) (v : Verdict) (q : v ≡ judge_sheet s)
   unfolding resolve_bytes resolving_by
   resolve-refused w g e = rw e (answered-refused (resolve_bytes s r) l (reply.bare w) (rw (← q, g)))
 
-  pub resolve-fine : v ≡ Ok tt → (l' : List ℕ) → Answered (resolve_tested s r) l l' a → Answered (resolve_bytes s r) l l' a
+  pub resolve-fine : v ≡ fine → (l' : List ℕ) → Answered (resolve_tested s r) l l' a → Answered (resolve_bytes s r) l l' a
   resolve-fine g l' h = rw (resolve-tested s r (sym q ∙ g)) h
 
 pub ruleset resolve_laws = (resolve-refused, resolve-fine)
@@ -55,7 +55,7 @@ module _ (s r : List ℕ) (v : Verdict) (q : v ≡ judge_sheet s) where
   unfolding resolving_by
   verdict-refused w g y e = rw (← q, g, e)
 
-  pub verdict-fine : v ≡ Ok tt → (y : Result (Option ℕ) Cause) → y ≡ judged_of (resolving_tested s r) → y ≡ judged_of (resolving s r)
+  pub verdict-fine : v ≡ fine → (y : Result (Option ℕ) Cause) → y ≡ judged_of (resolving_tested s r) → y ≡ judged_of (resolving s r)
   verdict-fine g y e = e ∙ sym (verdict-tested s r (sym q ∙ g))
 
 pub ruleset verdict_laws = (verdict-refused, verdict-fine)

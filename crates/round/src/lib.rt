@@ -8,6 +8,7 @@ ghost use Rattle.std.specs.Float.Ieee.Nearest.{closest};
 ghost use Rattle.round.specs.Rounding.{signed_of, int_bits, narrow, narrow_bits};
 
 // m / 2^k to the nearest whole number, a tie to the even one.
+#[tactic(auto, using(crate::proofs::Closest::shift_laws))]
 fn round_shift(m: u64, k: u32) -> u64
     requires { (0 < k) × (k < 64) }
     ensures { result ≡ closest m (2 ^ k) }
@@ -26,6 +27,7 @@ fn round_shift(m: u64, k: u32) -> u64
 }
 
 // The shift that brings v's top bit to bit 63.
+#[tactic(auto, using(crate::proofs::Integers::norm_laws))]
 fn norm_shift(v: u64) -> u32
     requires { 0 < v }
     ensures { (result < 64) × (2 ^ 63 ≤ v * 2 ^ result) × (v * 2 ^ result < 2 ^ 64) }
@@ -34,6 +36,7 @@ fn norm_shift(v: u64) -> u32
 }
 
 // The bits of the float nearest to v.
+#[tactic(auto, using(crate::proofs::Integers::int_laws))]
 pub fn u64_to_f32_bits(v: u64) -> u32
     ensures { (result ≡ int_bits binary32 (pos v)) × (result < 2 ^ 31) }
 {
@@ -47,6 +50,7 @@ pub fn u64_to_f32_bits(v: u64) -> u32
 }
 
 // The bits of the double nearest to v.
+#[tactic(auto, using(crate::proofs::Integers::int_laws))]
 pub fn u64_to_f64_bits(v: u64) -> u64
     ensures { (result ≡ int_bits binary64 (pos v)) × (result < 2 ^ 63) }
 {
@@ -60,6 +64,7 @@ pub fn u64_to_f64_bits(v: u64) -> u64
 }
 
 // The bits of the float nearest to an integer, which is given by its sign and its size. Minus nothing is plus zero.
+#[tactic(auto, using(crate::proofs::Integers::sign_laws))]
 pub fn int_to_f32_bits(minus: bool, size: u64) -> u32
     ensures { result ≡ int_bits binary32 (signed_of minus size) }
 {
@@ -74,6 +79,7 @@ pub fn int_to_f32_bits(minus: bool, size: u64) -> u32
 }
 
 // The bits of the double nearest to an integer, likewise.
+#[tactic(auto, using(crate::proofs::Integers::sign_laws))]
 pub fn int_to_f64_bits(minus: bool, size: u64) -> u64
     ensures { result ≡ int_bits binary64 (signed_of minus size) }
 {
@@ -108,6 +114,7 @@ fn finite(e: u64, t: u64) -> u32
 }
 
 // The bits of a float from the bits of a double.
+#[tactic(auto, using(crate::proofs::Narrowing::narrow_laws))]
 pub fn f64_bits_to_f32_bits(bits: u64) -> u32
     ensures { result ≡ narrow_bits bits }
 {

@@ -1,6 +1,6 @@
 -- Closed cases of the definitions, which the checker computes: of each rule one that holds, one at the limit and one refused just past it.
 -- Assumes nothing.
-use Rattle.std.specs.Prelude.{◌≡◌, refl, List, [], ◌∷◌, ◌++◌, map, ℕ, zero, suc, length, Ok}
+use Rattle.std.specs.Prelude.{◌≡◌, refl, List, [], ◌∷◌, ◌++◌, map, ℕ, zero, suc, length}
 use Rattle.octets.specs.Octets.{big_at}
 use Rattle.ident.specs.Ident.{is_letter, is_digit, all_word, is_ident}
 use Rattle.path.specs.Path.{on_first, split, components, all_ident, is_rel_path, is_rel_or_empty}
@@ -12,7 +12,7 @@ use Rattle.sheet.specs.Table.{file_tag, message_tag, extension_tag, enum_tag, fi
 use Rattle.sheet.specs.Table.{extendee_tag, number_tag, type_tag, label_tag, type_path_tag, signed_number_tag}
 use Rattle.sheet.specs.Declaration.{has_type_path, type_path_at, shape_at, extension_at, message_field_at, value_at}
 use Rattle.declform.specs.Declarations.{good_type_path, good_shape, good_field, is_field, is_extension, is_value}
-use Rattle.reply.specs.Verdicts.{beyond, Verdict}
+use Rattle.reply.specs.Verdicts.{beyond, Verdict, fine}
 use Rattle.messageform.specs.Form.{bad_sheet, judge_value, judge_enum, judge_item, judge_items}
 use Rattle.sheetform.specs.Form.{judge_file, judge_files, judge_length, judge_sheet}
 
@@ -28,7 +28,7 @@ abbrev a_field : ℕ → List ℕ → List ℕ
 a_field tag payload = tag ∷ 0 ∷ length payload ∷ payload
 
 -- ---- files: none, one that is cut, one with an empty package, one with no package, one with the package `.`
-no-files : verdict [] ≡ Ok tt
+no-files : verdict [] ≡ fine
 unfolding verdict
 no-files = refl
 
@@ -36,7 +36,7 @@ cut : verdict (0x01 ∷ []) ≡ bad_sheet
 unfolding verdict
 cut = refl
 
-empty-package : verdict (0x01 ∷ 0x00 ∷ 0x03 ∷ 0x10 ∷ 0x00 ∷ 0x00 ∷ []) ≡ Ok tt
+empty-package : verdict (0x01 ∷ 0x00 ∷ 0x03 ∷ 0x10 ∷ 0x00 ∷ 0x00 ∷ []) ≡ fine
 unfolding verdict
 empty-package = refl
 
@@ -53,7 +53,7 @@ P1 : verdict
     (0x01 ∷ 0x00 ∷ 0x20 ∷ 0x10 ∷ 0x00 ∷ 0x01 ∷ 0x70 ∷ 0x03 ∷ 0x00 ∷ 0x19 ∷ 0x11 ∷ 0x00 ∷ 0x01 ∷ 0x78 ∷ 0x12 ∷ 0x00 ∷ 0x03 ∷ 0x6F ∷ 0x2E
     ∷ 0x46 ∷ 0x13 ∷ 0x00 ∷ 0x04 ∷ 0x00 ∷ 0x00 ∷ 0x00 ∷ 0x05 ∷ 0x14 ∷ 0x00 ∷ 0x01 ∷ 0x0D ∷ 0x15 ∷ 0x00 ∷ 0x01 ∷ 0x01 ∷ 0x01 ∷ 0x00 ∷ 0x0B
     ∷ 0x10 ∷ 0x00 ∷ 0x01 ∷ 0x6F ∷ 0x02 ∷ 0x00 ∷ 0x04 ∷ 0x11 ∷ 0x00 ∷ 0x01 ∷ 0x46 ∷ [])
-    ≡ Ok tt
+    ≡ fine
 unfolding verdict
 P1 = refl
 
@@ -79,26 +79,26 @@ a_path = a_field type_path_tag (77 ∷ 46 ∷ 78 ∷ [])
 -- a type path exactly for the types that have one
 paths : map (λ (s : List ℕ). verdict (file (an_extension s)))
     (shape_of one TYPE_MESSAGE 1 a_path ∷ shape_of one TYPE_MESSAGE 1 [] ∷ shape_of one TYPE_UINT32 1 [] ∷ shape_of one TYPE_UINT32 1 a_path ∷ [])
-    ≡ Ok tt ∷ bad_sheet ∷ Ok tt ∷ bad_sheet ∷ []
+    ≡ fine ∷ bad_sheet ∷ fine ∷ bad_sheet ∷ []
 unfolding verdict
 paths = refl
 
 -- numbers are 1 to 536,870,911
 numbers : map (λ (n : List ℕ). verdict (file (an_extension (shape_of n TYPE_UINT32 1 []))))
     ((0 ∷ 0 ∷ 0 ∷ 0 ∷ []) ∷ one ∷ (0x1F ∷ 0xFF ∷ 0xFF ∷ 0xFF ∷ []) ∷ (0x20 ∷ 0 ∷ 0 ∷ 0 ∷ []) ∷ [])
-    ≡ bad_sheet ∷ Ok tt ∷ Ok tt ∷ bad_sheet ∷ []
+    ≡ bad_sheet ∷ fine ∷ fine ∷ bad_sheet ∷ []
 unfolding verdict
 numbers = refl
 
 -- types are 1 to 18
 types : map (λ (t : ℕ). verdict (file (an_extension (shape_of one t 1 [])))) (0 ∷ 1 ∷ 18 ∷ 19 ∷ [])
-    ≡ bad_sheet ∷ Ok tt ∷ Ok tt ∷ bad_sheet ∷ []
+    ≡ bad_sheet ∷ fine ∷ fine ∷ bad_sheet ∷ []
 unfolding verdict
 types = refl
 
 -- labels are 1 to 3
 labels : map (λ (l : ℕ). verdict (file (an_extension (shape_of one TYPE_UINT32 l [])))) (0 ∷ 1 ∷ 3 ∷ 4 ∷ [])
-    ≡ bad_sheet ∷ Ok tt ∷ Ok tt ∷ bad_sheet ∷ []
+    ≡ bad_sheet ∷ fine ∷ fine ∷ bad_sheet ∷ []
 unfolding verdict
 labels = refl
 
@@ -106,7 +106,7 @@ labels = refl
 abbrev field : List ℕ
 field = a_field field_tag (a_field name_tag (102 ∷ []) ++ shape_of one TYPE_UINT32 1 [])
 
-fields : map verdict (file field ∷ file (message field) ∷ []) ≡ bad_sheet ∷ Ok tt ∷ []
+fields : map verdict (file field ∷ file (message field) ∷ []) ≡ bad_sheet ∷ fine ∷ []
 unfolding verdict
 fields = refl
 
@@ -118,7 +118,7 @@ abbrev an_enum : List ℕ → List ℕ
 an_enum values = a_field enum_tag (a_field name_tag (69 ∷ []) ++ values)
 
 enums : map (λ (v : List ℕ). verdict (file (an_enum v))) ([] ∷ (value value_tag ++ value value_tag) ∷ (value value_tag ++ value field_tag) ∷ [])
-    ≡ Ok tt ∷ Ok tt ∷ bad_sheet ∷ []
+    ≡ fine ∷ fine ∷ bad_sheet ∷ []
 unfolding verdict
 enums = refl
 
@@ -127,7 +127,7 @@ abbrev files : ℕ → List ℕ
 files zero = []
 files (suc n) = file [] ++ files n
 
-many-files : map verdict (files 8 ∷ files 9 ∷ (files 8 ++ a_field message_tag []) ∷ []) ≡ Ok tt ∷ beyond ∷ bad_sheet ∷ []
+many-files : map verdict (files 8 ∷ files 9 ∷ (files 8 ++ a_field message_tag []) ∷ []) ≡ fine ∷ beyond ∷ bad_sheet ∷ []
 unfolding verdict
 many-files = refl
 
@@ -135,7 +135,7 @@ abbrev deep : ℕ → List ℕ
 deep zero = []
 deep (suc n) = message (deep n)
 
-deep-messages : map (λ (n : ℕ). verdict (file (deep n))) (16 ∷ 17 ∷ []) ≡ Ok tt ∷ beyond ∷ []
+deep-messages : map (λ (n : ℕ). verdict (file (deep n))) (16 ∷ 17 ∷ []) ≡ fine ∷ beyond ∷ []
 unfolding verdict
 deep-messages = refl
 

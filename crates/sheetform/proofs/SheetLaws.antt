@@ -1,6 +1,6 @@
 -- The laws of files and sheets: the ways through `check_file`, `check_files`, `check_length` and `check_sheet`.
 -- Assumes nothing.
-use Rattle.std.specs.Prelude.{◌≡◌, refl, Bool, true, false, List, ℕ, ◌+◌, ◌^◌, ◌≤◌, ◌<◌, eqb, ltb, leb, length, Err, None, Some, Ok, Option}
+use Rattle.std.specs.Prelude.{◌≡◌, refl, Bool, true, false, List, ℕ, ◌+◌, ◌^◌, ◌≤◌, ◌<◌, eqb, ltb, leb, length, Err, None, Some, Option}
 use Rattle.basis.specs.Kit.{sym, ◌∙◌}
 use Rattle.basis.proofs.Kit.{arith, eq-eqb, ne_eqb, lt-ltb, le-ltb}
 use borrow.Author.Tests.{ltb-true, ltb-false, leb-true, leb-false}
@@ -19,7 +19,7 @@ use Rattle.field.proofs.LeafLaws.{leaf_inside}
 use Rattle.field.proofs.Rest.{Rest, rest-start}
 use Rattle.form.proofs.EachLaws.{each_from_laws}
 use Rattle.sheet.specs.Table.{file_tag, package_tag}
-use Rattle.reply.specs.Verdicts.{judged, beyond, Verdict}
+use Rattle.reply.specs.Verdicts.{judged, beyond, Verdict, fine}
 use Rattle.messageform.specs.Form.{bad_sheet, judge_items}
 use Rattle.sheetform.specs.Form.{judge_file, judge_files, judge_length, judge_sheet}
 use Rattle.field.specs.declared.Span.{Span}
@@ -55,17 +55,17 @@ unfolding judge_files
 files-start s = rest-start (files s 0) s 0 (length s) (omega arith) (omega arith)
 
 -- a file that is fine is one of the first
-pub file-early : (s : List ℕ) (i t a e : ℕ) → Ok tt ≡ judge_file s i t a e → i < most_files
+pub file-early : (s : List ℕ) (i t a e : ℕ) → fine ≡ judge_file s i t a e → i < most_files
 unfolding judge_file
 file-early s i t a e = go (eqb t file_tag) (ltb i most_files) refl _
   where
     go : (b b' : Bool) → ltb i most_files ≡ b' → (v : Verdict)
-        → Ok tt ≡ elim b [ true ↦ elim b' [ true ↦ v | false ↦ beyond ] | false ↦ bad_sheet ] → i < most_files
+        → fine ≡ elim b [ true ↦ elim b' [ true ↦ v | false ↦ beyond ] | false ↦ bad_sheet ] → i < most_files
     go true true p v h = ltb-true i most_files p
     go true false p v h = never cc
     go false b' p v h = never cc
 
-pub file-counted : (s : List ℕ) (i t a e : ℕ) (u : Verdict) → u ≡ judge_file s i t a e → u ≡ Ok tt → i + 1 < 2 ^ 64
+pub file-counted : (s : List ℕ) (i t a e : ℕ) (u : Verdict) → u ≡ judge_file s i t a e → u ≡ fine → i + 1 < 2 ^ 64
 file-counted s i t a e u q g = omega (arith, file-early s i t a e (sym g ∙ q))
 
 pub ruleset files_laws = (files-start, file-counted, field-ordered, each_from_laws)
@@ -78,15 +78,15 @@ module _ (s : List ℕ) where
   length-is false r p q = q ∙ rw (lt-ltb most_sheet (length s) (leb-false (length s) most_sheet (sym p)))
 
   -- what is fine is short enough
-  pub fine-length : judge_length s ≡ Ok tt → length s ≤ most_sheet
+  pub fine-length : judge_length s ≡ fine → length s ≤ most_sheet
   unfolding judge_length
   fine-length h = go (ltb most_sheet (length s)) refl h
     where
-      go : (b : Bool) → ltb most_sheet (length s) ≡ b → only_if b beyond (Ok tt) ≡ Ok tt → length s ≤ most_sheet
+      go : (b : Bool) → ltb most_sheet (length s) ≡ b → only_if b beyond fine ≡ fine → length s ≤ most_sheet
       go false p q = ltb-false most_sheet (length s) p
       go true p q = never cc
 
-  pub sheet-length : judge_sheet s ≡ Ok tt → judge_length s ≡ Ok tt
+  pub sheet-length : judge_sheet s ≡ fine → judge_length s ≡ fine
   unfolding judge_sheet
   sheet-length h = first-fine-front (judge_length s) (judge_files s) h
 
@@ -98,7 +98,7 @@ module _ (s : List ℕ) (u : Verdict) (q : u ≡ judge_length s) where
   unfolding judge_sheet
   sheet-long w g = rw (← q, g)
 
-  pub sheet-files : u ≡ Ok tt → (v : Verdict) → v ≡ judge_files s → v ≡ judge_sheet s
+  pub sheet-files : u ≡ fine → (v : Verdict) → v ≡ judge_files s → v ≡ judge_sheet s
   unfolding judge_sheet
   sheet-files g v p = rw (← q, g) p
 

@@ -7,12 +7,12 @@
 --          judge_sheet s == a sheet
 --
 -- Assumes nothing.
-use Rattle.std.specs.Prelude.{true, false, List, ℕ, eqb, ltb, length, Ok}
+use Rattle.std.specs.Prelude.{true, false, List, ℕ, eqb, ltb, length}
 use Rattle.basis.specs.First.{only_if}
 use Rattle.limits.specs.Figures.{most_sheet, most_files, most_messages}
 use Rattle.path.specs.Path.{is_rel_or_empty}
 use Rattle.reply.specs.declared.Refusal.TheVariants.{BadSheet}
-use Rattle.reply.specs.Verdicts.{first_fault, beyond, Verdict}
+use Rattle.reply.specs.Verdicts.{first_fault, beyond, Verdict, fine}
 use Rattle.field.specs.Walk.{walk}
 use Rattle.field.specs.Leaf.{on_leaf, leaf_at}
 use Rattle.form.specs.Each.{each_from}
@@ -35,7 +35,7 @@ judge_files s = each_from BadSheet (judge_file s) 0 (walk s 0 (length s))
 
 -- "sheet 32,768 bytes" [LIMIT-1]
 unfoldable pub judge_length : (s : List ℕ) → Verdict
-judge_length s = only_if (ltb most_sheet (length s)) beyond (Ok tt)
+judge_length s = only_if (ltb most_sheet (length s)) beyond fine
 
 -- "each by over-length, then .. the first fault from the front" [FORM-2, LIMIT-1, FAULT-2]
 unfoldable pub judge_sheet : (s : List ℕ) → Verdict

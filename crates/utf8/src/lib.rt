@@ -6,6 +6,7 @@ ghost use Rattle.utf8.specs.Utf8.{is_utf8, lead_of};
 
 // How many bytes the scalar value at the front takes, 0 where none stands there, for a first byte of 80 to DF.
 // A byte goes on with a value where its two high bits are 10, so where a 64th of it is 2; C0 and C1 lead overlong forms alone.
+#[tactic(auto, using(crate::proofs::Lead::two_laws))]
 fn two(bs: &[u8]) -> usize
     requires { (0x80 ≤ get_or bs.now 0 0) × (get_or bs.now 0 0 < 0xE0) }
     ensures { result ≡ lead_of bs.now }
@@ -25,6 +26,7 @@ fn two(bs: &[u8]) -> usize
 }
 
 // The same for a first byte of E0 to EF. Overlong forms are below U+0800; surrogates are the values whose 0x800th is 0x1B.
+#[tactic(auto, using(crate::proofs::Lead::three_laws))]
 fn three(bs: &[u8]) -> usize
     requires { (0xE0 ≤ get_or bs.now 0 0) × (get_or bs.now 0 0 < 0xF0) }
     ensures { result ≡ lead_of bs.now }
@@ -51,6 +53,7 @@ fn three(bs: &[u8]) -> usize
 }
 
 // The same for a first byte of F0 to FF.
+#[tactic(auto, using(crate::proofs::Lead::four_laws))]
 fn four(bs: &[u8]) -> usize
     requires { 0xF0 ≤ get_or bs.now 0 0 }
     ensures { result ≡ lead_of bs.now }
@@ -84,6 +87,7 @@ fn four(bs: &[u8]) -> usize
 }
 
 // How many bytes the scalar value at a place takes, 0 where none stands there.
+#[tactic(auto, using(crate::proofs::Lead::lead_laws))]
 fn lead_at(s: &[u8], at: usize) -> usize
     requires { at < length s.now }
     ensures { result ≡ lead_of (drop at s.now) }
@@ -103,6 +107,7 @@ fn lead_at(s: &[u8], at: usize) -> usize
 }
 
 // Whether the bytes are UTF-8: whole scalar values, one after the other.
+#[tactic(auto, using(crate::proofs::Scan::scan_laws))]
 pub fn is_utf8(s: &[u8]) -> bool
     ensures { result ≡ is_utf8 s.now }
 {

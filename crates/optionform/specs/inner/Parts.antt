@@ -6,20 +6,21 @@
 --         NameParts s at end <-> so it is, and the parts are followed by nothing
 --
 -- Assumes nothing.
-use Rattle.std.specs.Prelude.{◌≡◌, true, List, ℕ, Some, Ok}
+use Rattle.std.specs.Prelude.{◌≡◌, true, List, ℕ, Some}
 use Rattle.limits.specs.Figures.{most_constants}
 use Rattle.field.specs.Field.{field_at, field}
 use Rattle.field.specs.Walk.{walk}
 use Rattle.request.specs.Name.{parts_in, after_parts}
 use Rattle.constantform.specs.Form.{judge_constant}
 use Rattle.optionform.specs.Fine.{good_parts}
+use Rattle.reply.specs.Verdicts.{fine}
 
 pub record LastConstant (s : List ℕ) (at end : ℕ) : Type 0 where
   pub tag : ℕ
   pub from : ℕ
   pub to : ℕ
   pub whole : field_at s at end ≡ Some (field tag from to)
-  pub fine : judge_constant most_constants s tag from to ≡ Ok tt
+  pub fine : judge_constant most_constants s tag from to ≡ fine
   pub ends : to ≡ end
 
 pub record FineParts (after : (at end : ℕ) → Type 0) (s : List ℕ) (at end : ℕ) : Type 0 where

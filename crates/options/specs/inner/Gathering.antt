@@ -12,7 +12,7 @@
 --                                    l, from `at` on, the notes ns are those of the known builtins, and all have at most k bytes
 --
 -- Assumes nothing.
-use Rattle.std.specs.Prelude.{◌≡◌, List, [], ◌∷◌, ℕ, ◌+◌, ◌≤◌, eqb, length, get_or, Ok}
+use Rattle.std.specs.Prelude.{◌≡◌, List, [], ◌∷◌, ℕ, ◌+◌, ◌≤◌, eqb, length, get_or}
 use Rattle.std.proofs.Math.ListN.{get_elem?}
 use Rattle.basis.specs.First.{only_if, told}
 use Rattle.limits.specs.Figures.{most_options}
@@ -34,6 +34,7 @@ use Rattle.options.specs.declared.settle.Settling.TheVariants.{Gives, Fails}
 use Rattle.options.specs.Settle.{settle}
 use Rattle.options.specs.inner.Settling.{message_of, set_recs}
 use Rattle.options.specs.Options.{Gathered, gathered, stopped, gather}
+use Rattle.reply.specs.Verdicts.{fine}
 
 unfoldable pub options_of : (r : List ℕ) → Start → List Option
 options_of r h = options_in r (walk r h.options (length r))
@@ -61,7 +62,7 @@ module _ (L : Lookups) (s r : List ℕ) (h : Start) where
 
 pub record FineFrom (r : List ℕ) (h : Start) : Type 0 where
   pub inside : h.options ≤ length r
-  pub fine : each_from BadRequest (judge_option r) 0 (walk r h.options (length r)) ≡ Ok tt
+  pub fine : each_from BadRequest (judge_option r) 0 (walk r h.options (length r)) ≡ fine
 
 pub data Gathers (made : ℕ → Recs) (k : ℕ) : Gathered → (at : ℕ) (l l' ns : List ℕ) → Settling → Type 0 where
   gives : {ks : List Known} {x : Recs} {at n next : ℕ} {l l' ns : List ℕ} → Laid l at (encode x) l' next → Noted made ns n ks

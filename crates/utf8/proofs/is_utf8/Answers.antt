@@ -3,17 +3,8 @@
 use Rattle.utf8.proofs.Scan.{scan_laws}
 use Rattle.utf8.proofs.is_utf8.Goals as goal
 
-pub loop-i-init : goal.loop-i-init
-loop-i-init c = search scan_laws
-
-pub returns-then-n-eq0 : goal.returns-then-n-eq0
-returns-then-n-eq0 c = search scan_laws
-
 pub overflow_add-i : goal.overflow_add-i
 overflow_add-i c = search scan_laws
 
 pub loop-i-preserved : goal.loop-i-preserved
 loop-i-preserved c = search scan_laws
-
-pub returns : goal.returns
-returns c = search scan_laws
