@@ -26,7 +26,7 @@ use Rattle.request.specs.Table.{pair_field_tag, pair_extension_tag}
 use Rattle.request.specs.Constant.{integer_of, float_of, bool_of, number_with, numeric_of, constant_of, is_pair_name}
 use Rattle.request.specs.Tree.{PairName, unnamed, by_field, by_extension, by_url, Constants, none, scalar, message, list, ConstantReader}
 use Rattle.request.specs.Tree.{pair_name_of, elements_in, pairs_in, grown, if_held, constant_in}
-use Rattle.request.specs.Request.{Option, constant_of_field, option_of}
+use Rattle.request.specs.Request.{RequestOption, constant_of_field, option_of}
 use Rattle.alone.proofs.Tests.{by_cases, by-test}
 use Rattle.alone.proofs.Windows.{Twin, SameSpan, here-byte, here-big, here-size}
 use Rattle.alone.proofs.Walks.{SameField, both-cut, both-whole, SameWalk, dones, cuts, steps, field-same, walk_same}
@@ -62,7 +62,7 @@ pub data SameConstants {r r' : List ℕ} (w : Twin r r') : Constants → Constan
   lists : {l l' : PairName} {i i' k k' : Constants} → SameName w l l' → SameConstants w i i' → SameConstants w k k'
       → SameConstants w (list l i k) (list l' i' k')
 
-pub record SameOption {r r' : List ℕ} (w : Twin r r') (o o' : Option) : Type 0 where
+pub record SameOption {r r' : List ℕ} (w : Twin r r') (o o' : RequestOption) : Type 0 where
   pub parts : SameParts w o.parts o'.parts
   pub constant : SameConstants w o.constant o'.constant
 

@@ -4,8 +4,8 @@
 --
 -- Assumes nothing.
 use Rattle.std.specs.Prelude.{List, [], ◌∷◌, ℕ, ◌+◌, length}
-use Rattle.request.specs.Request.{Option}
+use Rattle.request.specs.Request.{RequestOption}
 
-abbrev pub parts_of : List Option → ℕ
+abbrev pub parts_of : List RequestOption → ℕ
 parts_of [] = 0
 parts_of (o ∷ os) = length o.parts + parts_of os

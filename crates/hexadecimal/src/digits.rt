@@ -18,6 +18,7 @@ const BLANK: u8 = 16;
 
 const OTHER: u8 = 17;
 
+#[tactic(auto, using(crate::proofs::DigitLaws::digit_laws))]
 fn digit_of(b: u8) -> u8
     ensures { (result ≡ digit_of b) × (result ≤ other) }
 {
@@ -37,6 +38,7 @@ fn digit_of(b: u8) -> u8
 }
 
 // The bytes that a text spells, laid over a lent buffer as far as it reaches.
+#[tactic(auto, using(crate::proofs::SpellingLaws::spelling_laws))]
 pub fn decode(text: &[u8], out: &mut [u8]) -> Decoded
     ensures { Decodes text.now out.old out.new result }
 {
@@ -67,6 +69,7 @@ pub fn decode(text: &[u8], out: &mut [u8]) -> Decoded
 }
 
 // The digit of a number below 16, in upper case.
+#[tactic(auto, using(crate::proofs::GlyphLaws::glyph_laws))]
 pub fn glyph(d: u8) -> u8
     requires { d < 16 }
     ensures { result ≡ glyph_of d }

@@ -17,7 +17,7 @@ use Rattle.octets.proofs.Overlay.{laid-append, laid-length}
 use Rattle.field.specs.Field.{field_at, field}
 use Rattle.field.specs.Leaf.{text}
 use Rattle.field.proofs.FieldLaws.{field-ordered, field_place_laws}
-use Rattle.request.specs.Request.{Option}
+use Rattle.request.specs.Request.{RequestOption}
 use Rattle.records.specs.Records.{Recs, nil, append, encode}
 use Rattle.records.specs.Made.{made}
 use Rattle.records.specs.inner.Emits.{bytes_most, Emits, Roomy}
@@ -41,7 +41,7 @@ use Rattle.options.proofs.ReachedLaws.{reached-first, reached-made, reached-next
 use Rattle.options.proofs.SetLaws.{set-few}
 use Rattle.field.specs.declared.Field.{Field}
 
-abbrev gather_from : Lookups → (s r : List ℕ) → Start → (option : ℕ) → List Known → Recs → List Option → Gathered
+abbrev gather_from : Lookups → (s r : List ℕ) → Start → (option : ℕ) → List Known → Recs → List RequestOption → Gathered
 gather_from L s r h = gather L s r (text r h.scope) (message_of r h)
 
 pub record Gathering (L : Lookups) (s r : List ℕ) (h : Start) (l m ns₀ ns : List ℕ) (at p n i : ℕ) : Type 0 where

@@ -17,7 +17,7 @@ use Rattle.form.specs.Each.{each_from}
 use Rattle.scope.specs.declared.lookup.LookupScope.{LookupScope}
 use Rattle.request.specs.declared.heading.Heading.{Heading}
 use Rattle.request.specs.Table.{option_tag}
-use Rattle.request.specs.Request.{Option, heading_of, option_of, option_in, options_in, request_with, request_of}
+use Rattle.request.specs.Request.{RequestOption, heading_of, option_of, option_in, options_in, request_with, request_of}
 use Rattle.request.proofs.RequestLaws.{scope-ordered, scope-inside, options-type-ordered, options-type-inside, options-inside, heading_spans}
 use Rattle.optionform.specs.Form.{judge_option}
 use Rattle.optionform.proofs.FineLaws.{option-tagged}
@@ -43,9 +43,9 @@ fine-short r f = elim (dec_lt most_request (length r)) [
 ]
 
 -- where something stands behind the heading of a fine request, that is an option
-pub record Some (os : List Option) : Type 0 where
-  pub first : Option
-  pub rest : List Option
+pub record Some (os : List RequestOption) : Type 0 where
+  pub first : RequestOption
+  pub rest : List RequestOption
   pub is : os ≡ first ∷ rest
 
 module _ (r : List ℕ) (i : ℕ) (f : each_from BadRequest (judge_option r) 0 (walk r i (length r)) ≡ fine) (h : i < length r) where

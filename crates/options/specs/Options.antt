@@ -5,7 +5,7 @@
 --
 -- Assumes nothing.
 use Rattle.std.specs.Prelude.{List, [], ◌∷◌, ℕ, ◌+◌}
-use Rattle.request.specs.Request.{Option}
+use Rattle.request.specs.Request.{RequestOption}
 use Rattle.records.specs.Records.{Recs, append}
 use Rattle.lookups.specs.Lookups.{Lookups, Message}
 use Rattle.known.specs.Known.{Known, set_known}
@@ -24,6 +24,6 @@ next i ks x (others y) f = f ks (append x y)
 next i ks x (fails e) f = stopped (cause_at i e)
 
 module _ (L : Lookups) (s r scope : List ℕ) (m : Message) where
-  abbrev pub gather : (option : ℕ) → List Known → Recs → List Option → Gathered
+  abbrev pub gather : (option : ℕ) → List Known → Recs → List RequestOption → Gathered
   gather i ks x [] = gathered ks x
   gather i ks x (o ∷ os) = next i ks x (settle L s r scope m o) λ ks' x'. gather (i + 1) ks' x' os

@@ -12,7 +12,7 @@
 use Rattle.std.specs.Prelude.{List, [], ◌∷◌, ℕ, Err, Ok, Result}
 use Rattle.reply.specs.Verdicts.{first_fault, Verdict}
 use Rattle.field.specs.Leaf.{text}
-use Rattle.request.specs.Request.{Option, Request, request_of}
+use Rattle.request.specs.Request.{RequestOption, Request, request_of}
 use Rattle.sheetform.specs.Form.{judge_length, judge_sheet}
 use Rattle.requestform.specs.Form.{judge_request}
 use Rattle.records.specs.Records.{Recs, nil, append}
@@ -41,7 +41,7 @@ module _ (L : Lookups) (s r : List ℕ) where
       steps_in (gather L s r (text r q.scope) (record { name = text r q.options_type; place = p }) 0 [] nil q.options)
 
   -- "No options: Absent, before the options type is looked for." [STEP-1, STEP-2]
-  abbrev pub some_options : Request → List Option → Steps
+  abbrev pub some_options : Request → List RequestOption → Steps
   some_options q [] = absent
   some_options q (o ∷ os) = on_type q (L.message (text r q.options_type))
 

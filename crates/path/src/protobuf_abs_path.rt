@@ -3,6 +3,7 @@ ghost use Rattle.std.specs.Prelude.{◌≡◌};
 ghost use Rattle.path.specs.Path.{is_abs, rootless};
 
 // Whether the text leads with a dot.
+#[tactic(auto, using(crate::proofs::AbsLaws::abs_laws))]
 pub fn is_abs(s: &[u8]) -> bool
     ensures { result ≡ is_abs s.now }
 {
@@ -13,6 +14,7 @@ pub fn is_abs(s: &[u8]) -> bool
 }
 
 // The text without its leading dot.
+#[tactic(auto, using(crate::proofs::AbsLaws::abs_laws))]
 pub fn without_root(s: &[u8]) -> &[u8]
     ensures { result.now ≡ rootless s.now }
 {

@@ -7,6 +7,7 @@ use crate::protobuf_rel_path::all_ident;
 use limits::MOST_PATH;
 
 // Whether the text is a path that may lead with a dot.
+#[tactic(auto, using(crate::proofs::FormLaws::form_laws))]
 pub fn is_path(s: &[u8]) -> bool
     ensures { result ≡ is_path s.now }
 {

@@ -9,6 +9,7 @@ use ident::protobuf_ident::is_ident;
 use limits::MOST_PATH;
 
 // Where the component that starts at a place ends: the next dot, or the end.
+#[tactic(auto, using(crate::proofs::Scans::ending_laws))]
 pub fn component_end(s: &[u8], at: usize) -> usize
     requires { at ≤ length s.now }
     ensures { result ≡ at + length (until_dot (drop at s.now)) }
@@ -24,6 +25,7 @@ pub fn component_end(s: &[u8], at: usize) -> usize
 }
 
 // Whether each piece between two dots, from a place on, is an identifier.
+#[tactic(auto, using(crate::proofs::Scans::checked_laws))]
 pub fn all_ident(s: &[u8], from: usize) -> bool
     requires { from ≤ length s.now }
     ensures { result ≡ all_ident (split (drop from s.now)) }
@@ -42,6 +44,7 @@ pub fn all_ident(s: &[u8], from: usize) -> bool
 }
 
 // Whether the text is a relative path, and not empty.
+#[tactic(auto, using(crate::proofs::FormLaws::form_laws))]
 pub fn is_rel_path(s: &[u8]) -> bool
     ensures { result ≡ is_rel_path s.now }
 {
@@ -52,6 +55,7 @@ pub fn is_rel_path(s: &[u8]) -> bool
 }
 
 // Whether the text is a relative path or empty, as a package and a scope may be.
+#[tactic(auto, using(crate::proofs::FormLaws::form_laws))]
 pub fn is_rel_or_empty(s: &[u8]) -> bool
     ensures { result ≡ is_rel_or_empty s.now }
 {
@@ -62,6 +66,7 @@ pub fn is_rel_or_empty(s: &[u8]) -> bool
 }
 
 // How many components the path has.
+#[tactic(auto, using(crate::proofs::Scans::counted_laws))]
 pub fn count(s: &[u8]) -> usize
     ensures { result ≡ length (components s.now) }
 {
@@ -81,6 +86,7 @@ pub fn count(s: &[u8]) -> usize
 }
 
 // Where the last component starts: after the last dot, or at the start.
+#[tactic(auto, using(crate::proofs::Scans::tail_laws))]
 pub fn last_at(s: &[u8]) -> usize
     ensures { LastStarts s.now result }
 {
@@ -95,6 +101,7 @@ pub fn last_at(s: &[u8]) -> usize
 }
 
 // Where the parent of the first `end` bytes ends: their last dot, or the start.
+#[tactic(auto, using(crate::proofs::Scans::parent_end_laws))]
 pub fn parent_end(s: &[u8], end: usize) -> usize
     requires { end ≤ length s.now }
     ensures { (result ≤ end) × (take result s.now ≡ spell (parent (components (take end s.now)))) }
@@ -107,6 +114,7 @@ pub fn parent_end(s: &[u8], end: usize) -> usize
 }
 
 // The text before the dot that stands before the component at `at`, empty where there is none.
+#[tactic(auto, using(crate::proofs::Scans::before_laws))]
 pub fn before(s: &[u8], at: usize) -> &[u8]
     requires { at ≤ suc (length s.now) }
     ensures { result.now ≡ take (at - 1) s.now }
@@ -118,6 +126,7 @@ pub fn before(s: &[u8], at: usize) -> &[u8]
 }
 
 // The text of a path that is not empty, followed by another, in a lent buffer as far as that reaches, and its length.
+#[tactic(auto, using(crate::proofs::JoinLaws::join_laws))]
 pub fn join(a: &[u8], b: &[u8], out: &mut [u8]) -> usize
     ensures { Laid out.old 0 (spell (split a.now ++ components b.now)) out.new result }
 {

@@ -19,7 +19,7 @@ use Rattle.sheet.specs.declared.declaration.Shape.{Shape}
 use Rattle.sheet.specs.declared.declaration.Declaration.{Declaration}
 use Rattle.request.specs.declared.name.Part.{Part}
 use Rattle.request.specs.Tree.{Constants}
-use Rattle.request.specs.Request.{Option}
+use Rattle.request.specs.Request.{RequestOption}
 use Rattle.records.specs.Made.{wrong}
 use Rattle.lookups.specs.Lookups.{Lookups, Message}
 use Rattle.values.specs.Values.{on, records}
@@ -68,7 +68,7 @@ module _ (L : Lookups) (s r scope : List ℕ) where
   OnLast c h w = records L s r (on h) c ≡ wrong w
 
   -- "Inside a message constant the part is the last one of the option's name."; "A single direct part is a builtin." [WHERE-4, WHERE-5, STEP-4]
-  pub data FaultOf (m : Message) (o : Option) : Fault → Type 0 where
+  pub data FaultOf (m : Message) (o : RequestOption) : Fault → Type 0 where
     builtin : {p : Part} {w : Refusal} → builtin_part o.parts ≡ Some p
         → builtin_of L s r m (text r p.name) o.constant ≡ Wrong w → FaultOf m o (fault_at 0 w)
     named : {j : ℕ} {w : Refusal} → builtin_part o.parts ≡ None → AtPart (OnLast o.constant) m o.parts j w

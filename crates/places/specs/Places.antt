@@ -35,7 +35,7 @@ use Rattle.sheetform.specs.Form.{judge_sheet}
 use Rattle.scope.specs.declared.lookup.LookupScope.{LookupScope}
 use Rattle.request.specs.declared.name.Part.{Part}
 use Rattle.request.specs.Name.{parts_in}
-use Rattle.request.specs.Request.{Option, request_of}
+use Rattle.request.specs.Request.{RequestOption, request_of}
 use Rattle.requestform.specs.Form.{judge_request}
 use Rattle.lookups.specs.Lookups.{Message, walking}
 use Rattle.faults.specs.declared.Fault.{Fault}
@@ -60,7 +60,7 @@ options_type r = text r (request_of r).options_type
 abbrev pub options_at : (r : List ℕ) → LookupScope → Message
 options_at r p = record { name = options_type r; place = p }
 
-abbrev pub settled_in : (s r : List ℕ) → LookupScope → Option → Settled
+abbrev pub settled_in : (s r : List ℕ) → LookupScope → RequestOption → Settled
 settled_in s r p o = settle (walking s) s r (scope_of r) (options_at r p) o
 
 pub record OptionRefused (s r : List ℕ) : Type 0 where
@@ -68,7 +68,7 @@ pub record OptionRefused (s r : List ℕ) : Type 0 where
   pub request : judge_request r ≡ fine
   pub place : LookupScope
   pub type : (walking s).message (options_type r) ≡ Ok place
-  pub option : Option
+  pub option : RequestOption
   pub one : Among option (request_of r).options
   pub fault : Fault
   pub refused : settled_in s r place option ≡ fails fault
@@ -102,7 +102,7 @@ pub record FirstRefused (s r : List ℕ) (a : Answer) : Type 0 where
   pub itself : (room left : List ℕ) (b : Answer) → Answered (resolve_bytes s (alone r a.option)) room left b → b ≡ at_first a
 
 pub record PartRefused (s r : List ℕ) (a : Answer) : Type 0 where
-  pub option : Option
+  pub option : RequestOption
   pub at : get_elem? (request_of r).options a.option ≡ Some option
   pub below : a.part < length option.parts
   pub place : LookupScope

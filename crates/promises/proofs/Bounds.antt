@@ -18,7 +18,7 @@ use Rattle.reply.proofs.VerdictLaws.{refused-fine, first-fine-front, first-fine-
 use Rattle.field.specs.Leaf.{text}
 use Rattle.field.specs.Walk.{Walk, done, cut, step, walk}
 use Rattle.request.specs.Table.{option_tag}
-use Rattle.request.specs.Request.{Option, Request, heading_of, option_of, option_in, options_in, request_with, request_of}
+use Rattle.request.specs.Request.{RequestOption, Request, heading_of, option_of, option_in, options_in, request_with, request_of}
 use Rattle.records.specs.Records.{Recs, nil, append, encode}
 use Rattle.records.specs.inner.Emits.{bytes_most}
 use Rattle.records.proofs.RecsLaws.{append-append}
@@ -39,7 +39,7 @@ use Rattle.reply.specs.declared.Refusal.{Refusal}
 use Rattle.request.specs.declared.heading.Heading.{Heading}
 use Rattle.scope.specs.declared.lookup.LookupScope.{LookupScope}
 
-abbrev pub longest : List Option → ℕ
+abbrev pub longest : List RequestOption → ℕ
 longest [] = 0
 longest (o ∷ os) = max (length o.parts) (longest os)
 
@@ -66,7 +66,7 @@ module _ {k n b c : ℕ} where
   next_small i ks x u faulty f g = halted
 
 module _ (L : Lookups) (s r scope : List ℕ) (m : Message) (k c : ℕ) where
-  abbrev FromHere : List Option → (bytes : ℕ) → Type 0
+  abbrev FromHere : List RequestOption → (bytes : ℕ) → Type 0
   FromHere os b =
       longest os + (most_constants - 1) ≤ k → (n : ℕ) → n + b ≤ c → (i : ℕ) (ks : List Known) (x : Recs)
       → Small k n (append (known_recs ks) x) → SmallGathered k c (gather L s r scope m i ks x os)
@@ -98,7 +98,7 @@ module _ {k n : ℕ} where
   steps-in (together u) = writes u
   steps-in halted = stops
 
-  some-small : (L : Lookups) (s r : List ℕ) (q : Request) (os : List Option)
+  some-small : (L : Lookups) (s r : List ℕ) (q : Request) (os : List RequestOption)
       → ((m : Message) → SmallGathered k n (gather L s r (text r q.scope) m 0 [] nil q.options))
       → SmallSteps k n (some_options L s r q os)
   some-small L s r q [] u = none

@@ -7,7 +7,7 @@ use borrow.Author.Tests.{leb-true}
 use Rattle.limits.specs.Figures.{most_parts}
 use Rattle.path.specs.Path.{is_rel_path, is_rel_or_empty}
 use Rattle.field.specs.Leaf.{text}
-use Rattle.request.specs.Request.{Option, request_of}
+use Rattle.request.specs.Request.{RequestOption, request_of}
 use Rattle.constantform.specs.Fine.{count_of, good_constants}
 use Rattle.optionform.specs.Fine.{good_parts, good_option}
 use Rattle.requestform.specs.Form.{judge_request}
@@ -21,7 +21,7 @@ use Rattle.promises.specs.Levels.{deepest}
 use Rattle.promises.proofs.Bounds.{longest, records-small, resolved-fine, resolved-steps}
 use Rattle.reply.specs.Verdicts.{Verdict, fine}
 
-parts-few : (r : List ℕ) (o : Option) → good_option r o ≡ true → length o.parts ≤ most_parts
+parts-few : (r : List ℕ) (o : RequestOption) → good_option r o ≡ true → length o.parts ≤ most_parts
 parts-few r o = go (leb 1 n) (leb n most_parts) refl (good_parts r o.parts) (eqb (count_of o.constant) 1) (good_constants r o.constant)
   where
     n : ℕ
@@ -33,7 +33,7 @@ parts-few r o = go (leb 1 n) (leb n most_parts) refl (good_parts r o.parts) (eqb
     go true false l c d f h = absurd (false≢true h)
     go false b l c d f h = absurd (false≢true h)
 
-longest-few : (r : List ℕ) (os : List Option) → good_options r os ≡ true → longest os ≤ most_parts
+longest-few : (r : List ℕ) (os : List RequestOption) → good_options r os ≡ true → longest os ≤ most_parts
 longest-few r [] h = omega arith
 longest-few r (o ∷ os) h =
     let both = (and-eq-true_iff (good_option r o) (good_options r os)).0 h in

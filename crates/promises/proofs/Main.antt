@@ -39,7 +39,7 @@ use Rattle.search.specs.declared.extension.Found.{Ok as FoundExtension}
 use Rattle.search.specs.Lookup.{found_at, tried}
 use Rattle.search.specs.Answers.{Undeclared}
 use Rattle.request.specs.declared.name.Part.{Part}
-use Rattle.request.specs.Request.{Option, request_of}
+use Rattle.request.specs.Request.{RequestOption, request_of}
 use Rattle.records.specs.Records.{Recs, encode}
 use Rattle.records.specs.Raw.{raw_of, raws_of, Proper}
 use Rattle.records.proofs.ReadBack as encoding
@@ -220,13 +220,13 @@ module _ (s r scope : List ℕ) (m : Message) (p : Part) (x : p.extension ≡ tr
   wrong-only = theorems.part-wrong s r scope m p x
 
 -- An option that is refused makes the whole refused,
-pub first-refused : (L : Lookups) (s r scope : List ℕ) (m : Message) (i : ℕ) (ks : List Known) (x : Recs) (o : Option) (os : List Option)
+pub first-refused : (L : Lookups) (s r scope : List ℕ) (m : Message) (i : ℕ) (ks : List Known) (x : Recs) (o : RequestOption) (os : List RequestOption)
     (f : Fault) → settle L s r scope m o ≡ fails f → gather L s r scope m i ks x (o ∷ os) ≡ stopped (cause_at i f)
 first-refused = theorems.option-refused
 
 -- and no option behind it is looked at.
-pub behind-unread : (L : Lookups) (s r scope : List ℕ) (m : Message) (front : List Option) (i : ℕ) (ks : List Known) (x : Recs) (o : Option)
-    (os os' : List Option) (f : Fault) → settle L s r scope m o ≡ fails f
+pub behind-unread : (L : Lookups) (s r scope : List ℕ) (m : Message) (front : List RequestOption) (i : ℕ) (ks : List Known) (x : Recs) (o : RequestOption)
+    (os os' : List RequestOption) (f : Fault) → settle L s r scope m o ≡ fails f
     → gather L s r scope m i ks x (front ++ o ∷ os) ≡ gather L s r scope m i ks x (front ++ o ∷ os')
 behind-unread = theorems.options-behind
 
@@ -251,7 +251,7 @@ module _ (s r before after : List ℕ) (a : Answer) (k : Answered (resolve_bytes
 
 -- A request of its own: `alone r i` is the heading of r and the field of its i-th option. It is a fine request, of the same scope and options
 -- type, and has that option alone, with the fault that it has in r, or none.
-pub option-own : (r : List ℕ) → judge_request r ≡ fine → (i : ℕ) (o : Option) → get_elem? (request_of r).options i ≡ Some o → Own r i o
+pub option-own : (r : List ℕ) → judge_request r ≡ fine → (i : ℕ) (o : RequestOption) → get_elem? (request_of r).options i ≡ Some o → Own r i o
 option-own = apart.own-request
 
 -- Of `query` the option is 65,535, and the part is a position exactly when its name is refused by its steps: that of the part at fault.

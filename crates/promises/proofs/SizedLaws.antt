@@ -28,7 +28,7 @@ use Rattle.request.specs.Constant.{integer_of, float_of, bool_of, numeric_of, co
 use Rattle.request.specs.Tree.{PairName, unnamed, Constants, none, scalar, message, list, ConstantReader, pair_name_of, elements_in, pairs_in}
 use Rattle.request.specs.Tree.{if_held, constant_in}
 use Rattle.request.specs.Name.{after_parts}
-use Rattle.request.specs.Request.{Option as Setting, heading_of, constant_of_field, option_of, option_in, options_in, request_with, request_of}
+use Rattle.request.specs.Request.{RequestOption as Setting, heading_of, constant_of_field, option_of, option_in, options_in, request_with, request_of}
 use Rattle.lookups.specs.Lookups.{value_in}
 use Rattle.promises.proofs.ScalarFits.{SizedBits}
 use Rattle.field.specs.declared.Field.{Field}

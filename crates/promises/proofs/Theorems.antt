@@ -19,7 +19,7 @@ use Rattle.search.specs.Answers.{Undeclared, AnswersAt}
 use Rattle.search.proofs.Theorems.{tried-answers, extendee-other, other-tried, other-extendee}
 use Rattle.search.proofs.Theorems.{not-found-none, none-not-found, refusal-not-found}
 use Rattle.request.specs.declared.name.Part.{Part}
-use Rattle.request.specs.Request.{Option}
+use Rattle.request.specs.Request.{RequestOption}
 use Rattle.request.specs.Tree.{Constants}
 use Rattle.records.specs.Records.{Recs}
 use Rattle.records.specs.Made.{wrong}
@@ -110,11 +110,11 @@ module _ (L : Lookups) (s r scope : List ℕ) (m : Message) where
   part-refused i p (q ∷ ps) c l e = rw e refl
 
   -- An option that is refused makes the whole refused, and no option behind it is looked at.
-  pub option-refused : (i : ℕ) (ks : List Known) (x : Recs) (o : Option) (os : List Option) (f : Fault)
+  pub option-refused : (i : ℕ) (ks : List Known) (x : Recs) (o : RequestOption) (os : List RequestOption) (f : Fault)
       → settle L s r scope m o ≡ fails f → gather L s r scope m i ks x (o ∷ os) ≡ stopped (cause_at i f)
   option-refused i ks x o os f e = rw e refl
 
-  pub options-behind : (front : List Option) (i : ℕ) (ks : List Known) (x : Recs) (o : Option) (os os' : List Option) (f : Fault)
+  pub options-behind : (front : List RequestOption) (i : ℕ) (ks : List Known) (x : Recs) (o : RequestOption) (os os' : List RequestOption) (f : Fault)
       → settle L s r scope m o ≡ fails f
       → gather L s r scope m i ks x (front ++ o ∷ os) ≡ gather L s r scope m i ks x (front ++ o ∷ os')
   options-behind [] i ks x o os os' f e = option-refused i ks x o os f e ∙ sym (option-refused i ks x o os' f e)

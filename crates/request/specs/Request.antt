@@ -24,14 +24,14 @@ use Rattle.request.specs.Tree.{Constants, none, unnamed, constant_in}
 use Rattle.field.specs.declared.Field.{Field}
 use Rattle.request.specs.declared.heading.Heading.{Heading}
 
-pub record Option : Type 0 where
+pub record RequestOption : Type 0 where
   pub parts : List Part
   pub constant : Constants
 
 pub record Request : Type 0 where
   pub scope : Span
   pub options_type : Span
-  pub options : List Option
+  pub options : List RequestOption
 
 -- "18 scope, 19 options type path, then 08 options" [FORM-2]
 unfoldable pub heading_of : List ℕ → Option Heading
@@ -45,14 +45,14 @@ abbrev pub constant_of_field : (s : List ℕ) → Option Field → Constants
 constant_of_field s None = none
 constant_of_field s (Some f) = constant_in most_constants s unnamed f.tag f.from f.to none
 
-unfoldable pub option_of : (s : List ℕ) (from to : ℕ) → Option
+unfoldable pub option_of : (s : List ℕ) (from to : ℕ) → RequestOption
 option_of s a e =
     record { parts = parts_in (walk s a e); constant = constant_of_field s (field_at s (after_parts a (walk s a e)) e) }
 
-unfoldable pub option_in : (s : List ℕ) (tag from to : ℕ) (rest : List Option) → List Option
+unfoldable pub option_in : (s : List ℕ) (tag from to : ℕ) (rest : List RequestOption) → List RequestOption
 option_in s t a e rest = elim (eqb t option_tag) [ true ↦ option_of s a e ∷ rest | false ↦ rest ]
 
-abbrev pub options_in : (s : List ℕ) → Walk → List Option
+abbrev pub options_in : (s : List ℕ) → Walk → List RequestOption
 options_in s done = []
 options_in s cut = []
 options_in s (step t a e w) = option_in s t a e (options_in s w)

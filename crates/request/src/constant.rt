@@ -19,6 +19,7 @@ pub enum Constant {
 }
 
 // The integer that 64 bits are in two's complement.
+#[tactic(auto, using(crate::proofs::ConstantLaws::signed_laws))]
 fn integer_of(bits: u64) -> Constant
     ensures { result ≡ integer_of bits }
 {
@@ -36,6 +37,7 @@ fn integer_of(bits: u64) -> Constant
 }
 
 // The double that 64 bits are.
+#[tactic(auto, using(crate::proofs::ConstantLaws::float_laws))]
 fn float_of(bits: u64) -> Constant
     ensures { result ≡ float_of bits }
 {
@@ -47,6 +49,7 @@ fn float_of(bits: u64) -> Constant
 }
 
 // A bool: one byte, 0 or 1.
+#[tactic(auto, using(crate::proofs::ConstantLaws::bool_laws))]
 fn bool_of(s: &[u8], from: usize, to: usize) -> Option<Constant>
     requires { (from ≤ to) × (to ≤ length s.now) }
     ensures { result ≡ bool_of s.now from to }
@@ -61,6 +64,7 @@ fn bool_of(s: &[u8], from: usize, to: usize) -> Option<Constant>
 }
 
 // A number: eight bytes.
+#[tactic(auto, using(crate::proofs::ConstantLaws::number_laws))]
 fn numeric_of(s: &[u8], tag: u8, from: usize, to: usize) -> Option<Constant>
     requires { (from ≤ to) × (to ≤ length s.now) }
     ensures { result ≡ numeric_of s.now tag from to }
@@ -85,6 +89,7 @@ fn numeric_of(s: &[u8], tag: u8, from: usize, to: usize) -> Option<Constant>
 }
 
 // The constant of this tag whose payload is from..to.
+#[tactic(auto, using(crate::proofs::ConstantLaws::constant_laws))]
 pub fn constant_of(s: &[u8], tag: u8, from: usize, to: usize) -> Option<Constant>
     requires { (from ≤ to) × (to ≤ length s.now) }
     ensures { result ≡ constant_of s.now tag from to }

@@ -18,6 +18,7 @@ pub struct Heading {
 }
 
 // The scope and the options type of a request.
+#[tactic(auto, using(crate::proofs::RequestLaws::heading_laws))]
 pub fn heading_of(s: &[u8]) -> Option<Heading>
     ensures { result ≡ heading_of s.now }
 {
@@ -32,6 +33,7 @@ pub fn heading_of(s: &[u8]) -> Option<Heading>
 }
 
 // Where the parts that stand from a place on end.
+#[tactic(auto, using(crate::proofs::RequestLaws::after_laws))]
 pub fn after_parts(s: &[u8], from: usize, to: usize) -> usize
     requires { (from ≤ to) × (to ≤ length s.now) }
     ensures { result ≡ after_parts from (walk s.now from to) }

@@ -13,6 +13,7 @@ pub struct Part {
 }
 
 // The part at a place; the next one starts where its name ends.
+#[tactic(auto, using(crate::proofs::PartLaws::part_laws))]
 pub fn part_at(s: &[u8], at: usize, end: usize) -> Option<Part>
     requires { (at ≤ end) × (end ≤ length s.now) }
     ensures { result ≡ part_at s.now at end }

@@ -20,7 +20,7 @@ use Rattle.field.proofs.WalkLaws.{walk_step}
 use Rattle.request.specs.declared.heading.Heading.{Heading}
 use Rattle.request.specs.Table.{scope_tag, options_type_tag, option_tag}
 use Rattle.request.specs.Name.{parts_in, after_parts}
-use Rattle.request.specs.Request.{Option, heading_of, option_of, option_in, options_in, request_of}
+use Rattle.request.specs.Request.{RequestOption, heading_of, option_of, option_in, options_in, request_of}
 use Rattle.request.proofs.RequestLaws.{heading-is}
 use Rattle.reply.specs.Verdicts.{beyond, Verdict, fine}
 use Rattle.constantform.specs.Form.{bad_request}
@@ -35,11 +35,11 @@ use Rattle.reply.specs.declared.Refusal.{Refusal}
 use Rattle.field.specs.declared.Span.{Span}
 
 -- ---- options: each field is one
-record FineOptions (s : List ℕ) (w : Walk) (os : List Option) : Type 0 where
+record FineOptions (s : List ℕ) (w : Walk) (os : List RequestOption) : Type 0 where
   good : good_options s os ≡ true
   whole : length os ≡ length (tags_in w)
 
-option-more : (s : List ℕ) (i t a e : ℕ) (w : Walk) (os : List Option) → e ≤ length s → judge_option s i t a e ≡ fine → FineOptions s w os
+option-more : (s : List ℕ) (i t a e : ℕ) (w : Walk) (os : List RequestOption) → e ≤ length s → judge_option s i t a e ≡ fine → FineOptions s w os
     → FineOptions s (step t a e w) (option_in s t a e os)
 unfolding option_in
 option-more s i t a e w os l p h = let y = option-tagged s i t a e p in rw y (at_option (rw y at p))

@@ -7,10 +7,10 @@
 use Rattle.std.specs.Prelude.{Bool, true, ◌&&◌, List, [], ◌∷◌, ℕ}
 use Rattle.path.specs.Path.{is_rel_path, is_rel_or_empty}
 use Rattle.field.specs.Leaf.{text}
-use Rattle.request.specs.Request.{Option, Request}
+use Rattle.request.specs.Request.{RequestOption, Request}
 use Rattle.optionform.specs.Fine.{good_option}
 
-abbrev pub good_options : (s : List ℕ) → List Option → Bool
+abbrev pub good_options : (s : List ℕ) → List RequestOption → Bool
 good_options s [] = true
 good_options s (o ∷ os) = good_option s o && good_options s os
 

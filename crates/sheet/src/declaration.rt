@@ -33,6 +33,7 @@ pub struct Value {
 }
 
 // Whether the type is a group, a message or an enum, which have a type path.
+#[tactic(auto, using(crate::proofs::ShapeLaws::has_type_path))]
 pub fn has_type_path(typ: usize) -> bool
     ensures { result ≡ has_type_path typ }
 {
@@ -40,6 +41,7 @@ pub fn has_type_path(typ: usize) -> bool
 }
 
 // The type path where the type has one, and nothing after it.
+#[tactic(auto, using(crate::proofs::ShapeLaws::type_path_laws))]
 fn type_path_at(s: &[u8], at: usize, end: usize, typ: u8) -> Option<Span>
     requires { (at ≤ end) × (end ≤ length s.now) }
     ensures { result ≡ type_path_at typ s.now at end }
@@ -58,6 +60,7 @@ fn type_path_at(s: &[u8], at: usize, end: usize, typ: u8) -> Option<Span>
 }
 
 // Number, type, label and type path, from a place on.
+#[tactic(auto, using(crate::proofs::ShapeLaws::shape_laws, field::proofs::LeafLaws::size_laws))]
 fn shape_at(s: &[u8], at: usize, end: usize) -> Option<Shape>
     requires { (at ≤ end) × (end ≤ length s.now) }
     ensures { result ≡ shape_at s.now at end }
@@ -76,6 +79,7 @@ fn shape_at(s: &[u8], at: usize, end: usize) -> Option<Shape>
 }
 
 // The extension whose payload is from..to.
+#[tactic(auto, using(crate::proofs::DeclarationLaws::extension_laws))]
 pub fn extension_at(s: &[u8], from: usize, to: usize) -> Option<Declaration>
     requires { (from ≤ to) × (to ≤ length s.now) }
     ensures { result ≡ extension_at s.now from to }
@@ -91,6 +95,7 @@ pub fn extension_at(s: &[u8], from: usize, to: usize) -> Option<Declaration>
 }
 
 // The field of a message whose payload is from..to.
+#[tactic(auto, using(crate::proofs::DeclarationLaws::field_laws))]
 pub fn message_field_at(s: &[u8], from: usize, to: usize) -> Option<Declaration>
     requires { (from ≤ to) × (to ≤ length s.now) }
     ensures { result ≡ message_field_at s.now from to }
@@ -105,6 +110,7 @@ pub fn message_field_at(s: &[u8], from: usize, to: usize) -> Option<Declaration>
 }
 
 // The enum value whose payload is from..to.
+#[tactic(auto, using(crate::proofs::DeclarationLaws::value_laws))]
 pub fn value_at(s: &[u8], from: usize, to: usize) -> Option<Value>
     requires { (from ≤ to) × (to ≤ length s.now) }
     ensures { result ≡ value_at s.now from to }

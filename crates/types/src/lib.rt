@@ -58,6 +58,7 @@ pub const I32: u8 = 5;
 const WIRE: [u8; 19] = [0, 1, 5, 0, 0, 0, 1, 5, 0, 2, 3, 2, 2, 0, 0, 5, 1, 0, 0];
 
 // Above the last type it is a varint's, as the definition leaves what it does not list.
+#[tactic(auto, using(crate::proofs::TypeLaws::wire_laws), unfolding(crate::specs::Types::wire_of))]
 pub fn wire_of(kind: usize) -> u8
     ensures { result ≡ wire_of kind }
 {

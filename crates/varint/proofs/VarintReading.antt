@@ -20,12 +20,12 @@ carried value scale k (Some it) = Some (read (value + scale * it.value) (k + it.
 carried value scale k None = None
 
 carried-start : (r : Option Read) → r ≡ carried 0 1 0 r
-carried-start (Some it1) = ap₂ Some (read (omega arith) (omega arith))
+carried-start (Some it1) = ap₂ (λ (v n : ℕ). Some (read v n)) (omega arith) (omega arith)
 carried-start None = refl
 
 carried-onto : (value scale k b : ℕ) (r : Option Read)
     → carried value scale k (continued b r) ≡ carried (value + b % 128 * scale) (scale * 128) (k + 1) r
-carried-onto value scale k b (Some it1) = ap₂ Some (read (tidy (b % 128)) (omega arith))
+carried-onto value scale k b (Some it1) = ap₂ (λ (v n : ℕ). Some (read v n)) (tidy (b % 128)) (omega arith)
   where
     tidy : (c : ℕ) → value + scale * (c + 128 * it1.value) ≡ value + c * scale + scale * 128 * it1.value
     tidy c = rw (mul-add, mul_assoc, mul_comm c scale) (omega arith)
@@ -109,7 +109,7 @@ module _ (s : List ℕ) (at end value scale more i : ℕ) (k : Reading s at end 
 
     got : read_within more (part s i end) ≡ Some (read b 1) → Some (read (value + b * scale) (i + 1)) ≡ varint_at s at end
     unfolding varint_at
-    got q = rw (k.rest, q) (ap₂ Some (read (ap (λ (x : ℕ). value + x) (mul_comm b scale)) (omega (arith, k.from))))
+    got q = rw (k.rest, q) (ap₂ (λ (v n : ℕ). Some (read v n)) (ap (λ (x : ℕ). value + x) (mul_comm b scale)) (omega (arith, k.from)))
 
     pub reading-last : more ≡ 0 → b < 2 → Some (read (value + b * scale) (i + 1)) ≡ varint_at s at end
     reading-last z g = got (rw (head, z) (read-last b (part s (suc i) end) g))

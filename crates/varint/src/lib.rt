@@ -17,6 +17,7 @@ pub struct Read {
 
 // How many bytes the shortest varint of v has. A byte holds seven bits, so that below 128^n a varint has at most n bytes: the limits are the
 // powers 1 to 9 of 128.
+#[tactic(auto, using(crate::proofs::VarintLength::varint_lengths))]
 pub fn varint_len(v: u64) -> usize
     ensures { (result ≡ length (varint_of v)) × (result ≤ most_varint) }
 {
@@ -51,6 +52,7 @@ pub fn varint_len(v: u64) -> usize
 }
 
 // The shortest varint of v from a place on, as far as there is room, and the place after it.
+#[tactic(auto, using(crate::proofs::VarintLoops::writing_laws))]
 pub fn put_varint(out: &mut [u8], at: usize, v: u64) -> usize
     requires { at < 2 ^ 63 }
     ensures { Laid out.old at (varint_of v) out.new result }
@@ -67,6 +69,7 @@ pub fn put_varint(out: &mut [u8], at: usize, v: u64) -> usize
 }
 
 // The varint between two places that starts at the first.
+#[tactic(auto, using(crate::proofs::VarintReading::reading_laws))]
 pub fn varint_at(s: &[u8], at: usize, end: usize) -> Option<Read>
     requires { (at ≤ end) × (end ≤ length s.now) }
     ensures { result ≡ varint_at s.now at end }

@@ -21,7 +21,7 @@ use Rattle.reply.specs.declared.Refusal.TheVariants.{BadRequest}
 use Rattle.field.specs.Leaf.{text}
 use Rattle.field.specs.Walk.{walk}
 use Rattle.form.specs.Each.{each_from}
-use Rattle.request.specs.Request.{Option, options_in}
+use Rattle.request.specs.Request.{RequestOption, options_in}
 use Rattle.optionform.specs.Form.{judge_option}
 use Rattle.records.specs.Records.{Recs, nil, append, encode}
 use Rattle.lookups.specs.Lookups.{Lookups}
@@ -36,7 +36,7 @@ use Rattle.options.specs.inner.Settling.{message_of, set_recs}
 use Rattle.options.specs.Options.{Gathered, gathered, stopped, gather}
 use Rattle.reply.specs.Verdicts.{fine}
 
-unfoldable pub options_of : (r : List ℕ) → Start → List Option
+unfoldable pub options_of : (r : List ℕ) → Start → List RequestOption
 options_of r h = options_in r (walk r h.options (length r))
 
 abbrev pub knowns_of : Gathered → List Known
@@ -47,13 +47,13 @@ module _ (L : Lookups) (s r : List ℕ) (h : Start) where
   unfoldable pub gathered_by : Gathered
   gathered_by = gather L s r (text r h.scope) (message_of r h) 0 [] nil (options_of r h)
 
-  abbrev pub set_by : Option → Recs
+  abbrev pub set_by : RequestOption → Recs
   set_by o = set_recs (settle L s r (text r h.scope) (message_of r h) o)
 
   unfoldable pub made_at : (option : ℕ) → Recs
   made_at i = told nil set_by (get_elem? (options_of r h) i)
 
-  abbrev pub held_from : (note : ℕ) (notes : List ℕ) (option : ℕ) → List Option → Recs
+  abbrev pub held_from : (note : ℕ) (notes : List ℕ) (option : ℕ) → List RequestOption → Recs
   held_from v ns i [] = nil
   held_from v ns i (o ∷ os) = only_if (eqb (get_or ns i 0) v) (set_by o) (held_from v ns (i + 1) os)
 

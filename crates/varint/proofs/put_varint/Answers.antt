@@ -3,20 +3,11 @@
 use Rattle.varint.proofs.VarintLoops.{writing_laws}
 use Rattle.varint.proofs.put_varint.Goals as goal
 
-pub loop-x-init : goal.loop-x-init
-loop-x-init c = search writing_laws
-
 pub overflow_add-i : goal.overflow_add-i
 overflow_add-i c = search writing_laws
 
-pub loop-x-preserved : goal.loop-x-preserved
-loop-x-preserved c = search writing_laws
-
 pub overflow_add-result : goal.overflow_add-result
 overflow_add-result c = search writing_laws
-
-pub shape_of-out : goal.shape_of-out
-shape_of-out c = search writing_laws
 
 pub returns : goal.returns
 returns c = search writing_laws

@@ -4,18 +4,6 @@
 use Rattle.varint.proofs.VarintReading.{reading_laws}
 use Rattle.varint.proofs.varint_at.Goals as goal
 
-pub loop-i-init : goal.loop-i-init
-loop-i-init c = search reading_laws
-
-pub overflow_mul-result : goal.overflow_mul-result
-overflow_mul-result c = search reading_laws
-
-pub overflow_add-result : goal.overflow_add-result
-overflow_add-result c = search reading_laws
-
-pub returns-then-b-lt2 : goal.returns-then-b-lt2
-returns-then-b-lt2 c = search reading_laws
-
 pub returns-then-more-eq0 : goal.returns-then-more-eq0
 returns-then-more-eq0 c = search reading_laws
 
@@ -24,9 +12,6 @@ overflow_mul-result-then-b-lt128 c = search reading_laws
 
 pub overflow_add-result-then-b-lt128 : goal.overflow_add-result-then-b-lt128
 overflow_add-result-then-b-lt128 c = search reading_laws
-
-pub returns-then-b-lt128 : goal.returns-then-b-lt128
-returns-then-b-lt128 c = search reading_laws
 
 pub overflow_mul-value : goal.overflow_mul-value
 overflow_mul-value c = search reading_laws
@@ -39,6 +24,3 @@ overflow_mul-scale c = search reading_laws
 
 pub loop-i-preserved : goal.loop-i-preserved
 loop-i-preserved c = search reading_laws
-
-pub returns : goal.returns
-returns c = search reading_laws

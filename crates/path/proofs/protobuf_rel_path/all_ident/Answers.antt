@@ -5,12 +5,3 @@ use Rattle.path.proofs.protobuf_rel_path.all_ident.Goals as goal
 
 pub slice_bounds-is_ident-end : goal.slice_bounds-is_ident-end
 slice_bounds-is_ident-end c = search checked_laws
-
-pub returns-then-not-is_ident : goal.returns-then-not-is_ident
-returns-then-not-is_ident c = search checked_laws
-
-pub returns-then-s-end : goal.returns-then-s-end
-returns-then-s-end c = search checked_laws
-
-pub loop-from-preserved : goal.loop-from-preserved
-loop-from-preserved c = search checked_laws
