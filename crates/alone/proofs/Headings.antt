@@ -33,8 +33,8 @@ module _ (s : List ℕ) (h : Heading) where
   heading-leaves =
       on-leaf-some None (Some h) (leaf_at scope_tag any_bytes s 0 (length s))
       (λ a b. on_leaf None (leaf_at options_type_tag any_bytes s b (length s)) (heads a b)) (Leaves s h) (λ q. never cc)
-      (λ a b l. on-leaf-some None (Some h) (leaf_at options_type_tag any_bytes s b (length s)) (heads a b) (Leaves s h) (λ q. never cc)
-      (λ m e k q. let x : h ≡ record { scope = span a b; options_type = span m e; options = e } = cc in
+      (λ p l. on-leaf-some None (Some h) (leaf_at options_type_tag any_bytes s p.to (length s)) (heads p.from p.to) (Leaves s h) (λ q. never cc)
+      (λ u k q. let x : h ≡ record { scope = span p.from p.to; options_type = span m e; options = e } = cc in
       rw x (record { scope = l; type = k; options = refl })))
 
 -- ---- the same bytes in front

@@ -121,13 +121,13 @@ asked-placed o x l h k = go (rw h at k)
 
 module _ (m : List ℕ) (x : Asked) (o s : List ℕ) (w : Way) (t a e : ℕ) where
   pub in-other-bears : (k : ℕ) → x ≡ Bearers k → (y : ℕ)
-      → y ≡ on_leaf 0 (named (item_at 0 s t a e)) (λ n b. own x t (onward m w (text s (span n b))))
+      → y ≡ on_leaf 0 (named (item_at 0 s t a e)) (λ p. own x t (onward m w (text s p)))
       → y ≡ items_asked m x o s w (item_at 0 s t a e)
   in-other-bears k h y p =
       p
       ∙ rw h
       (item-cases
-      (λ f. on_leaf 0 (named (f none)) (λ n b. own (Bearers k) t (onward m w (text s (span n b)))) ≡ items_asked m (Bearers k) o s w (f none))
+      (λ f. on_leaf 0 (named (f none)) (λ q. own (Bearers k) t (onward m w (text s q))) ≡ items_asked m (Bearers k) o s w (f none))
       s a e refl 0 t (λ _ z. absurd (z refl)) (λ g y _. rw g (omega arith)) (λ g n b _. rw g (omega arith)) (λ _ y _. refl))
 
   module _ (l : Like) (h : x ≡ Numbers l) where

@@ -107,7 +107,7 @@ fn bears(s: &[u8], tag: u8, item: Span, text: &[u8], way: Way, asked: Asked) -> 
     requires lies { Lies item s.now }
     requires reaches { Reaches text.now way }
     ensures { (result ≡ on_leaf 0 (named (item_at 0 s.now tag item.from item.to))
-        λ n b. own_of asked tag (onward_of text.now way (text_of s.now (span n b)))) × (result ≤ 1) }
+        λ p. own_of asked tag (onward_of text.now way (text_of s.now p))) × (result ≤ 1) }
 {
     let Some(place) = name_at(s, tag, item) else { return 0; };
     let next = onward(text, way, &s[place.from..place.to]);

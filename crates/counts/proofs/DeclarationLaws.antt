@@ -46,8 +46,8 @@ module _ (s : List ℕ) (t a e : ℕ) where
       file n m r = record { package_name = span n m; body = span m e; items = items_in most_messages s (walk s m e) } ∷ r
 
       go : (b : Bool) (l : Option Span)
-          → files_hold k (elim b [ true ↦ on_leaf rest l (λ n m. file n m rest) | false ↦ rest ])
-          ≡ files_hold k (elim b [ true ↦ on_leaf [] l (λ n m. file n m []) | false ↦ [] ]) + files_hold k rest
+          → files_hold k (elim b [ true ↦ on_leaf rest l (λ p. file p.from p.to rest) | false ↦ rest ])
+          ≡ files_hold k (elim b [ true ↦ on_leaf [] l (λ q. file q.from q.to []) | false ↦ [] ]) + files_hold k rest
       go true None = omega arith
       go true (Some place) = omega arith
       go false l = omega arith
@@ -56,8 +56,8 @@ enum-adds : (k : ℕ) (s : List ℕ) (a e : ℕ) (rest : Items) → items_hold k
 enum-adds k s a e rest = go (leaf_at name_tag any_bytes s a e)
   where
     go : (l : Option Span)
-        → items_hold k (on_leaf rest l λ n m. enumeration (span n m) (span m e) (values_in s (walk s m e)) rest)
-        ≡ items_hold k (on_leaf none l λ n m. enumeration (span n m) (span m e) (values_in s (walk s m e)) none) + items_hold k rest
+        → items_hold k (on_leaf rest l λ p. enumeration p (span p.to e) (values_in s (walk s p.to e)) rest)
+        ≡ items_hold k (on_leaf none l λ q. enumeration q (span q.to e) (values_in s (walk s q.to e)) none) + items_hold k rest
     go None = omega arith
     go (Some it) = omega arith
 
@@ -70,8 +70,8 @@ message-adds k zero s a e rest = omega arith
 message-adds k (suc d) s a e rest = go (leaf_at name_tag any_bytes s a e)
   where
     go : (l : Option Span)
-        → items_hold k (on_leaf rest l λ n m. message (span n m) (span m e) (items_with (message_in d s) s (walk s m e)) rest)
-        ≡ items_hold k (on_leaf none l λ n m. message (span n m) (span m e) (items_with (message_in d s) s (walk s m e)) none) + items_hold k rest
+        → items_hold k (on_leaf rest l λ p. message p (span p.to e) (items_with (message_in d s) s (walk s p.to e)) rest)
+        ≡ items_hold k (on_leaf none l λ q. message q (span q.to e) (items_with (message_in d s) s (walk s q.to e)) none) + items_hold k rest
     go None = omega arith
     go (Some it1) = omega arith
 

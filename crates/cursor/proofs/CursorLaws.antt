@@ -171,7 +171,7 @@ module _ (s t : List ℕ) (c : Cursor) (at file : ℕ)
     here-cut g = onward-none (here s t) s t c _ k (rw (files-cut s at (length s) (rw (← l) h) r (rw (← l) q) g))
 
     module _ (it : Field) (g : r ≡ Some it) (pk : Option Span) (j : pk ≡ package_at s it.tag it.from it.to)
-        (n : ℕ) (f : n ≡ on_leaf 0 pk (λ n m. 1)) (o : Option LookupScope) (u : o ≡ placed (scope_at s t c.next file pk it.to)) where
+        (n : ℕ) (f : n ≡ on_leaf 0 pk (λ p. 1)) (o : Option LookupScope) (u : o ≡ placed (scope_at s t c.next file pk it.to)) where
       here-open : here s t (record { next = c.next; at = at; file = file })
           ≡ onto (scope_at s t c.next file pk it.to) (here s t (record { next = c.next; at = it.to; file = file + n }))
       here-open =

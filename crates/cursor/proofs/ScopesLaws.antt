@@ -63,7 +63,7 @@ module _ (s : List ℕ) (tag a e : ℕ) where
 
   -- it says whether the field is a file, and which
   file-package : (rest : List File) → file_in s tag a e rest
-      ≡ on_leaf rest (package_at s tag a e) λ n m. file_with (span n m) (span m e) (items_in most_messages s (walk s m e)) ∷ rest
+      ≡ on_leaf rest (package_at s tag a e) λ p. file_with p (span p.to e) (items_in most_messages s (walk s p.to e)) ∷ rest
   unfolding file_in package_at
   file-package rest = go (eqb tag file_tag)
     where
@@ -80,13 +80,13 @@ pub ruleset package_laws = (package-other, package-file)
 -- what a field adds to the scopes
 pub scopes-step : (s t : List ℕ) (next i tag a e : ℕ) (rest : List File) (l : Option Span) → l ≡ package_at s tag a e
     → scopes_in s (take (next - 1) t) (names_from t next) i (file_in s tag a e rest)
-    ≡ onto (scope_at s t next i l e) (scopes_in s (take (next - 1) t) (names_from t next) (i + on_leaf 0 l (λ n m. 1)) rest)
+    ≡ onto (scope_at s t next i l e) (scopes_in s (take (next - 1) t) (names_from t next) (i + on_leaf 0 l (λ p. 1)) rest)
 scopes-step s t next i tag a e rest l q = rw (file-package s tag a e rest, ← q) (go l)
   where
     go : (l : Option Span)
         → scopes_in s (take (next - 1) t) (names_from t next) i
-        (on_leaf rest l λ n m. file_with (span n m) (span m e) (items_in most_messages s (walk s m e)) ∷ rest)
-        ≡ onto (scope_at s t next i l e) (scopes_in s (take (next - 1) t) (names_from t next) (i + on_leaf 0 l (λ n m. 1)) rest)
+        (on_leaf rest l λ u. file_with u (span u.to e) (items_in most_messages s (walk s u.to e)) ∷ rest)
+        ≡ onto (scope_at s t next i l e) (scopes_in s (take (next - 1) t) (names_from t next) (i + on_leaf 0 l (λ p. 1)) rest)
     go None = rw (add-zero i)
     go (Some place) = refl
 

@@ -80,7 +80,7 @@ fn package_at(s: &[u8], tag: u8, from: usize, to: usize) -> Option<Span>
 
 // How many files a field of this package is: one, or none.
 fn files_in(package_name: Option<Span>) -> usize
-    ensures { (result ≡ on_leaf 0 package_name (λ n m. 1)) × (result ≤ 1) }
+    ensures { (result ≡ on_leaf 0 package_name (λ p. 1)) × (result ≤ 1) }
 {
     let Some(_) = package_name else { return 0; };
     1

@@ -158,7 +158,7 @@ module _ (s : List ℕ) (u : Span) (r : Option Span) (g : r ≡ Some u) (k at en
 pub ruleset size_laws = (size_holds, byte-holds)
 
 -- ---- what is said of a leaf, where it is not what is said of none
-pub on-leaf-some : {A : Type 0} (none x : A) (l : Option Span) (some : ℕ → ℕ → A) (P : Type 0) → (x ≡ none → ⊥)
-    → ((q : Span) → l ≡ Some q → x ≡ some q.from q.to → P) → x ≡ on_leaf none l some → P
+pub on-leaf-some : {A : Type 0} (none x : A) (l : Option Span) (some : Span → A) (P : Type 0) → (x ≡ none → ⊥)
+    → ((q : Span) → l ≡ Some q → x ≡ some q → P) → x ≡ on_leaf none l some → P
 on-leaf-some none x None some P n f p = absurd (n p)
 on-leaf-some none x (Some place) some P n f p = f place refl p

@@ -8,7 +8,7 @@
 --              of_size n bs <=> there are n bytes
 --        leaf_of k good s f ==  the payload of the field f, where that is whole, has the tag k and passes the test
 --   leaf_at k good s at end ==  the payload of the field at a place, where that is whole, has the tag k and passes the test
---       on_leaf none l some ==  `some` of a leaf's two places, `none` where there is no leaf
+--       on_leaf none l some ==  `some` of the leaf, `none` where there is none
 --
 -- Assumes nothing.
 use Rattle.std.specs.Prelude.{Bool, true, ◌&&◌, List, ℕ, ◌≤◌, eqb, length, None, Some, Option}
@@ -43,6 +43,6 @@ leaf_of k good s (Some found) = only_if (eqb found.tag k && good (part s found.f
 unfoldable pub leaf_at : (tag : ℕ) (good : List ℕ → Bool) (s : List ℕ) (at end : ℕ) → Option Span
 leaf_at k good s at end = leaf_of k good s (field_at s at end)
 
-abbrev pub on_leaf : {A : Type 0} (none : A) (l : Option Span) (some : (from to : ℕ) → A) → A
+abbrev pub on_leaf : {A : Type 0} (none : A) (l : Option Span) (some : Span → A) → A
 on_leaf none None some = none
-on_leaf none (Some place) some = some place.from place.to
+on_leaf none (Some p) some = some p

@@ -70,4 +70,4 @@ name_span (Ok f) = f.declaration.name
 name_span (Err w) = no_bytes
 
 unfoldable pub name_span_for : (s t : List ℕ) (c p : Span) → Span
-name_span_for s t c p = on_leaf no_bytes (span_in t c) λ a e. on_leaf no_bytes (span_in t p) λ n m. name_span (finding s (part t a e) (part t n m))
+name_span_for s t c p = on_leaf no_bytes (span_in t c) λ q. on_leaf no_bytes (span_in t p) λ u. name_span (finding s (part t q.from q.to) (part t u.from u.to))

@@ -29,9 +29,9 @@ module _ (s : List ℕ) (a e : ℕ) (v : Value) where
   value-name : Some v ≡ value_at s a e → Named s a e v.name
   unfolding value_at
   value-name =
-      on-leaf-some None (Some v) (leaf_at name_tag any_bytes s a e) _ (Named s a e v.name) none-valued λ n numbers y.
-      on-leaf-some None (Some v) (last_at e (leaf_at signed_number_tag (of_size 4) s numbers e)) _ (Named s a e v.name) none-valued
-      λ k end _ p.
+      on-leaf-some None (Some v) (leaf_at name_tag any_bytes s a e) _ (Named s a e v.name) none-valued λ q y.
+      on-leaf-some None (Some v) (last_at e (leaf_at signed_number_tag (of_size 4) s q.to e)) _ (Named s a e v.name) none-valued
+      λ w _ p.
       let u : v ≡ record { name = span n numbers; number = big_at 4 s k } = cc in
       rw u y
 

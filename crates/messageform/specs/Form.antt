@@ -27,7 +27,7 @@ unfoldable pub judge_value : (s : List ℕ) (tag from to : ℕ) → Verdict
 judge_value s t a e = elim (eqb t value_tag) [ true ↦ judged BadSheet (is_value s a e) | false ↦ bad_sheet ]
 
 unfoldable pub judge_enum : (s : List ℕ) (from to : ℕ) → Verdict
-judge_enum s a e = on_leaf bad_sheet (leaf_at name_tag is_ident s a e) λ n body. each BadSheet (judge_value s) (walk s body e)
+judge_enum s a e = on_leaf bad_sheet (leaf_at name_tag is_ident s a e) λ name. each BadSheet (judge_value s) (walk s name.to e)
 
 -- "any of 02, 03, 04" in a file, "any of 02, 03, 04, 05" in a message [FORM-2, FAULT-5]
 unfoldable pub judge_item : (inner : (from to : ℕ) → Verdict) (fields : Bool) (s : List ℕ) (tag from to : ℕ) → Verdict
@@ -49,7 +49,7 @@ judge_item inner fields s t a e = elim (eqb t message_tag) [
 abbrev pub judge_message : (left : ℕ) (s : List ℕ) (from to : ℕ) → Verdict
 judge_message zero s a e = beyond
 judge_message (suc d) s a e =
-    on_leaf bad_sheet (leaf_at name_tag is_ident s a e) λ n body. each BadSheet (judge_item (judge_message d s) true s) (walk s body e)
+    on_leaf bad_sheet (leaf_at name_tag is_ident s a e) λ name. each BadSheet (judge_item (judge_message d s) true s) (walk s name.to e)
 
 unfoldable pub judge_items : (left : ℕ) (fields : Bool) (s : List ℕ) (from to : ℕ) → Verdict
 judge_items d fields s a e = each BadSheet (judge_item (judge_message d s) fields s) (walk s a e)

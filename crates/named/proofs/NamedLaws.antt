@@ -69,15 +69,15 @@ module _ (s : List ℕ) (a e : ℕ) (d : Declaration) where
   extension-name : Some d ≡ extension_at s a e → Named s a e d.name
   unfolding extension_at
   extension-name =
-      on-leaf-some None (Some d) (leaf_at name_tag any_bytes s a e) _ (Named s a e d.name) none-declared λ n extendees y.
-      on-leaf-some None (Some d) (leaf_at extendee_tag any_bytes s extendees e) _ (Named s a e d.name) none-declared
-      λ x shapes _. declared-name n extendees (span x shapes) y (shape_at s shapes e)
+      on-leaf-some None (Some d) (leaf_at name_tag any_bytes s a e) _ (Named s a e d.name) none-declared λ w y.
+      on-leaf-some None (Some d) (leaf_at extendee_tag any_bytes s w.to e) _ (Named s a e d.name) none-declared
+      λ l _. declared-name w.from w.to l y (shape_at s l.to e)
 
   field-name : Some d ≡ message_field_at s a e → Named s a e d.name
   unfolding message_field_at
   field-name =
-      on-leaf-some None (Some d) (leaf_at name_tag any_bytes s a e) _ (Named s a e d.name) none-declared λ n shapes y.
-      declared-name n shapes (span 0 0) y (shape_at s shapes e)
+      on-leaf-some None (Some d) (leaf_at name_tag any_bytes s a e) _ (Named s a e d.name) none-declared λ p y.
+      declared-name p.from p.to (span 0 0) y (shape_at s p.to e)
 
   -- whatever its tag, it is an extension or a field
   pub declaration-cases : (P : Type 0) (k t : ℕ) → (Some d ≡ extension_at s a e → P) → (Some d ≡ message_field_at s a e → P)

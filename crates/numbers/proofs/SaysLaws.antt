@@ -54,10 +54,10 @@ pub ruleset extension_says_laws = (extension-says-none, extension-says-of-none, 
 shape-says : (k : ℕ) (s : List ℕ) (at end : ℕ) (h : Shape) → Some h ≡ shape_at s at end → eqb h.number k ≡ says_number k s at end
 unfolding shape_at
 shape-says k s at end h =
-    on-leaf-some None (Some h) (leaf_at number_tag (of_size 4) s at end) _ L none λ n types x.
-    on-leaf-some None (Some h) (leaf_at type_tag (of_size 1) s types end) _ L none λ t labels _.
-    on-leaf-some None (Some h) (leaf_at label_tag (of_size 1) s labels end) _ L none λ l paths _.
-    on-leaf-some None (Some h) (type_path_at (get_or s t 0) s paths end) _ L none λ a e _ p.
+    on-leaf-some None (Some h) (leaf_at number_tag (of_size 4) s at end) _ L none λ w x.
+    on-leaf-some None (Some h) (leaf_at type_tag (of_size 1) s w.to end) _ L none λ q _.
+    on-leaf-some None (Some h) (leaf_at label_tag (of_size 1) s q.to end) _ L none λ l _.
+    on-leaf-some None (Some h) (type_path_at (get_or s q.from 0) s l.to end) _ L none λ p _ p.
     let u : h ≡ shape (big_at 4 s n) (get_or s t 0) (get_or s l 0) a e = cc in
     rw (u, x)
   where
@@ -81,9 +81,9 @@ extension-number : (k : ℕ) (s : List ℕ) (a e : ℕ) (d : Declaration) → So
     → eqb d.shape.number k ≡ extension_says k s a e
 unfolding extension_at
 extension-number k s a e d =
-    on-leaf-some None (Some d) (leaf_at name_tag any_bytes s a e) _ L (none-declared d) λ n extendees y.
-    on-leaf-some None (Some d) (leaf_at extendee_tag any_bytes s extendees e) _ L (none-declared d) λ x shapes z p.
-    rw (y, z) (declared-says k s shapes e (span n extendees) (span x shapes) d (shape_at s shapes e) refl p)
+    on-leaf-some None (Some d) (leaf_at name_tag any_bytes s a e) _ L (none-declared d) λ w y.
+    on-leaf-some None (Some d) (leaf_at extendee_tag any_bytes s w.to e) _ L (none-declared d) λ u z p.
+    rw (y, z) (declared-says k s u.to e w u d (shape_at s u.to e) refl p)
   where
     L : Type 0
     L = eqb d.shape.number k ≡ extension_says k s a e
@@ -92,8 +92,8 @@ field-number : (k : ℕ) (s : List ℕ) (a e : ℕ) (d : Declaration) → Some d
     → eqb d.shape.number k ≡ field_says k s a e
 unfolding message_field_at
 field-number k s a e d =
-    on-leaf-some None (Some d) (leaf_at name_tag any_bytes s a e) _ L (none-declared d) λ n shapes y p.
-    rw y (declared-says k s shapes e (span n shapes) (span 0 0) d (shape_at s shapes e) refl p)
+    on-leaf-some None (Some d) (leaf_at name_tag any_bytes s a e) _ L (none-declared d) λ q y p.
+    rw y (declared-says k s q.to e q (span 0 0) d (shape_at s q.to e) refl p)
   where
     L : Type 0
     L = eqb d.shape.number k ≡ field_says k s a e

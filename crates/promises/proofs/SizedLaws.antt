@@ -209,13 +209,13 @@ module _ (s : List ℕ) (bytes : Bytes s) where
   value-sized a e = go (leaf_at name_tag any_bytes s a e)
     where
       inner : (n numbers : ℕ) (l : Option Span)
-          → SizedValued (on_leaf None l λ k end. Some (record { name = span n numbers; number = big_at 4 s k }))
+          → SizedValued (on_leaf None l λ p. Some (record { name = span n numbers; number = big_at 4 s p.from }))
       inner n numbers None = tt
       inner n numbers (Some place) = big_lt s bytes 4 place.from
 
-      go : (l : Option Span) → SizedValued (on_leaf None l λ n numbers.
-          on_leaf None (last_at e (leaf_at signed_number_tag (of_size 4) s numbers e)) λ k end.
-          Some (record { name = span n numbers; number = big_at 4 s k }))
+      go : (l : Option Span) → SizedValued (on_leaf None l λ q.
+          on_leaf None (last_at e (leaf_at signed_number_tag (of_size 4) s q.to e)) λ u.
+          Some (record { name = span q.from q.to; number = big_at 4 s u.from }))
       go None = tt
       go (Some it) = inner it.from it.to (last_at e (leaf_at signed_number_tag (of_size 4) s it.to e))
 

@@ -5,8 +5,8 @@ use Rattle.basis.specs.Kit.{sym, ◌∙◌}
 use Rattle.basis.proofs.Kit.{arith}
 use borrow.Author.Tests.{ltb-true, ltb-false}
 use Rattle.basis.proofs.Never.{never}
-use Rattle.field.specs.Field.{field_at, field}
-use Rattle.field.specs.Leaf.{span, any_bytes, on_leaf, leaf_at}
+use Rattle.field.specs.Field.{field_at}
+use Rattle.field.specs.Leaf.{any_bytes, on_leaf, leaf_at}
 use Rattle.field.specs.Walk.{walk}
 use Rattle.field.proofs.FieldLaws.{Bounds, field-bounds}
 use Rattle.field.proofs.LeafLaws.{leaf-bounds, leaf_inside}
@@ -22,11 +22,11 @@ use Rattle.field.specs.declared.Field.{Field}
 use Rattle.field.specs.declared.Span.{Span}
 
 -- ---- the heading
-abbrev heading : ℕ → ℕ → ℕ → ℕ → Heading
-heading a b m e = record { scope = span a b; options_type = span m e; options = e }
+abbrev heading : (scope type : Span) → Heading
+heading p u = record { scope = p; options_type = u; options = u.to }
 
-abbrev heads : ℕ → ℕ → ℕ → ℕ → Option Heading
-heads a b m e = Some (heading a b m e)
+abbrev heads : (scope type : Span) → Option Heading
+heads p u = Some (heading p u)
 
 module _ (s : List ℕ) (l : Option Span) (q : l ≡ leaf_at scope_tag any_bytes s 0 (length s)) where
   pub heading-unscoped : l ≡ None → None ≡ heading_of s
@@ -34,14 +34,14 @@ module _ (s : List ℕ) (l : Option Span) (q : l ≡ leaf_at scope_tag any_bytes
   heading-unscoped g = rw (← q, g)
 
   module _ (p : Span) (g : l ≡ Some p) (l' : Option Span) (q' : l' ≡ leaf_at options_type_tag any_bytes s p.to (length s)) where
-    heading-open : heading_of s ≡ on_leaf None l' (heads p.from p.to)
+    heading-open : heading_of s ≡ on_leaf None l' (heads p)
     unfolding heading_of
     heading-open = rw (← q, g, ← q')
 
     pub heading-untyped : l' ≡ None → None ≡ heading_of s
     heading-untyped g' = rw (heading-open, g')
 
-    pub heading-is : (u : Span) → l' ≡ Some u → heads p.from p.to u.from u.to ≡ heading_of s
+    pub heading-is : (u : Span) → l' ≡ Some u → heads p u ≡ heading_of s
     heading-is u g' = rw (heading-open, g')
 
 pub ruleset heading_laws = (heading-unscoped, heading-untyped, heading-is, leaf_inside)
@@ -53,19 +53,19 @@ pub record HeadingPlaces (s : List ℕ) (h : Heading) : Type 0 where
   pub options : h.options ≡ h.options_type.to
 
 module _ (s : List ℕ) (h : Heading) where
-  typed : (a b : ℕ) → Bounds 0 (length s) a b → (l : Option Span) → l ≡ leaf_at options_type_tag any_bytes s b (length s)
-      → Some h ≡ on_leaf None l (heads a b) → HeadingPlaces s h
-  typed a b k None q g = never cc
-  typed a b k (Some place) q g =
-      let x : h ≡ heading a b place.from place.to = cc in
-      rw x (record { scope = k; options_type = leaf-bounds options_type_tag any_bytes s b (length s) (Some (span place.from place.to)) q place refl; options = refl })
+  typed : (p : Span) → Bounds 0 (length s) p.from p.to → (l : Option Span) → l ≡ leaf_at options_type_tag any_bytes s p.to (length s)
+      → Some h ≡ on_leaf None l (heads p) → HeadingPlaces s h
+  typed p k None q g = never cc
+  typed p k (Some u) q g =
+      let x : h ≡ heading p u = cc in
+      rw x (record { scope = k; options_type = leaf-bounds options_type_tag any_bytes s p.to (length s) (Some u) q u refl; options = refl })
 
   scoped : (l : Option Span) → l ≡ leaf_at scope_tag any_bytes s 0 (length s)
-      → Some h ≡ on_leaf None l (λ a b. on_leaf None (leaf_at options_type_tag any_bytes s b (length s)) (heads a b))
+      → Some h ≡ on_leaf None l (λ p. on_leaf None (leaf_at options_type_tag any_bytes s p.to (length s)) (heads p))
       → HeadingPlaces s h
   scoped None q g = never cc
   scoped (Some it) q g =
-      typed it.from it.to (leaf-bounds scope_tag any_bytes s 0 (length s) (Some (span it.from it.to)) q it refl) (leaf_at options_type_tag any_bytes s it.to (length s)) refl g
+      typed it (leaf-bounds scope_tag any_bytes s 0 (length s) (Some it) q it refl) (leaf_at options_type_tag any_bytes s it.to (length s)) refl g
 
 module _ (s : List ℕ) (r : Option Heading) (q : r ≡ heading_of s) (h : Heading) (g : r ≡ Some h) where
   pub heading-places : HeadingPlaces s h

@@ -36,9 +36,9 @@ pub record Request : Type 0 where
 -- "18 scope, 19 options type path, then 08 options" [FORM-2]
 unfoldable pub heading_of : List ℕ → Option Heading
 heading_of s =
-    on_leaf None (leaf_at scope_tag any_bytes s 0 (length s)) λ a types.
-    on_leaf None (leaf_at options_type_tag any_bytes s types (length s)) λ m options.
-    Some (record { scope = span a types; options_type = span m options; options = options })
+    on_leaf None (leaf_at scope_tag any_bytes s 0 (length s)) λ scope.
+    on_leaf None (leaf_at options_type_tag any_bytes s scope.to (length s)) λ type.
+    Some (record { scope = scope; options_type = type; options = type.to })
 
 -- "one or more of 1A direct part, 1B extension part; one constant" [FORM-2]
 abbrev pub constant_of_field : (s : List ℕ) → Option Field → Constants

@@ -18,7 +18,7 @@ pub struct Heading {
 }
 
 // The scope and the options type of a request.
-#[tactic(auto, using(crate::proofs::RequestLaws::heading_laws))]
+#[tactic(auto, using(crate::proofs::RequestLaws::heading_laws), unfolding(crate::specs::Request::heading_of))]
 pub fn heading_of(s: &[u8]) -> Option<Heading>
     ensures { result ≡ heading_of s.now }
 {
@@ -40,7 +40,9 @@ pub fn after_parts(s: &[u8], from: usize, to: usize) -> usize
 {
     let mut at = from;
     while at < to {
-        let Some(p) = part_at(s, at, to) else { return at; };
+        let Some(p) = part_at(s, at, to) else {
+            return at;
+        };
         at = p.name.to;
     }
     at

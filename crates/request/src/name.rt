@@ -22,13 +22,19 @@ pub fn part_at(s: &[u8], at: usize, end: usize) -> Option<Part>
     if field.tag == table::DIRECT_PART {
         return Some(Part {
             extension: false,
-            name: Span { from: field.from, to: field.to },
+            name: Span {
+                from: field.from,
+                to: field.to,
+            },
         });
     }
     if field.tag == table::EXTENSION_PART {
         return Some(Part {
             extension: true,
-            name: Span { from: field.from, to: field.to },
+            name: Span {
+                from: field.from,
+                to: field.to,
+            },
         });
     }
     None

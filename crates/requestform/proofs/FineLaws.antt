@@ -79,24 +79,24 @@ record FineRequest (s : List ℕ) : Type 0 where
 
 module _ (s : List ℕ) where
   typed-fine : (u : Span) → leaf_at scope_tag is_rel_or_empty s 0 (length s) ≡ Some u
-      → on_leaf bad_request (leaf_at options_type_tag is_rel_path s u.to (length s)) (λ m options. judge_options s options (length s)) ≡ fine
+      → on_leaf bad_request (leaf_at options_type_tag is_rel_path s u.to (length s)) (λ p. judge_options s p.to (length s)) ≡ fine
       → FineRequest s
   unfolding judge_options
   typed-fine u l p =
       on-leaf-some bad_request fine (leaf_at options_type_tag is_rel_path s u.to (length s)) (λ m options. judge_options s options (length s))
       (FineRequest s)
       (λ q. refused-fine BadRequest (sym q))
-      (λ m options k q. record {
-        heading = record { scope = u; options_type = span m options; options = options };
+      (λ w k q. record {
+        heading = record { scope = u; options_type = span w.from w.to; w.to = w.to };
         heads =
             sym (heading-is s (leaf_at scope_tag any_bytes s 0 (length s)) refl u.from u.to
             (leaf-untested scope_tag is_rel_or_empty s 0 (length s) u.from u.to l)
-            (leaf_at options_type_tag any_bytes s u.to (length s)) refl m options
-            (leaf-untested options_type_tag is_rel_path s u.to (length s) m options k));
+            (leaf_at options_type_tag any_bytes s u.to (length s)) refl w.from w.to
+            (leaf-untested options_type_tag is_rel_path s u.to (length s) w.from w.to k));
         scope = leaf-tested scope_tag is_rel_or_empty s 0 (length s) u.from u.to l;
-        options_type = leaf-tested options_type_tag is_rel_path s u.to (length s) m options k;
+        options_type = leaf-tested options_type_tag is_rel_path s u.to (length s) w.from w.to k;
         fine = sym q;
-        options = options-fine s 0 (walk s options (length s)) (walk-within s (length s) (omega arith) options) (sym q);
+        w.to = options-fine s 0 (walk s w.to (length s)) (walk-within s (length s) (omega arith) w.to) (sym q);
       })
       (sym p)
 
@@ -106,7 +106,7 @@ module _ (s : List ℕ) where
     where
       typed : ℕ → ℕ → Verdict
       typed a types =
-          on_leaf bad_request (leaf_at options_type_tag is_rel_path s types (length s)) (λ m options. judge_options s options (length s))
+          on_leaf bad_request (leaf_at options_type_tag is_rel_path s types (length s)) (λ l. judge_options s l.to (length s))
 
       go : (b : Bool) → elim b [ true ↦ beyond | false ↦ on_leaf bad_request (leaf_at scope_tag is_rel_or_empty s 0 (length s)) typed ] ≡ fine
           → FineRequest s
@@ -114,7 +114,7 @@ module _ (s : List ℕ) where
       go false p =
           on-leaf-some bad_request fine (leaf_at scope_tag is_rel_or_empty s 0 (length s)) typed (FineRequest s)
           (λ q. refused-fine BadRequest (sym q))
-          (λ a types l q. typed-fine a types l (sym q))
+          (λ u l q. typed-fine u.from u.to l (sym q))
           (sym p)
 
 -- a heading r, fine options after it, and an option of the tree for every field there

@@ -31,9 +31,9 @@ unfoldable pub judge_request : (s : List ℕ) → Verdict
 judge_request s = elim (ltb most_request (length s)) [
   | true ↦ beyond
   | false ↦
-      on_leaf bad_request (leaf_at scope_tag is_rel_or_empty s 0 (length s)) λ a types.
-      on_leaf bad_request (leaf_at options_type_tag is_rel_path s types (length s)) λ m options.
-      judge_options s options (length s)
+      on_leaf bad_request (leaf_at scope_tag is_rel_or_empty s 0 (length s)) λ scope.
+      on_leaf bad_request (leaf_at options_type_tag is_rel_path s scope.to (length s)) λ type.
+      judge_options s type.to (length s)
 ]
 
 -- "Value query: .. a name as in 08" [FORM-14]

@@ -91,9 +91,9 @@ module _ (s : List ℕ) (a e : ℕ) (d : Declaration) where
   extension-starts : Some d ≡ extension_at s a e → d.name.from ≡ a + header
   unfolding extension_at
   extension-starts =
-      on-leaf-some None (Some d) (leaf_at name_tag any_bytes s a e) _ (d.name.from ≡ a + header) none-declared λ n m p.
-      on-leaf-some None (Some d) (leaf_at extendee_tag any_bytes s m e) _ (d.name.from ≡ a + header) none-declared λ x y _.
-      shape-ahead n m x y p (shape_at s y e)
+      on-leaf-some None (Some d) (leaf_at name_tag any_bytes s a e) _ (d.name.from ≡ a + header) none-declared λ w p.
+      on-leaf-some None (Some d) (leaf_at extendee_tag any_bytes s w.to e) _ (d.name.from ≡ a + header) none-declared λ q _.
+      shape-ahead w.from w.to q.from q.to p (shape_at s q.to e)
 
   pub extension-ahead : (x : Option Declaration) → x ≡ extension_at s a e → x ≡ Some d → (at : ℕ) → at ≤ a → at < d.name.from
   extension-ahead x q g at h = omega (arith, extension-starts (sym g ∙ q))

@@ -52,7 +52,7 @@ module _ (k : ℕ) (n s : List ℕ) (t a e : ℕ) (P : Option Span → Type 0)
     (other : (t ≡ k → ⊥) → P None)
     (unnamed : t ≡ k → leaf_at name_tag any_bytes s a e ≡ None → P None)
     (different : t ≡ k → (u : Span) → leaf_at name_tag any_bytes s a e ≡ Some u → is_text s n u ≡ false → P None)
-    (same : t ≡ k → (u.from u.to : ℕ) → leaf_at name_tag any_bytes s a e ≡ Some u → is_text s n u ≡ true → P (Some (span u.to e))) where
+    (same : t ≡ k → (u : Span) → leaf_at name_tag any_bytes s a e ≡ Some u → is_text s n u ≡ true → P (Some (span u.to e))) where
   name-cases : t ≡ k → (l : Option Span) → leaf_at name_tag any_bytes s a e ≡ l → P (body_at k n s t a e)
   name-cases h None q =
       rw (← body-unnamed k n s t a e h None (leaf-none name_tag (same_bytes n) s a e None (sym q) refl) refl) (unnamed h q)
@@ -99,8 +99,8 @@ module _ (d : ℕ) (s n : List ℕ) {A : Type 0} (k : ℕ) (all : Items → List
       (λ l. amongst (all (item_in (message_in d s) s t a e rest)) ≡ first_of tells_leaf l (amongst (all rest)))
       (λ o. rw (other t a e rest o))
       (λ h q. rw (unnamed t a e rest q))
-      (λ h p.from p.to q w. rw (named t a e rest h p.from p.to q, name_is p.from p.to e, w))
-      (λ h p.from p.to q w. rw (named t a e rest h p.from p.to q, name_is p.from p.to e, w, body_is p.from p.to e))
+      (λ h p q w. rw (named t a e rest h p.from p.to q, name_is p.from p.to e, w))
+      (λ h p q w. rw (named t a e rest h p.from p.to q, name_is p.from p.to e, w, body_is p.from p.to e))
 
   first-named : (w : Walk) → amongst (all (items_in d s w)) ≡ body_named k n s w
   unfolding items_in
@@ -138,12 +138,12 @@ module _ (s n : List ℕ) (p : LookupScope) where
   down-beyond z = rw (message-none p.left s n z (walk s p.body.from p.body.to))
 
   module _ (z : p.left ≡ 0 → ⊥) (l : Option Span) (q : l ≡ body_named message_tag n s (walk s p.body.from p.body.to)) where
-    down_is : placed (down s n (holding s p)) ≡ on_leaf None l λ a e. Some (inner p a e)
+    down_is : placed (down s n (holding s p)) ≡ on_leaf None l λ u. Some (inner p u.from u.to)
     down_is =
         rw (q, ← message-named p.left s n z (walk s p.body.from p.body.to)) (go (message_among s n (holding s p).items))
       where
         go : (o : Option Message)
-            → placed (given o λ m. Some (message_scope (holding s p) m)) ≡ on_leaf None (body_of o) λ a e. Some (inner p a e)
+            → placed (given o λ m. Some (message_scope (holding s p) m)) ≡ on_leaf None (body_of o) λ w. Some (inner p w.from w.to)
         go option.none = refl
         go (Some m) = refl
 

@@ -28,7 +28,7 @@ p1-tree =
     record {
       package_name = span 6 7;
       body = span 7 35;
-      items = extension (record { name = span 13 14; extendee = span 17 20; shape = shape 5 13 1 0 0 }) none;
+      items = extension (record { name = span 13 14; extendee = span 17 20; shape = shape 5 13 1 (span 0 0) }) none;
     }
     ∷ record { package_name = span 41 42; body = span 42 49; items = message (span 48 49) (span 49 49) none none }
     ∷ []
@@ -56,7 +56,7 @@ inside =
 abbrev inside-items : Items
 inside-items =
     message (span 19 20) (span 20 20) none
-    (field (record { name = span 26 27; extendee = span 0 0; shape = shape 1 13 1 0 0 })
+    (field (record { name = span 26 27; extendee = span 0 0; shape = shape 1 13 1 (span 0 0) })
     (enumeration (span 48 49) (span 49 77)
     (record { name = span 55 56; number = 0 } ∷ record { name = span 69 70; number = 0xFFFFFFFF } ∷ []) none))
 

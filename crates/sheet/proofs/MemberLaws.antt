@@ -22,6 +22,7 @@ use Rattle.sheet.specs.Members.{messages_of, extensions_of, enums_of, fields_of,
 use Rattle.sheet.proofs.TreeLaws.{item-message, item-extension, item-enum, item-field, enum-named, message-named}
 use Rattle.field.specs.declared.Span.{Span}
 
+
 -- ---- the cases of one field, for whatever is said of what it puts in front of the rest
 module _ (Q : (Items → Items) → Type 0) (s : List ℕ) (a e : ℕ) (nothing : Q (λ r. r)) where
   message-cases : (d : ℕ)
@@ -36,18 +37,18 @@ module _ (Q : (Items → Items) → Type 0) (s : List ℕ) (a e : ℕ) (nothing 
       positive h = omega arith
 
       go : (l : Option Span) → leaf_at name_tag any_bytes s a e ≡ l
-          → Q (λ r. on_leaf r l λ q.from q.to. message q (span q.to e) (items_with (message_in d s) s (walk s q.to e)) r)
+          → Q (λ r. on_leaf r l λ q. message q (span q.to e) (items_with (message_in d s) s (walk s q.to e)) r)
       go None p = nothing
-      go (Some place) p = let z : suc d - 1 ≡ d = omega arith in rw z at (k positive place.from place.to p)
+      go (Some place) p = let z : suc d - 1 ≡ d = omega arith in rw z at (k positive place p)
 
   enum-cases : ((q : Span) → leaf_at name_tag any_bytes s a e ≡ Some q → Q (enumeration q (span q.to e) (values_in s (walk s q.to e))))
       → Q (enum_in s a e)
   enum-cases k = go (leaf_at name_tag any_bytes s a e) refl
     where
       go : (l : Option Span) → leaf_at name_tag any_bytes s a e ≡ l
-          → Q (λ r. on_leaf r l λ q.from q.to. enumeration q (span q.to e) (values_in s (walk s q.to e)) r)
+          → Q (λ r. on_leaf r l λ q. enumeration q (span q.to e) (values_in s (walk s q.to e)) r)
       go None p = nothing
-      go (Some it) p = k it.from it.to p
+      go (Some it) p = k it p
 
   extension-cases : (x : Option Declaration) → ((y : Declaration) → x ≡ Some y → Q (extension y)) → Q (extension_in x)
   extension-cases None k = nothing
@@ -61,7 +62,7 @@ module _ (Q : (Items → Items) → Type 0) (s : List ℕ) (a e : ℕ) (nothing 
       → (t ≡ message_tag → (d ≡ 0 → ⊥) → (q : Span) → leaf_at name_tag any_bytes s a e ≡ Some q
       → Q (message q (span q.to e) (items_in (d - 1) s (walk s q.to e))))
       → (t ≡ extension_tag → (x : Declaration) → extension_at s a e ≡ Some x → Q (extension x))
-      → (t ≡ enum_tag → (q.from q.to : ℕ) → leaf_at name_tag any_bytes s a e ≡ Some q
+      → (t ≡ enum_tag → (q : Span) → leaf_at name_tag any_bytes s a e ≡ Some q
       → Q (enumeration q (span q.to e) (values_in s (walk s q.to e))))
       → (t ≡ field_tag → (x : Declaration) → message_field_at s a e ≡ Some x → Q (field x))
       → Q (item_in (message_in d s) s t a e)
@@ -93,7 +94,7 @@ module _ (d : ℕ) (s : List ℕ) (t a e : ℕ) (rest : Items) where
       → messages_of (item_in (message_in d s) s t a e rest) ≡ messages_of rest
   no-message k =
       item-cases (λ f. messages_of (f rest) ≡ messages_of rest) s a e refl d t
-      (λ h z q.from q.to p. absurd (k h z q.from q.to p)) (λ _ x _. refl) (λ _ q.from q.to _. refl) (λ _ x _. refl)
+      (λ h z q p. absurd (k h z q p)) (λ _ x _. refl) (λ _ q _. refl) (λ _ x _. refl)
 
   pub messages-other : (t ≡ message_tag → ⊥) → messages_of (item_in (message_in d s) s t a e rest) ≡ messages_of rest
   messages-other o = no-message λ h _ _ _ _. o h
@@ -109,7 +110,7 @@ module _ (d : ℕ) (s : List ℕ) (t a e : ℕ) (rest : Items) where
         → messages_of (item_in (message_in d s) s t a e rest)
         ≡ record { name = p; body = span p.to e; inside = items_in (d - 1) s (walk s p.to e) } ∷ messages_of rest
     messages-named h z p g =
-        ap messages_of (item-message (message_in d s) s t a e rest h ∙ message-named d s a e rest z r q p.from p.to g)
+        ap messages_of (item-message (message_in d s) s t a e rest h ∙ message-named d s a e rest z r q p g)
 
 -- ---- enums
 module _ (d : ℕ) (s : List ℕ) (t a e : ℕ) (rest : Items) where
@@ -117,7 +118,7 @@ module _ (d : ℕ) (s : List ℕ) (t a e : ℕ) (rest : Items) where
       → enums_of (item_in (message_in d s) s t a e rest) ≡ enums_of rest
   no-enum k =
       item-cases (λ f. enums_of (f rest) ≡ enums_of rest) s a e refl d t
-      (λ _ _ q.from q.to _. refl) (λ _ x _. refl) (λ h q.from q.to p. absurd (k h q.from q.to p)) (λ _ x _. refl)
+      (λ _ _ q _. refl) (λ _ x _. refl) (λ h q p. absurd (k h q p)) (λ _ x _. refl)
 
   pub enums-other : (t ≡ enum_tag → ⊥) → enums_of (item_in (message_in d s) s t a e rest) ≡ enums_of rest
   enums-other o = no-enum λ h _ _ _. o h
@@ -129,7 +130,7 @@ module _ (d : ℕ) (s : List ℕ) (t a e : ℕ) (rest : Items) where
     pub enums-named : t ≡ enum_tag → (p : Span) → r ≡ Some p
         → enums_of (item_in (message_in d s) s t a e rest)
         ≡ record { name = p; body = span p.to e; values = values_in s (walk s p.to e) } ∷ enums_of rest
-    enums-named h p g = ap enums_of (item-enum (message_in d s) s t a e rest h ∙ enum-named s a e rest r q p.from p.to g)
+    enums-named h p g = ap enums_of (item-enum (message_in d s) s t a e rest h ∙ enum-named s a e rest r q p g)
 
 -- ---- extensions and fields: what a field of their tag declares is put in front of the rest
 abbrev pub listed : Option Declaration → List Declaration
@@ -192,11 +193,11 @@ file-cases Q s t a e nothing one = go (eqb t file_tag) (leaf_at package_tag any_
   where
     go : (b : Bool) (l : Option Span) → leaf_at package_tag any_bytes s a e ≡ l
         → Q (λ r. elim b [
-          | true ↦ on_leaf r l λ q.from q.to. file_with q (span q.to e) (items_in most_messages s (walk s q.to e)) ∷ r
+          | true ↦ on_leaf r l λ q. file_with q (span q.to e) (items_in most_messages s (walk s q.to e)) ∷ r
           | false ↦ r
         ])
     go true None p = nothing
-    go true (Some it1) p = one it1.from it1.to p
+    go true (Some it1) p = one it1 p
     go false l p = nothing
 
 pub every-extension-file : (s : List ℕ) (t a e : ℕ) (rest : List File)

@@ -40,25 +40,25 @@ none-declared d p = never cc
 pub extension-places : (s : List ℕ) (a e : ℕ) (d : Declaration) → Some d ≡ extension_at s a e → Places e d
 unfolding extension_at
 extension-places s a e d =
-    on-leaf-some None (Some d) (leaf_at name_tag any_bytes s a e) _ (Places e d) (none-declared d) λ n extendees y.
-    on-leaf-some None (Some d) (leaf_at extendee_tag any_bytes s extendees e) _ (Places e d) (none-declared d) λ x shapes z.
-    declared-places s shapes e (span n extendees) (span x shapes) d (name-lies name_tag s a e n extendees y)
-    (name-lies extendee_tag s extendees e x shapes z) (shape_at s shapes e) refl
+    on-leaf-some None (Some d) (leaf_at name_tag any_bytes s a e) _ (Places e d) (none-declared d) λ w y.
+    on-leaf-some None (Some d) (leaf_at extendee_tag any_bytes s w.to e) _ (Places e d) (none-declared d) λ u z.
+    declared-places s u.to e w u d (name-lies name_tag s a e w y)
+    (name-lies extendee_tag s w.to e u z) (shape_at s u.to e) refl
 
 pub field-places : (s : List ℕ) (a e : ℕ) (d : Declaration) → Some d ≡ message_field_at s a e → Places e d
 unfolding message_field_at
 field-places s a e d =
-    on-leaf-some None (Some d) (leaf_at name_tag any_bytes s a e) _ (Places e d) (none-declared d) λ n shapes y.
-    declared-places s shapes e (span n shapes) (span 0 0) d (name-lies name_tag s a e n shapes y)
-    (record { ordered = omega arith; inside = omega arith }) (shape_at s shapes e) refl
+    on-leaf-some None (Some d) (leaf_at name_tag any_bytes s a e) _ (Places e d) (none-declared d) λ p y.
+    declared-places s p.to e p (span 0 0) d (name-lies name_tag s a e p y)
+    (record { ordered = omega arith; inside = omega arith }) (shape_at s p.to e) refl
 
 value-name-lies : (s : List ℕ) (a e : ℕ) (v : Value) → Some v ≡ value_at s a e → Placed e v.name.from v.name.to
 unfolding value_at
 value-name-lies s a e v =
-    on-leaf-some None (Some v) (leaf_at name_tag any_bytes s a e) _ L none λ n numbers y.
-    on-leaf-some None (Some v) (last_at e (leaf_at signed_number_tag (of_size 4) s numbers e)) _ L none λ k end z p.
-    let u : v ≡ record { name = span n numbers; number = big_at 4 s k } = cc in
-    rw u (name-lies name_tag s a e n numbers y)
+    on-leaf-some None (Some v) (leaf_at name_tag any_bytes s a e) _ L none λ q y.
+    on-leaf-some None (Some v) (last_at e (leaf_at signed_number_tag (of_size 4) s q.to e)) _ L none λ w z p.
+    let u : v ≡ record { name = q; number = big_at 4 s w.from } = cc in
+    rw u (name-lies name_tag s a e q y)
   where
     L : Type 0
     L = Placed e v.name.from v.name.to

@@ -15,9 +15,9 @@ use Rattle.sheet.specs.Declaration.{has_type_path, last_at, type_path_at, shape,
 use Rattle.field.specs.declared.Span.{Span}
 
 -- ---- has_type_path
-pub has_type_path : (t : ℕ) → (eqb t TYPE_GROUP || eqb t TYPE_MESSAGE || eqb t TYPE_ENUM) ≡ has_type_path t
+pub has_type_path_is : (t : ℕ) → (eqb t TYPE_GROUP || eqb t TYPE_MESSAGE || eqb t TYPE_ENUM) ≡ has_type_path t
 unfolding has_type_path
-has_type_path t = refl
+has_type_path_is t = refl
 
 -- ---- type_path_at
 module _ (t : ℕ) (s : List ℕ) (at end : ℕ) (b : Bool) (x : b ≡ has_type_path t) where
@@ -68,7 +68,7 @@ module _ (s : List ℕ) (at end : ℕ) (r : Option Span) (q : r ≡ leaf_at numb
         shape-no-path x = rw (← q, g, ← q', g', ← q'', g'', ← y, ← z, x)
 
         pub shape-whole : (l : Span) → p ≡ Some l → (number : ℕ) → number ≡ big_at 4 s w.from → (label : ℕ) → label ≡ get_or s it2.from 0
-            → Some (shape number typ label l.from l.to) ≡ shape_at s at end
+            → Some (shape number typ label l) ≡ shape_at s at end
         unfolding shape_at
         shape-whole l x number u label v = rw (← q, g, ← q', g', ← q'', g'', ← y, ← z, x, ← u, ← v)
 
@@ -94,19 +94,19 @@ type-path-lies t s at end w p = go (has_type_path t) (eqb at end) (leaf_at type_
     go false false l q p = never cc
     go false true l q p =
         let u : w ≡ span 0 0 = cc in
-        record { ordered = omega arith; inside = omega arith }
+        rw u (record { ordered = omega arith; inside = omega arith })
     go true b' None q p = never cc
-    go true b' (Some place) q p = last place.from place.to q (eqb place.to end) p
+    go true b' (Some place) q p = last place q (eqb place.to end) p
 
 pub shape-lies : (s : List ℕ) (at end : ℕ) (h : Shape) → Some h ≡ shape_at s at end → Placed end h.path.from h.path.to
 unfolding shape_at
 shape-lies s at end h =
-    on-leaf-some None (Some h) (leaf_at number_tag (of_size 4) s at end) _ L none λ n types _.
-    on-leaf-some None (Some h) (leaf_at type_tag (of_size 1) s types end) _ L none λ t labels _.
-    on-leaf-some None (Some h) (leaf_at label_tag (of_size 1) s labels end) _ L none λ l paths _.
-    on-leaf-some None (Some h) (type_path_at (get_or s t 0) s paths end) _ L none λ a e x p.
-    let u : h ≡ shape (big_at 4 s n) (get_or s t 0) (get_or s l 0) a e = cc in
-    rw u (type-path-lies (get_or s t 0) s paths end a e (sym x))
+    on-leaf-some None (Some h) (leaf_at number_tag (of_size 4) s at end) _ L none λ z _.
+    on-leaf-some None (Some h) (leaf_at type_tag (of_size 1) s z.to end) _ L none λ w _.
+    on-leaf-some None (Some h) (leaf_at label_tag (of_size 1) s w.to end) _ L none λ l _.
+    on-leaf-some None (Some h) (type_path_at (get_or s w.from 0) s l.to end) _ L none λ y x p.
+    let u : h ≡ shape (big_at 4 s z.from) (get_or s w.from 0) (get_or s l.from 0) y = cc in
+    rw u (type-path-lies (get_or s w.from 0) s l.to end y (sym x))
   where
     L : Type 0
     L = Placed end h.path.from h.path.to

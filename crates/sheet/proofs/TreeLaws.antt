@@ -5,7 +5,7 @@ use Rattle.std.specs.Prelude.{◌≡◌, refl, List, [], ◌∷◌, ℕ, zero, s
 use Rattle.basis.specs.Kit.{ap}
 use Rattle.basis.proofs.Kit.{arith, ne_eqb}
 use Rattle.limits.specs.Figures.{most_messages}
-use Rattle.field.specs.Field.{field_at, field}
+use Rattle.field.specs.Field.{field_at}
 use Rattle.field.specs.Leaf.{span, any_bytes, leaf_at}
 use Rattle.field.specs.Walk.{walk}
 use Rattle.field.proofs.WalkLaws.{walk-done, walk-cut, walk_step}
@@ -28,7 +28,7 @@ module _ (s : List ℕ) (i to : ℕ) where
     values-cut g = ap (values_in s) (walk-cut s i to h r q g)
 
     pub values-step : (f : Field) → r ≡ Some f → values_in s (walk s i to) ≡ value_in s f.tag f.from f.to (values_in s (walk s f.to to))
-    values-step f g = ap (values_in s) (walk_step s i to h r q f.tag f.from f.to g)
+    values-step f g = ap (values_in s) (walk_step s i to h r q f g)
 
 module _ (s : List ℕ) (t a e : ℕ) (rest : List Value) where
   pub value-other : (t ≡ value_tag → ⊥) → value_in s t a e rest ≡ rest
@@ -58,7 +58,7 @@ module _ (d : ℕ) (s : List ℕ) (i to : ℕ) where
     pub items-step : (f : Field) → r ≡ Some f
         → items_in d s (walk s i to) ≡ item_in (message_in d s) s f.tag f.from f.to (items_in d s (walk s f.to to))
     unfolding items_in
-    items-step f g = ap (items_in d s) (walk_step s i to h r q f.tag f.from f.to g)
+    items-step f g = ap (items_in d s) (walk_step s i to h r q f g)
 
 module _ (inner : ℕ → ℕ → Items → Items) (s : List ℕ) (t a e : ℕ) (rest : Items) where
   pub item-message : t ≡ message_tag → item_in inner s t a e rest ≡ inner a e rest
@@ -113,7 +113,7 @@ pub message-named : (d : ℕ) (s : List ℕ) (a e : ℕ) (rest : Items) → (d �
     → message_in d s a e rest ≡ message u (span u.to e) (items_in (d - 1) s (walk s u.to e)) rest
 unfolding items_in
 message-named zero s a e rest z r q u g = absurd (z refl)
-message-named (suc d) s a e rest z r q u.from u.to g = let p : suc d - 1 ≡ d = omega arith in rw (p, ← q, g)
+message-named (suc d) s a e rest z r q u g = let p : suc d - 1 ≡ d = omega arith in rw (p, ← q, g)
 
 -- ---- the files of a sheet
 pub tree-files : (s : List ℕ) → tree_of s ≡ files_in s (walk s 0 (length s))
@@ -129,7 +129,7 @@ module _ (s : List ℕ) (i to : ℕ) where
     files-cut g = ap (files_in s) (walk-cut s i to h r q g)
 
     pub files-step : (f : Field) → r ≡ Some f → files_in s (walk s i to) ≡ file_in s f.tag f.from f.to (files_in s (walk s f.to to))
-    files-step f g = ap (files_in s) (walk_step s i to h r q f.tag f.from f.to g)
+    files-step f g = ap (files_in s) (walk_step s i to h r q f g)
 
 module _ (s : List ℕ) (t a e : ℕ) (rest : List File) where
   pub file-other : (t ≡ file_tag → ⊥) → file_in s t a e rest ≡ rest

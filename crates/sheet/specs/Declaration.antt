@@ -4,7 +4,7 @@
 --          has_type_path t <=> the type t is a group, a message or an enum
 --             last_at e l ==  the leaf l where it ends at e
 --    type_path_at t s at e ==  the type path where the type t has one, and nothing after it
---    shape number .. a e ==  a shape, its type path from a to e
+--      shape number .. p ==  a shape of the type path p
 --         shape_at s at e ==  number, type, label and type path, from the place `at` up to the end e
 --         declared_with n x h ==  the declaration of the name n, the extendee x and the shape h, where there is one
 --      extension_at s a e ==  the extension whose payload is from a to e
@@ -29,7 +29,7 @@ has_type_path t = eqb t TYPE_GROUP || eqb t TYPE_MESSAGE || eqb t TYPE_ENUM
 
 abbrev pub last_at : ℕ → Option Span → Option Span
 last_at end None = None
-last_at end (Some p) = only_if (eqb p.to end) (Some (span p.from p.to)) None
+last_at end (Some p) = only_if (eqb p.to end) (Some p) None
 
 unfoldable pub type_path_at : (typ : ℕ) (s : List ℕ) (at end : ℕ) → Option Span
 type_path_at t s at end = elim (has_type_path t) [
@@ -37,17 +37,17 @@ type_path_at t s at end = elim (has_type_path t) [
   | false ↦ only_if (eqb at end) (Some (span 0 0)) None
 ]
 
-abbrev pub shape : (number typ label from to : ℕ) → Shape
-shape number typ label a e = record { number = number; typ = typ; label = label; path = span a e }
+abbrev pub shape : (number typ label : ℕ) (path : Span) → Shape
+shape number typ label p = record { number = number; typ = typ; label = label; path = p }
 
 -- "13 number (4 bytes), 14 type, 15 label, 16 type path"; types and labels are one byte [FORM-2, FORM-3]
 unfoldable pub shape_at : (s : List ℕ) (at end : ℕ) → Option Shape
 shape_at s at end =
-    on_leaf None (leaf_at number_tag (of_size 4) s at end) λ n types.
-    on_leaf None (leaf_at type_tag (of_size 1) s types end) λ t labels.
-    on_leaf None (leaf_at label_tag (of_size 1) s labels end) λ l paths.
-    on_leaf None (type_path_at (get_or s t 0) s paths end) λ a e.
-    Some (shape (big_at 4 s n) (get_or s t 0) (get_or s l 0) a e)
+    on_leaf None (leaf_at number_tag (of_size 4) s at end) λ number.
+    on_leaf None (leaf_at type_tag (of_size 1) s number.to end) λ typ.
+    on_leaf None (leaf_at label_tag (of_size 1) s typ.to end) λ label.
+    on_leaf None (type_path_at (get_or s typ.from 0) s label.to end) λ path.
+    Some (shape (big_at 4 s number.from) (get_or s typ.from 0) (get_or s label.from 0) path)
 
 abbrev pub declared_with : (name extendee : Span) → Option Shape → Option Declaration
 declared_with name extendee None = None
@@ -56,19 +56,19 @@ declared_with name extendee (Some h) = Some (record { name = name; extendee = ex
 -- tag 03: "11, 12 extendee path, 13 number ..": name and extendee, then the shape [FORM-2]
 unfoldable pub extension_at : (s : List ℕ) (from to : ℕ) → Option Declaration
 extension_at s a e =
-    on_leaf None (leaf_at name_tag any_bytes s a e) λ n extendees.
-    on_leaf None (leaf_at extendee_tag any_bytes s extendees e) λ x shapes.
-    declared_with (span n extendees) (span x shapes) (shape_at s shapes e)
+    on_leaf None (leaf_at name_tag any_bytes s a e) λ name.
+    on_leaf None (leaf_at extendee_tag any_bytes s name.to e) λ extendee.
+    declared_with name extendee (shape_at s extendee.to e)
 
 -- tag 05: "as 03 without 12" [FORM-2]
 unfoldable pub message_field_at : (s : List ℕ) (from to : ℕ) → Option Declaration
 message_field_at s a e =
-    on_leaf None (leaf_at name_tag any_bytes s a e) λ n shapes.
-    declared_with (span n shapes) (span 0 0) (shape_at s shapes e)
+    on_leaf None (leaf_at name_tag any_bytes s a e) λ name.
+    declared_with name (span 0 0) (shape_at s name.to e)
 
 -- tag 06: "11, 17 signed number (4 bytes)" [FORM-2]
 unfoldable pub value_at : (s : List ℕ) (from to : ℕ) → Option Value
 value_at s a e =
-    on_leaf None (leaf_at name_tag any_bytes s a e) λ n numbers.
-    on_leaf None (last_at e (leaf_at signed_number_tag (of_size 4) s numbers e)) λ k end.
-    Some (record { name = span n numbers; number = big_at 4 s k })
+    on_leaf None (leaf_at name_tag any_bytes s a e) λ name.
+    on_leaf None (last_at e (leaf_at signed_number_tag (of_size 4) s name.to e)) λ number.
+    Some (record { name = name; number = big_at 4 s number.from })

@@ -58,7 +58,7 @@ values_in s (step t a e w) = value_in s t a e (values_in s w)
 
 -- tag 04: "11, then 06 values" [FORM-2, READ-3]
 abbrev pub enum_in : (s : List ℕ) (from to : ℕ) (rest : Items) → Items
-enum_in s a e rest = on_leaf rest (leaf_at name_tag any_bytes s a e) λ n m. enumeration (span n m) (span m e) (values_in s (walk s m e)) rest
+enum_in s a e rest = on_leaf rest (leaf_at name_tag any_bytes s a e) λ name. enumeration name (span name.to e) (values_in s (walk s name.to e)) rest
 
 abbrev pub extension_in : Option Declaration → Items → Items
 extension_in None rest = rest
@@ -90,7 +90,7 @@ items_with inner s (step t a e w) = item_in inner s t a e (items_with inner s w)
 abbrev pub message_in : (left : ℕ) (s : List ℕ) (from to : ℕ) (rest : Items) → Items
 message_in zero s a e rest = rest
 message_in (suc d) s a e rest =
-    on_leaf rest (leaf_at name_tag any_bytes s a e) λ n m. message (span n m) (span m e) (items_with (message_in d s) s (walk s m e)) rest
+    on_leaf rest (leaf_at name_tag any_bytes s a e) λ name. message name (span name.to e) (items_with (message_in d s) s (walk s name.to e)) rest
 
 unfoldable pub items_in : (left : ℕ) (s : List ℕ) → Walk → Items
 items_in d s w = items_with (message_in d s) s w
@@ -101,7 +101,7 @@ file_with p b i = record { package_name = p; body = b; items = i }
 -- tag 01: "10 package, then any of 02, 03, 04" [FORM-2, READ-3]
 unfoldable pub file_in : (s : List ℕ) (tag from to : ℕ) (rest : List File) → List File
 file_in s t a e rest = elim (eqb t file_tag) [
-  | true ↦ on_leaf rest (leaf_at package_tag any_bytes s a e) λ n m. file_with (span n m) (span m e) (items_in most_messages s (walk s m e)) ∷ rest
+  | true ↦ on_leaf rest (leaf_at package_tag any_bytes s a e) λ pack. file_with pack (span pack.to e) (items_in most_messages s (walk s pack.to e)) ∷ rest
   | false ↦ rest
 ]
 

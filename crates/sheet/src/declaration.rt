@@ -33,7 +33,7 @@ pub struct Value {
 }
 
 // Whether the type is a group, a message or an enum, which have a type path.
-#[tactic(auto, using(crate::proofs::ShapeLaws::has_type_path))]
+#[tactic(auto, using(crate::proofs::ShapeLaws::has_type_path_is))]
 pub fn has_type_path(typ: usize) -> bool
     ensures { result ≡ has_type_path typ }
 {
@@ -60,7 +60,7 @@ fn type_path_at(s: &[u8], at: usize, end: usize, typ: u8) -> Option<Span>
 }
 
 // Number, type, label and type path, from a place on.
-#[tactic(auto, using(crate::proofs::ShapeLaws::shape_laws, field::proofs::LeafLaws::size_laws))]
+#[tactic(auto, using(crate::proofs::ShapeLaws::shape_laws, field::proofs::LeafLaws::size_laws), unfolding(crate::specs::Declaration::shape_at))]
 fn shape_at(s: &[u8], at: usize, end: usize) -> Option<Shape>
     requires { (at ≤ end) × (end ≤ length s.now) }
     ensures { result ≡ shape_at s.now at end }
@@ -79,7 +79,7 @@ fn shape_at(s: &[u8], at: usize, end: usize) -> Option<Shape>
 }
 
 // The extension whose payload is from..to.
-#[tactic(auto, using(crate::proofs::DeclarationLaws::extension_laws))]
+#[tactic(auto, using(crate::proofs::DeclarationLaws::extension_laws), unfolding(crate::specs::Declaration::extension_at))]
 pub fn extension_at(s: &[u8], from: usize, to: usize) -> Option<Declaration>
     requires { (from ≤ to) × (to ≤ length s.now) }
     ensures { result ≡ extension_at s.now from to }
@@ -110,7 +110,7 @@ pub fn message_field_at(s: &[u8], from: usize, to: usize) -> Option<Declaration>
 }
 
 // The enum value whose payload is from..to.
-#[tactic(auto, using(crate::proofs::DeclarationLaws::value_laws))]
+#[tactic(auto, using(crate::proofs::DeclarationLaws::value_laws), unfolding(crate::specs::Declaration::value_at))]
 pub fn value_at(s: &[u8], from: usize, to: usize) -> Option<Value>
     requires { (from ≤ to) × (to ≤ length s.now) }
     ensures { result ≡ value_at s.now from to }

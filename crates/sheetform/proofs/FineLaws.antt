@@ -38,7 +38,7 @@ fine-file s i a e = go (ltb i most_files)
   where
     go : (b : Bool)
         → elim b [
-          | true ↦ on_leaf bad_sheet (leaf_at package_tag is_rel_or_empty s a e) λ n m. judge_items most_messages false s m e
+          | true ↦ on_leaf bad_sheet (leaf_at package_tag is_rel_or_empty s a e) λ p. judge_items most_messages false s p.to e
           | false ↦ beyond
         ] ≡ fine
         → Inside (leaf_at package_tag any_bytes s a e) is_rel_or_empty s (λ m. judge_items most_messages false s m e)

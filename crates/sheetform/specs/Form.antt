@@ -23,7 +23,7 @@ use Rattle.messageform.specs.Form.{bad_sheet, judge_items}
 unfoldable pub judge_file : (s : List ℕ) (index tag from to : ℕ) → Verdict
 judge_file s i t a e = elim (eqb t file_tag) [
   | true ↦ elim (ltb i most_files) [
-    | true ↦ on_leaf bad_sheet (leaf_at package_tag is_rel_or_empty s a e) λ n body. judge_items most_messages false s body e
+    | true ↦ on_leaf bad_sheet (leaf_at package_tag is_rel_or_empty s a e) λ pack. judge_items most_messages false s pack.to e
     | false ↦ beyond
   ]
   | false ↦ bad_sheet

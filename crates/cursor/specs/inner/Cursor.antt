@@ -54,8 +54,8 @@ unfoldable pub package_at : (s : List ℕ) (tag from to : ℕ) → Option Span
 package_at s tag a e = elim (eqb tag file_tag) [ true ↦ leaf_at package_tag any_bytes s a e | false ↦ None ]
 
 abbrev pub scope_at : (s t : List ℕ) (next index : ℕ) → Option Span → (end : ℕ) → Option Scope
-scope_at s t next i l e = on_leaf None l λ n m.
-    scope_in s (take (next - 1) t) (names_from t next) i (file_with (span n m) (span m e) (items_in most_messages s (walk s m e)))
+scope_at s t next i l e = on_leaf None l λ p.
+    scope_in s (take (next - 1) t) (names_from t next) i (file_with p (span p.to e) (items_in most_messages s (walk s p.to e)))
 
 pub record Within (l : Option Span) (e : ℕ) : Type 0 where
   pub ordered : (p : Span) → l ≡ Some p → p.from ≤ p.to

@@ -45,7 +45,7 @@ whose nothing tells good r = told nothing (λ a. only_if (good a) r nothing) (te
 
 -- ---- one field
 unfoldable pub body_at : (want : ℕ) (name s : List ℕ) (tag from to : ℕ) → Option Span
-body_at k n s t a e = elim (eqb t k) [ true ↦ on_leaf None (leaf_at name_tag (same_bytes n) s a e) (λ _ body. Some (span body e)) | false ↦ None ]
+body_at k n s t a e = elim (eqb t k) [ true ↦ on_leaf None (leaf_at name_tag (same_bytes n) s a e) (λ p. Some (span p.to e)) | false ↦ None ]
 
 abbrev pub body_named : (want : ℕ) (name s : List ℕ) → Walk → Option Span
 body_named k n s done = None
