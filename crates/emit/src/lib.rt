@@ -10,6 +10,7 @@ ghost use Rattle.reply.specs.Outcome.{give, Answered};
 use reply::{Answer, Cause, Refusal};
 
 // One word at a place; past the end nothing is written.
+#[tactic(auto, using(octets::proofs::Overlay::put_out))]
 pub fn put_word(out: &mut [u32], at: usize, word: u32)
     ensures { out.new ≡ sets out.old at (word ∷ []) }
 {
@@ -19,6 +20,7 @@ pub fn put_word(out: &mut [u32], at: usize, word: u32)
 }
 
 // Words from a place on, as far as there is room.
+#[tactic(auto, using(crate::proofs::Filling::filling_laws))]
 pub fn put_words(words: &[u32], out: &mut [u32], at: usize)
     requires { at + length words.now < 2 ^ 64 }
     ensures { out.new ≡ sets out.old at words.now }
@@ -31,6 +33,7 @@ pub fn put_words(words: &[u32], out: &mut [u32], at: usize)
 }
 
 // The words of an answer that are known beforehand, written where there is room for all of them.
+#[tactic(auto, using(crate::proofs::Copying::copying_laws))]
 pub fn give_words(words: &[u32], out: &mut [u32]) -> Answer
     requires { length words.now < 2 ^ 32 }
     ensures { Answered (give words.now) out.old out.new result }

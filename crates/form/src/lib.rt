@@ -9,6 +9,7 @@ ghost use Rattle.path.specs.Path.{is_rel_path, is_rel_or_empty};
 use field::{leaf_at, Span};
 
 // A single identifier.
+#[tactic(auto, using(crate::proofs::NameLaws::name_laws))]
 pub fn ident_at(s: &[u8], at: usize, end: usize, tag: u8) -> Option<Span>
     requires { (at ≤ end) × (end ≤ length s.now) }
     ensures { result ≡ leaf_at tag is_ident s.now at end }
@@ -21,6 +22,7 @@ pub fn ident_at(s: &[u8], at: usize, end: usize, tag: u8) -> Option<Span>
 }
 
 // A path with no leading dot, and not empty.
+#[tactic(auto, using(crate::proofs::NameLaws::name_laws))]
 pub fn rel_path_at(s: &[u8], at: usize, end: usize, tag: u8) -> Option<Span>
     requires { (at ≤ end) × (end ≤ length s.now) }
     ensures { result ≡ leaf_at tag is_rel_path s.now at end }
@@ -33,6 +35,7 @@ pub fn rel_path_at(s: &[u8], at: usize, end: usize, tag: u8) -> Option<Span>
 }
 
 // A path with no leading dot, or empty.
+#[tactic(auto, using(crate::proofs::NameLaws::name_laws))]
 pub fn rel_or_empty_at(s: &[u8], at: usize, end: usize, tag: u8) -> Option<Span>
     requires { (at ≤ end) × (end ≤ length s.now) }
     ensures { result ≡ leaf_at tag is_rel_or_empty s.now at end }

@@ -4,7 +4,7 @@ use Rattle.std.specs.Prelude.{◌≡◌, refl, Bool, true, false, ◌&&◌, List
 use Rattle.basis.specs.Kit.{ap}
 use Rattle.basis.proofs.Kit.{arith, eq-eqb, ne_eqb}
 use borrow.Author.Tests.{eqb-true}
-use Rattle.field.specs.Field.{field_at, field}
+use Rattle.field.specs.Field.{field_at}
 use Rattle.basis.specs.First.{only_if}
 use Rattle.field.specs.Leaf as leaf
 use Rattle.field.proofs.FieldLaws.{field-short}

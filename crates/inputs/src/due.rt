@@ -17,6 +17,7 @@ pub enum Due {
     Ended,
 }
 
+#[tactic(auto, using(crate::proofs::DueLaws::due_laws))]
 pub fn due_at(s: &[u8], at: usize, tag: u8) -> Due
     requires { at ≤ length s.now }
     ensures { result ≡ due_at tag s.now at }
@@ -24,14 +25,20 @@ pub fn due_at(s: &[u8], at: usize, tag: u8) -> Due
     if at == s.len() {
         return Due::Ended;
     }
-    let Some(field) = field::field_at(s, at, s.len()) else { return Due::CutShort; };
+    let Some(field) = field::field_at(s, at, s.len()) else {
+        return Due::CutShort;
+    };
     if field.tag != tag {
         return Due::Other(field.tag);
     }
-    Due::Here { from: field.from, to: field.to }
+    Due::Here {
+        from: field.from,
+        to: field.to,
+    }
 }
 
 // The field that was due, where it is there.
+#[tactic(auto, using(crate::proofs::DueLaws::due_leaf_laws))]
 pub fn due_leaf(due: Due) -> Option<Span>
     ensures { result ≡ due_leaf due }
 {

@@ -16,6 +16,7 @@ pub fn least(a: usize, b: usize) -> usize
 }
 
 // The words of a payload, in a lent buffer as far as that reaches, and how many they are.
+#[tactic(auto, using(crate::proofs::WordLaws::filling_laws))]
 pub fn words_of(payload: &[u8], out: &mut [u32]) -> usize
     ensures filled { Filled (λ j. big_at 4 payload.now (j * 4)) 0 out.new result }
     ensures value { result ≡ min (length payload.now / 4) (length out.old) }
@@ -30,6 +31,7 @@ pub fn words_of(payload: &[u8], out: &mut [u32]) -> usize
 }
 
 // The same as signed numbers.
+#[tactic(auto, using(crate::proofs::WordLaws::filling_laws))]
 pub fn signed_words_of(payload: &[u8], out: &mut [i32]) -> usize
     ensures filled { Filled (λ j. to_z w32 (big_at 4 payload.now (j * 4))) (pos 0) out.new result }
     ensures value { result ≡ min (length payload.now / 4) (length out.old) }

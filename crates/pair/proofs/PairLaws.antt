@@ -67,7 +67,7 @@ pair-open s at end p (Some here) q g = go (is_pair_name here.tag) refl g
   where
     go : (b : Bool) → is_pair_name here.tag ≡ b → elim b [ true ↦ pair_with here.tag here.from here.to (field_at s here.to end) | false ↦ None ] ≡ Some p
         → PairFields s at end p
-    go true y g = pair-second s at end p here.tag here.from here.to q y (field_at s here.to end) refl g
+    go true y g = pair-second s at end p here q y (field_at s here.to end) refl g
     go false y g = never cc
 
 module _ (s : List ℕ) (at end : ℕ) (r : Option Pair) (q : r ≡ pair_at s at end) (p : Pair) (g : r ≡ Some p) where
@@ -77,12 +77,12 @@ module _ (s : List ℕ) (at end : ℕ) (r : Option Pair) (q : r ≡ pair_at s at
 
   name-bounds : Bounds at end p.name.from p.name.to
   name-bounds =
-      field-bounds s at end (Some (field p.by p.name.from p.name.to)) pair-fields.name p.by p.name.from p.name.to refl
+      field-bounds s at end (Some (field p.by p.name.from p.name.to)) pair-fields.name (field p.by p.name.from p.name.to) refl
 
   constant-bounds : Bounds p.name.to end p.constant.from p.constant.to
   constant-bounds =
       field-bounds s p.name.to end (Some (field p.tag p.constant.from p.constant.to)) pair-fields.constant
-      p.tag p.constant.from p.constant.to refl
+      (field p.tag p.constant.from p.constant.to) refl
 
   pub pair-name-ordered : p.name.from ≤ p.name.to
   pair-name-ordered = name-bounds.ordered
@@ -111,10 +111,10 @@ module _ (s : List ℕ) (at end : ℕ) (r : Option Pair) (q : r ≡ pair_at s at
   pair-steps =
       let h : at < end = omega (arith, pair-further, pair-constant-inside) in
       let k : p.name.to < end = omega (arith, constant-bounds.starts, constant-bounds.ordered, pair-constant-inside) in
-      walk_step s at end h (Some (field p.by p.name.from p.name.to)) pair-fields.name p.by p.name.from p.name.to refl
+      walk_step s at end h (Some (field p.by p.name.from p.name.to)) pair-fields.name (field p.by p.name.from p.name.to) refl
       ∙ ap (step p.by p.name.from p.name.to)
       (walk_step s p.name.to end k (Some (field p.tag p.constant.from p.constant.to)) pair-fields.constant
-      p.tag p.constant.from p.constant.to refl)
+      (field p.tag p.constant.from p.constant.to) refl)
 
 pub ruleset pair_places =
     (pair-name-ordered, pair-name-within, pair-constant-ordered, pair-constant-inside, pair-constant-within, pair-further, pair-less)

@@ -18,6 +18,7 @@ pub struct Pair {
 }
 
 // Whether the tag is that of a pair's name.
+#[tactic(auto, using(crate::proofs::PairLaws::pair_name_is))]
 fn is_pair_name(tag: u8) -> bool
     ensures { result ≡ is_pair_name tag }
 {
@@ -25,6 +26,7 @@ fn is_pair_name(tag: u8) -> bool
 }
 
 // The pair at a place; the next one starts where its constant ends.
+#[tactic(auto, using(crate::proofs::PairLaws::pair_laws), unfolding(crate::specs::inner::Pair::pair_at))]
 pub fn pair_at(s: &[u8], at: usize, end: usize) -> Option<Pair>
     requires { (at ≤ end) × (end ≤ length s.now) }
     ensures { result ≡ pair_at s.now at end }

@@ -12,6 +12,7 @@ use limits::MOST_OPTION_BYTES;
 use reply::{Answer, Refusal};
 
 // Whether option bytes are not too long to read.
+#[tactic(auto, using(crate::proofs::PayloadLaws::check_bytes_laws))]
 pub fn check_bytes(bytes: &[u8]) -> Result<(), Refusal>
     ensures { Says (judge_bytes bytes.now) result }
 {
@@ -26,6 +27,7 @@ pub struct AnsweredPart<'b> {
 }
 
 // Whether a place and a length lie in option bytes that are not too long.
+#[tactic(auto, using(crate::proofs::PayloadLaws::place_laws), unfolding(crate::specs::Payload::judge_payload))]
 fn check_place(bytes: &[u8], place: usize, length: usize) -> Result<(), Refusal>
     ensures { result ≡ judge_payload bytes.now place length }
 {
@@ -37,6 +39,7 @@ fn check_place(bytes: &[u8], place: usize, length: usize) -> Result<(), Refusal>
 }
 
 // The part of the option bytes that `payload` hands back, alone.
+#[tactic(auto, using(crate::proofs::PayloadLaws::payload_laws), unfolding(crate::specs::Payload::payload_span))]
 pub fn payload_part<'b>(bytes: &'b [u8], place: usize, length: usize) -> &'b [u8]
     ensures { PartOf (payload_span bytes.now place length)
         bytes.now bytes.entry.ref_ptr.0 bytes.entry.ref_ptr.1 result.now result.ref_ptr.0 result.ref_ptr.1 }
@@ -49,6 +52,7 @@ pub fn payload_part<'b>(bytes: &'b [u8], place: usize, length: usize) -> &'b [u8
 }
 
 // The answer of `payload`, alone.
+#[tactic(auto, using(crate::proofs::PayloadLaws::payload_laws), unfolding(crate::specs::Payload::payload_answer))]
 pub fn payload_answer(bytes: &[u8], place: usize, length: usize) -> Answer
     ensures { result ≡ payload_answer bytes.now place length }
 {

@@ -25,6 +25,7 @@ pub struct Payload {
 }
 
 // A varint that says its own number, or else a length and as many bytes.
+#[tactic(auto, using(crate::proofs::PayloadLaws::payload_laws))]
 fn varint_in(s: &[u8], own: bool, at: usize, end: usize) -> Option<Payload>
     requires { (at ≤ end) × (end ≤ length s.now) }
     ensures { result ≡ payload_in (only_if own varint_type len_type) s.now at end }
@@ -48,6 +49,7 @@ fn varint_in(s: &[u8], own: bool, at: usize, end: usize) -> Option<Payload>
 }
 
 // Four bytes.
+#[tactic(auto, using(crate::proofs::PayloadLaws::payload_laws))]
 fn four_in(s: &[u8], at: usize, end: usize) -> Option<Payload>
     requires { (at ≤ end) × (end ≤ length s.now) }
     ensures { result ≡ payload_in i32_type s.now at end }
@@ -63,6 +65,7 @@ fn four_in(s: &[u8], at: usize, end: usize) -> Option<Payload>
 }
 
 // Eight bytes.
+#[tactic(auto, using(crate::proofs::PayloadLaws::payload_laws))]
 fn eight_in(s: &[u8], at: usize, end: usize) -> Option<Payload>
     requires { (at ≤ end) × (end ≤ length s.now) }
     ensures { result ≡ payload_in i64_type s.now at end }
@@ -78,6 +81,7 @@ fn eight_in(s: &[u8], at: usize, end: usize) -> Option<Payload>
 }
 
 // The payload of a wire type that is read, between two places.
+#[tactic(auto, using(crate::proofs::PayloadLaws::payload_laws))]
 pub fn payload_at(s: &[u8], wire: u8, at: usize, end: usize) -> Option<Payload>
     requires at_le_end { (at ≤ end) × (end ≤ length s.now) }
     requires wire_value { wire_read wire ≡ true }
@@ -93,6 +97,7 @@ pub fn payload_at(s: &[u8], wire: u8, at: usize, end: usize) -> Option<Payload>
 }
 
 // The value of a record of that type whose payload says this number.
+#[tactic(auto, using(crate::proofs::ValueLaws::value_laws))]
 pub fn value_of(typ: usize, said: u64) -> u64
     ensures { result ≡ value_of typ said }
 {

@@ -24,6 +24,7 @@ pub struct LookupScope {
 }
 
 // The name that a payload begins with, where it is this one.
+#[tactic(auto, using(crate::proofs::LookupLaws::named_at_laws))]
 pub fn named_at(s: &[u8], from: usize, to: usize, name: &[u8]) -> Option<Span>
     requires { (from ≤ to) × (to ≤ length s.now) }
     ensures { result ≡ leaf_at name_tag (same_bytes name.now) s.now from to }
@@ -36,6 +37,7 @@ pub fn named_at(s: &[u8], from: usize, to: usize, name: &[u8]) -> Option<Span>
 }
 
 // What stands after the name in a field of the tag `want` and of this name.
+#[tactic(auto, using(crate::proofs::LookupLaws::body_at_laws))]
 fn body_at(s: &[u8], tag: u8, from: usize, to: usize, want: u8, name: &[u8]) -> Option<Span>
     requires { (from ≤ to) × (to ≤ length s.now) }
     ensures { result ≡ body_at want name.now s.now tag from to }
@@ -48,6 +50,7 @@ fn body_at(s: &[u8], tag: u8, from: usize, to: usize, want: u8, name: &[u8]) -> 
 }
 
 // What stands after the name in the first field of that tag and name in the scope.
+#[tactic(auto, using(crate::proofs::LookupLaws::body_named_laws))]
 fn body_named(s: &[u8], scope: LookupScope, want: u8, name: &[u8]) -> Option<Span>
     requires { InSheet s.now scope }
     ensures { result ≡ body_named want name.now s.now
@@ -68,6 +71,7 @@ fn body_named(s: &[u8], scope: LookupScope, want: u8, name: &[u8]) -> Option<Spa
 }
 
 // The first message of that name in the scope.
+#[tactic(auto, using(crate::proofs::LookupLaws::down_laws))]
 pub fn down(s: &[u8], scope: LookupScope, name: &[u8]) -> Option<LookupScope>
     requires { InSheet s.now scope }
     ensures { result ≡ placed (down_of s.now name.now (holding s.now scope)) }
@@ -85,6 +89,7 @@ pub fn down(s: &[u8], scope: LookupScope, name: &[u8]) -> Option<LookupScope>
 }
 
 // Where the values of the first enum of that name in the scope stand.
+#[tactic(auto, using(crate::proofs::LookupLaws::enum_named_is))]
 pub fn enum_named(s: &[u8], scope: LookupScope, name: &[u8]) -> Option<Span>
     requires { InSheet s.now scope }
     ensures { result ≡ bodied (enum_named s.now name.now (holding s.now scope)) }

@@ -45,9 +45,9 @@ module _ (d : ℕ) (s : List ℕ) (t a e : ℕ) (rest : Items) (h : e ≤ length
   item-lies : ((d ≡ 0 → ⊥) → (at : ℕ) → Lying s (items_in (d - 1) s (walk s at e))) → Lying s (item_in (message_in d s) s t a e rest)
   item-lies inner =
       item-cases (λ f. Lying s (f rest)) s a e k d t
-      (λ _ z n m p. lying-message (body-lies name_tag n m p) (inner z m) k)
+      (λ _ z n p. lying-message (body-lies name_tag n p) (inner z n.to) k)
       (λ _ x p. lying-extension (places-within e (length s) x (extension-places s a e x (sym p)) h) k)
-      (λ _ n m p. lying-enum (body-lies name_tag n m p) k)
+      (λ _ n p. lying-enum (body-lies name_tag n p) k)
       (λ _ x p. lying-field (places-within e (length s) x (field-places s a e x (sym p)) h) k)
 
 -- at one depth, where it is so at the next
@@ -77,10 +77,10 @@ pub data Filed (s : List ℕ) : List File → Type 0 where
 pub files-lie : (s : List ℕ) (at end : ℕ) → end ≤ length s → Filed s (files_in s (walk s at end))
 files-lie s at end h =
     walk-holds s end (λ _ w. Filed s (files_in s w)) (λ _. filed-none) (λ _. filed-none)
-    (λ _ t a e w b k. file-cases (λ f. Filed s (f (files_in s w))) s t a e k λ n m p.
+    (λ _ t a e w b k. file-cases (λ f. Filed s (f (files_in s w))) s t a e k λ n p.
     filed-one
     (record {
-      ordered = leaf_inside package_tag any_bytes s a e (Some (span n m)) (sym p) n m refl;
+      ordered = leaf_inside package_tag any_bytes s a e (Some n) (sym p) n refl;
       within = omega (arith, b.inside);
       held = refl;
     })
@@ -99,7 +99,7 @@ files-few s at end =
     let x = b.starts in
     let y = b.ordered in
     let z = b.inside in
-    file-cases (λ f. length (f (files_in s w)) ≤ end - at) s t a e (omega arith) λ n m p. omega arith)
+    file-cases (λ f. length (f (files_in s w)) ≤ end - at) s t a e (omega arith) λ n p. omega arith)
     at
 
 pub tree-few : (s : List ℕ) → length (tree_of s) ≤ length s

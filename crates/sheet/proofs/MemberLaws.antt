@@ -22,7 +22,6 @@ use Rattle.sheet.specs.Members.{messages_of, extensions_of, enums_of, fields_of,
 use Rattle.sheet.proofs.TreeLaws.{item-message, item-extension, item-enum, item-field, enum-named, message-named}
 use Rattle.field.specs.declared.Span.{Span}
 
-
 -- ---- the cases of one field, for whatever is said of what it puts in front of the rest
 module _ (Q : (Items → Items) → Type 0) (s : List ℕ) (a e : ℕ) (nothing : Q (λ r. r)) where
   message-cases : (d : ℕ)
@@ -97,14 +96,14 @@ module _ (d : ℕ) (s : List ℕ) (t a e : ℕ) (rest : Items) where
       (λ h z q p. absurd (k h z q p)) (λ _ x _. refl) (λ _ q _. refl) (λ _ x _. refl)
 
   pub messages-other : (t ≡ message_tag → ⊥) → messages_of (item_in (message_in d s) s t a e rest) ≡ messages_of rest
-  messages-other o = no-message λ h _ _ _ _. o h
+  messages-other o = no-message λ h _ _ _. o h
 
   pub messages-beyond : d ≡ 0 → messages_of (item_in (message_in d s) s t a e rest) ≡ messages_of rest
-  messages-beyond h = no-message λ _ z _ _ _. z h
+  messages-beyond h = no-message λ _ z _ _. z h
 
   module _ (r : Option Span) (q : r ≡ leaf_at name_tag any_bytes s a e) where
     pub messages-unnamed : r ≡ None → messages_of (item_in (message_in d s) s t a e rest) ≡ messages_of rest
-    messages-unnamed g = no-message λ _ _ n m p. never cc
+    messages-unnamed g = no-message λ _ _ n p. never cc
 
     pub messages-named : t ≡ message_tag → (d ≡ 0 → ⊥) → (p : Span) → r ≡ Some p
         → messages_of (item_in (message_in d s) s t a e rest)
@@ -121,11 +120,11 @@ module _ (d : ℕ) (s : List ℕ) (t a e : ℕ) (rest : Items) where
       (λ _ _ q _. refl) (λ _ x _. refl) (λ h q p. absurd (k h q p)) (λ _ x _. refl)
 
   pub enums-other : (t ≡ enum_tag → ⊥) → enums_of (item_in (message_in d s) s t a e rest) ≡ enums_of rest
-  enums-other o = no-enum λ h _ _ _. o h
+  enums-other o = no-enum λ h _ _. o h
 
   module _ (r : Option Span) (q : r ≡ leaf_at name_tag any_bytes s a e) where
     pub enums-unnamed : r ≡ None → enums_of (item_in (message_in d s) s t a e rest) ≡ enums_of rest
-    enums-unnamed g = no-enum λ _ n m p. never cc
+    enums-unnamed g = no-enum λ _ n p. never cc
 
     pub enums-named : t ≡ enum_tag → (p : Span) → r ≡ Some p
         → enums_of (item_in (message_in d s) s t a e rest)
@@ -154,7 +153,7 @@ module _ (d : ℕ) (s : List ℕ) (t a e : ℕ) (rest : Items) where
   extensions-item =
       tagged t extension_tag (extension_at s a e) _ (extensions_of rest)
       (λ other. item-cases (λ f. extensions_of (f rest) ≡ extensions_of rest) s a e refl d t
-      (λ _ _ n m _. refl) (λ h x p. absurd (other h x p)) (λ _ n m _. refl) (λ _ x _. refl))
+      (λ _ _ n _. refl) (λ h x p. absurd (other h x p)) (λ _ n _. refl) (λ _ x _. refl))
       λ h x q. ap extensions_of (item-extension (message_in d s) s t a e rest h (extension_at s a e) refl x q)
 
   pub fields-item : fields_of (item_in (message_in d s) s t a e rest)
@@ -162,7 +161,7 @@ module _ (d : ℕ) (s : List ℕ) (t a e : ℕ) (rest : Items) where
   fields-item =
       tagged t field_tag (message_field_at s a e) _ (fields_of rest)
       (λ other. item-cases (λ f. fields_of (f rest) ≡ fields_of rest) s a e refl d t
-      (λ _ _ n m _. refl) (λ _ x _. refl) (λ _ n m _. refl) (λ h x p. absurd (other h x p)))
+      (λ _ _ n _. refl) (λ _ x _. refl) (λ _ n _. refl) (λ h x p. absurd (other h x p)))
       λ h x q. ap fields_of (item-field (message_in d s) s t a e rest h (message_field_at s a e) refl x q)
 
 -- ---- the extensions at every depth: those of a field come before those of the rest
@@ -171,8 +170,8 @@ module _ (d : ℕ) (s : List ℕ) (t a e : ℕ) (rest : Items) where
       ≡ every_extension_of (item_in (message_in d s) s t a e none) ++ every_extension_of rest
   every-extension-item =
       item-cases (λ f. every_extension_of (f rest) ≡ every_extension_of (f none) ++ every_extension_of rest) s a e refl d t
-      (λ _ _ n m _. sym (append_assoc (every_extension_of (items_in (d - 1) s (walk s m e))) [] (every_extension_of rest)))
-      (λ _ x _. refl) (λ _ n m _. refl) (λ _ x _. refl)
+      (λ _ _ n _. sym (append_assoc (every_extension_of (items_in (d - 1) s (walk s n.to e))) [] (every_extension_of rest)))
+      (λ _ x _. refl) (λ _ n _. refl) (λ _ x _. refl)
 
   -- a field that is no message has its own alone
   pub every-extension-flat : (t ≡ message_tag → ⊥) → every_extension_of (item_in (message_in d s) s t a e rest)
@@ -180,7 +179,7 @@ module _ (d : ℕ) (s : List ℕ) (t a e : ℕ) (rest : Items) where
   every-extension-flat o =
       tagged t extension_tag (extension_at s a e) _ (every_extension_of rest)
       (λ other. item-cases (λ f. every_extension_of (f rest) ≡ every_extension_of rest) s a e refl d t
-      (λ h. absurd (o h)) (λ h x p. absurd (other h x p)) (λ _ n m _. refl) (λ _ x _. refl))
+      (λ h. absurd (o h)) (λ h x p. absurd (other h x p)) (λ _ n _. refl) (λ _ x _. refl))
       λ h x q. ap every_extension_of (item-extension (message_in d s) s t a e rest h (extension_at s a e) refl x q)
 
 -- the cases of one field of a sheet
@@ -204,4 +203,4 @@ pub every-extension-file : (s : List ℕ) (t a e : ℕ) (rest : List File)
     → every_extension (file_in s t a e rest) ≡ every_extension (file_in s t a e []) ++ every_extension rest
 every-extension-file s t a e rest =
     file-cases (λ f. every_extension (f rest) ≡ every_extension (f []) ++ every_extension rest) s t a e refl
-    λ n m _. sym (append_assoc (every_extension_of (items_in most_messages s (walk s m e))) [] (every_extension rest))
+    λ n _. sym (append_assoc (every_extension_of (items_in most_messages s (walk s n.to e))) [] (every_extension rest))

@@ -5,6 +5,7 @@ ghost use Rattle.octets.specs.inner.Laid.{Laid};
 ghost use Rattle.wire.specs.Fixed.{little_of, little};
 
 // The lowest `width` bytes of v from a place on, as far as there is room, and the place after them.
+#[tactic(auto, using(crate::proofs::FixedLoops::filling_laws), unfolding(crate::specs::Fixed::little_of))]
 fn put_little(out: &mut [u8], at: usize, v: u64, width: usize) -> usize
     requires { (at < 2 ^ 63) × (width ≤ 8) }
     ensures { Laid out.old at (little_of width v) out.new result }
@@ -20,6 +21,7 @@ fn put_little(out: &mut [u8], at: usize, v: u64, width: usize) -> usize
 }
 
 // The number of the `width` bytes at a place.
+#[tactic(auto, using(crate::proofs::FixedLoops::summing_laws), unfolding(crate::specs::Fixed::little))]
 fn little_at(s: &[u8], at: usize, width: usize) -> u64
     requires { (at + width ≤ length s.now) × (width ≤ 8) }
     ensures { (result ≡ little (part s.now at (at + width))) × (result < 256 ^ width) }

@@ -3,6 +3,7 @@ ghost use Rattle.std.specs.Prelude.{◌≡◌, ◌^◌, ◌<◌};
 ghost use Rattle.wire.specs.Numbers.{zigzag_of, unzigzag_of, low32_of, widen32_of};
 
 // The zigzag form of the number that the bits of u are.
+#[tactic(auto, using(crate::proofs::NumberLaws::number_laws))]
 pub fn zigzag(u: u64) -> u64
     ensures { result ≡ zigzag_of u }
 {
@@ -14,6 +15,7 @@ pub fn zigzag(u: u64) -> u64
 }
 
 // The bits of the number whose zigzag form is z.
+#[tactic(auto, using(crate::proofs::NumberLaws::number_laws))]
 pub fn unzigzag(z: u64) -> u64
     ensures { result ≡ unzigzag_of z }
 {
@@ -25,6 +27,7 @@ pub fn unzigzag(z: u64) -> u64
 }
 
 // The low 32 bits.
+#[tactic(auto, using(crate::proofs::NumberLaws::number_laws))]
 pub fn low32(u: u64) -> u64
     ensures { (result ≡ low32_of u) × (result < 2 ^ 32) }
 {
@@ -32,6 +35,7 @@ pub fn low32(u: u64) -> u64
 }
 
 // 32 bits widened by sign.
+#[tactic(auto, using(crate::proofs::NumberLaws::number_laws))]
 pub fn widen32(u: u64) -> u64
     requires { u < 2 ^ 32 }
     ensures { result ≡ widen32_of u }

@@ -27,6 +27,7 @@ pub fn wire_type_of(tag: u64) -> u8
 }
 
 // Whether a tag has a field number in 01's range and a wire type that is read.
+#[tactic(auto, using(crate::proofs::TagLaws::tag_good_is))]
 pub fn tag_good(tag: u64) -> bool
     ensures { result ≡ tag_good_of tag }
 {
