@@ -7,3 +7,4 @@ pub mod Rest
 pub mod Seek
 pub mod Tally
 pub mod Controls
+pub mod BehindLaws
