@@ -1,7 +1,6 @@
 -- Where a walk goes on behind a field: further on, and not past the end.
 -- Assumes nothing.
 use Rattle.std.specs.Prelude.{◌≡◌, refl, List, ℕ, ◌≤◌, ◌<◌, Option, Some, None}
-use Rattle.basis.specs.Kit.{sym}
 use Rattle.basis.proofs.Kit.{arith}
 use Rattle.field.specs.declared.Field.{Field}
 use Rattle.field.specs.Field.{field_at}

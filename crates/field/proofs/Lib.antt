@@ -8,3 +8,4 @@ pub mod Seek
 pub mod Tally
 pub mod Controls
 pub mod BehindLaws
+pub mod InFields

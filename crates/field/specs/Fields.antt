@@ -1,5 +1,5 @@
 -- What a walk over the fields between two places gives.
-use Rattle.std.specs.Prelude.{◌≡◌, List, ℕ, ◌<◌, ◌≤◌, Option, Some, None}
+use Rattle.std.specs.Prelude.{◌≡◌, ℕ, ◌<◌, ◌≤◌, Option, Some, None}
 use Rattle.field.specs.declared.Field.{Field}
 use Rattle.field.specs.declared.fields.Fields.{Fields}
 use Rattle.field.specs.Field.{field_at}
