@@ -24,11 +24,14 @@ fn lower(numbering: u32, payload: &[u8]) {
 }
 
 // The words at a place, in a numbering, and where the next case starts; 0 where the input is no such field.
+#[tactic(auto, using(console::proofs::InputLaws::input_laws))]
 fn lower_words(numbering: u32, s: &[u8], at: usize) -> usize
     requires { at ≤ length s.now }
     ensures { result ≤ length s.now }
 {
-    let Some(place) = field_of(s, at, WORDS) else { return 0; };
+    let Some(place) = field_of(s, at, WORDS) else {
+        return 0;
+    };
     if !console::input::has_words(WORDS, place.from, place.to) {
         return 0;
     }
@@ -37,11 +40,14 @@ fn lower_words(numbering: u32, s: &[u8], at: usize) -> usize
 }
 
 // The same, of a case that starts with its numbering.
+#[tactic(auto, using(console::proofs::InputLaws::input_laws))]
 fn lower_numbered(s: &[u8], at: usize) -> usize
     requires { at ≤ length s.now }
     ensures { result ≤ length s.now }
 {
-    let Some(place) = field_of(s, at, NUMBERING) else { return 0; };
+    let Some(place) = field_of(s, at, NUMBERING) else {
+        return 0;
+    };
     if !console::input::has_size(NUMBERING, place.from, place.to, 4) {
         return 0;
     }
@@ -77,6 +83,7 @@ fn lower_cases(s: &[u8]) {
 }
 
 // Standard input, read into a lent buffer.
+#[tactic(auto, using(console::proofs::InputLaws::input_laws))]
 fn run_over(buffer: &mut [u8]) {
     let Some(n) = console::input::read(buffer) else {
         return;
