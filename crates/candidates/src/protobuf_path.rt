@@ -8,7 +8,7 @@ use path::protobuf_abs_path::{is_abs, without_root};
 use path::protobuf_rel_path::{count, join, parent_end};
 
 // The scope itself for 0, its parent for 1, and so on up to the empty one.
-#[tactic(auto, using(crate::proofs::CandidateLaws::climbed_laws), unfolding(crate::specs::Candidates::ancestors, path::specs::Path::components, path::specs::Path::spell))]
+#[tactic(auto, using(crate::proofs::CandidateLaws::climbed_laws))]
 fn ancestor(s: &[u8], i: usize) -> &[u8]
     requires { i ≤ length (components s.now) }
     ensures { result.now ≡ spell (get_or (ancestors (components s.now)) i []) }
@@ -34,7 +34,7 @@ pub fn candidates(scope: &[u8], name: &[u8]) -> usize
 }
 
 // The text of the i-th candidate, in a lent buffer as far as that reaches, and its length.
-#[tactic(auto, using(crate::proofs::CandidateLaws::candidate_laws), unfolding(crate::specs::Candidates::candidate, path::specs::Path::spell))]
+#[tactic(auto, using(crate::proofs::CandidateLaws::candidate_laws))]
 pub fn candidate(scope: &[u8], name: &[u8], i: usize, out: &mut [u8]) -> usize
     requires { i < length (candidates_of scope.now name.now) }
     ensures { Laid out.old 0 (spell (candidate_of scope.now name.now i)) out.new result }

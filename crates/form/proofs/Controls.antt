@@ -16,12 +16,12 @@ fields = 1 ∷ 0 ∷ 0 ∷ 2 ∷ 0 ∷ 1 ∷ 7 ∷ 3 ∷ 0 ∷ []
 second : ℕ → ℕ → ℕ → Verdict
 second t a e = elim (eqb t 2) [ true ↦ Err BeyondLimit | false ↦ fine ]
 
-fine : ℕ → ℕ → ℕ → Verdict
-fine t a e = fine
+sound : ℕ → ℕ → ℕ → Verdict
+sound t a e = fine
 
-first-fault : each BadSheet second (walk fields 0 7) ∷ each BadSheet fine (walk fields 0 9) ∷ each BadSheet second (walk fields 0 9) ∷ []
+first-fault : each BadSheet second (walk fields 0 7) ∷ each BadSheet sound (walk fields 0 9) ∷ each BadSheet second (walk fields 0 9) ∷ []
     ≡ Err BeyondLimit ∷ Err BadSheet ∷ Err BeyondLimit ∷ []
-unfolding fields second fine walk_by field_at big_at
+unfolding fields second sound walk_by field_at big_at
 first-fault = refl
 
 -- a limit of one field

@@ -17,7 +17,6 @@ use Rattle.field.specs.Walk.{Reader, walk_by}
 use Rattle.form.specs.Each.{each, each_from}
 use Rattle.field.proofs.FieldLaws.{field-within, field-less}
 use Rattle.field.proofs.Rest.{RestBy, rest_end, rest-cut, rest-step, rest-next}
-use Rattle.field.specs.Field.{field}
 use Rattle.field.specs.declared.Field.{Field}
 use Rattle.reply.specs.Verdicts.{Verdict, fine}
 

@@ -6,7 +6,7 @@ ghost use Rattle.field.specs.Leaf.{leaf_at};
 ghost use Rattle.ident.specs.Ident.{is_ident};
 ghost use Rattle.path.specs.Path.{is_rel_path, is_rel_or_empty};
 
-use field::{leaf_at, Span};
+use field::{Span, leaf_at};
 
 // A single identifier.
 #[tactic(auto, using(crate::proofs::NameLaws::name_laws))]

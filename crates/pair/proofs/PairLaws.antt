@@ -140,12 +140,13 @@ module _ (s : List ℕ) (at end : ℕ) (h : at < end) (here : Field) (q : Some h
 pairless-from : (s : List ℕ) (at end : ℕ) → at < end → (f : Option Field) → f ≡ field_at s at end → pair_from s end f ≡ None
     → Pairless (walk s at end)
 pairless-from s at end h None q g = subst⁻¹ Pairless (walk-cut s at end h None q refl) broken
-pairless-from s at end h (Some it1) q g = go (is_pair_name it1.tag) refl g
+pairless-from s at end h (Some here) q g = go (is_pair_name here.tag) refl g
   where
-    go : (b : Bool) → is_pair_name it1.tag ≡ b → elim b [ true ↦ pair_with it1.tag it1.from it1.to (field_at s it1.to end) | false ↦ None ] ≡ None
+    go : (b : Bool) → is_pair_name here.tag ≡ b
+        → ◌≡◌ {A = Option Pair} (elim b [ true ↦ pair_with here.tag here.from here.to (field_at s here.to end) | false ↦ None ]) None
         → Pairless (walk s at end)
-    go true y g = pairless-second s at end h it1.tag it1.from it1.to q (field_at s it1.to end) refl g
-    go false y g = subst⁻¹ Pairless (first_step s at end h it1.tag it1.from it1.to q) (unnamed y)
+    go true y g = pairless-second s at end h here q (field_at s here.to end) refl g
+    go false y g = subst⁻¹ Pairless (first_step s at end h here q) (unnamed y)
 
 pub pair-none : (s : List ℕ) (at end : ℕ) → at < end → (r : Option Pair) → r ≡ pair_at s at end → r ≡ None → Pairless (walk s at end)
 unfolding pair_at

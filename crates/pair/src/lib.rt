@@ -5,7 +5,7 @@ ghost use Rattle.std.specs.Prelude.{◌≡◌, ◌≤◌, length};
 ghost use Rattle.request.specs.Constant.{is_pair_name};
 ghost use Rattle.pair.specs.inner.Pair.{pair_at};
 
-use field::{Field, Span, field_at};
+use field::{Span, field_at};
 use request::table;
 
 // A pair of a message constant: its name, by a field (27), an extension path (28) or a type URL (29), and the field of its constant.
@@ -31,17 +31,21 @@ pub fn pair_at(s: &[u8], at: usize, end: usize) -> Option<Pair>
     requires { (at ≤ end) × (end ≤ length s.now) }
     ensures { result ≡ pair_at s.now at end }
 {
-    let Some(Field { tag: by, from, to }) = field_at(s, at, end) else {
-        return None;
-    };
-    if !is_pair_name(by) {
+    let name = field_at(s, at, end)?;
+    if !is_pair_name(name.tag) {
         return None;
     }
-    let field = field_at(s, to, end)?;
+    let constant = field_at(s, name.to, end)?;
     Some(Pair {
-        by: by,
-        name: Span { from: from, to: to },
-        tag: field.tag,
-        constant: Span { from: field.from, to: field.to },
+        by: name.tag,
+        name: Span {
+            from: name.from,
+            to: name.to,
+        },
+        tag: constant.tag,
+        constant: Span {
+            from: constant.from,
+            to: constant.to,
+        },
     })
 }

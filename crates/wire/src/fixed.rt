@@ -21,7 +21,7 @@ fn put_little(out: &mut [u8], at: usize, v: u64, width: usize) -> usize
 }
 
 // The number of the `width` bytes at a place.
-#[tactic(auto, using(crate::proofs::FixedLoops::summing_laws), unfolding(crate::specs::Fixed::little))]
+#[tactic(auto, using(crate::proofs::FixedLoops::summing_laws))]
 fn little_at(s: &[u8], at: usize, width: usize) -> u64
     requires { (at + width ≤ length s.now) × (width ≤ 8) }
     ensures { (result ≡ little (part s.now at (at + width))) × (result < 256 ^ width) }
