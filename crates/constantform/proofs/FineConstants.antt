@@ -223,7 +223,7 @@ pair-first inner t a e k b f w = go (is_pair_name t)
     go true y = refl
     go false y = absurd (false≢true y)
 
-module _ (d : ℕ) (s : List ℕ) (fine : FineAt d s) where
+module _ (d : ℕ) (s : List ℕ) (inside : FineAt d s) where
   elements-with : (w : Walk) → Within s w → each BadRequest (judge_constant d s) w ≡ fine → FineElements s w (elements_in (constant_in d s) w)
   elements-with done i p = record { good = refl; whole = refl; tags = refl }
   elements-with cut i p = absurd (refused-fine BadRequest p)
@@ -231,7 +231,7 @@ module _ (d : ℕ) (s : List ℕ) (fine : FineAt d s) where
       let judge = judge_constant d s in
       let front = first-fine-front (judge t a e) (each BadRequest judge w) p in
       let rest = elements-with w i.1 (first-fine-rest (judge t a e) (each BadRequest judge w) p) in
-      let here = fine unnamed refl t a e (elements_in (constant_in d s) w) i.0 front in
+      let here = inside unnamed refl t a e (elements_in (constant_in d s) w) i.0 front in
       record {
         good = here.good rest.good;
         whole = here.whole ∙ omega (arith, rest.whole);
@@ -251,7 +251,7 @@ module _ (d : ℕ) (s : List ℕ) (fine : FineAt d s) where
       let p' = first-fine-rest name after p in
       let front = first-fine-front (judge k b f) (pairs_of judge s w) p' in
       let rest = pairs-with w i.1.1 (first-fine-rest (judge k b f) (pairs_of judge s w) p') in
-      let here = fine (pair_name_of t (span a e)) n.good k b f (pairs_in (constant_in d s) w) i.1.0 front in
+      let here = inside (pair_name_of t (span a e)) n.good k b f (pairs_in (constant_in d s) w) i.1.0 front in
       rw (pair-first (constant_in d s) t a e k b f w n.is)
       record {
         good = here.good rest.good;
@@ -262,7 +262,7 @@ module _ (d : ℕ) (s : List ℕ) (fine : FineAt d s) where
       }
 
 -- ---- constants, with d levels left
-module _ (d : ℕ) (s : List ℕ) (fine : FineAt d s) (l : PairName) (named : good_name s l ≡ true) (a e : ℕ) (rest : Constants)
+module _ (d : ℕ) (s : List ℕ) (inside : FineAt d s) (l : PairName) (named : good_name s l ≡ true) (a e : ℕ) (rest : Constants)
     (h : e ≤ length s) where
   constant-with : (t : ℕ) → constant_with (judge_constant d s) s t a e ≡ fine → FineConstant s l t rest (constant_in (suc d) s l t a e rest)
   unfolding constant_of
@@ -280,13 +280,13 @@ module _ (d : ℕ) (s : List ℕ) (fine : FineAt d s) (l : PairName) (named : go
       at-message : pairs_of (judge_constant d s) s (walk s a e) ≡ fine
           → FineConstant s l message_constant_tag rest (constant_in (suc d) s l message_constant_tag a e rest)
       at-message q =
-          let i = pairs-with d s fine (walk s a e) (walk-within s e h a) q in
+          let i = pairs-with d s inside (walk s a e) (walk-within s e h a) q in
           record { good = λ r. rw (named, i.good, r); whole = refl; tags = refl }
 
       at-list : each BadRequest (judge_constant d s) (walk s a e) ≡ fine
           → FineConstant s l list_tag rest (constant_in (suc d) s l list_tag a e rest)
       at-list q =
-          let i = elements-with d s fine (walk s a e) (walk-within s e h a) q in
+          let i = elements-with d s inside (walk s a e) (walk-within s e h a) q in
           record { good = λ r. rw (named, i.good, r); whole = refl; tags = refl }
 
 pub constant-opened : (b : Bool) (v : Verdict) → elim b [ true ↦ v | false ↦ bad_request ] ≡ fine → v ≡ fine

@@ -6,7 +6,7 @@ use Rattle.octets.specs.Octets.{part}
 use Rattle.reply.specs.declared.Refusal.TheVariants.{BadRequest}
 use Rattle.reply.specs.Verdicts.{first_fault, judged, fine}
 use Rattle.reply.proofs.VerdictLaws.{first-fine-front, first-fine-rest}
-use Rattle.field.specs.Field.{field_at, field}
+use Rattle.field.specs.Field.{field_at}
 use Rattle.field.specs.Walk.{walk, tags_in}
 use Rattle.form.specs.Each.{each}
 use Rattle.field.proofs.WalkLaws.{walk_step}

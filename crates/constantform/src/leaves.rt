@@ -9,6 +9,7 @@ use path::protobuf_rel_path::is_rel_path;
 use request::table;
 
 // Whether the tag is a constant's.
+#[tactic(auto, using(crate::proofs::LeafLaws::constant_tag))]
 pub fn is_constant(tag: u8) -> bool
     ensures { result ≡ is_constant tag }
 {
@@ -16,6 +17,7 @@ pub fn is_constant(tag: u8) -> bool
 }
 
 // Whether the bytes are a bool.
+#[tactic(auto, using(crate::proofs::LeafLaws::bool_laws))]
 fn is_bool(bytes: &[u8]) -> bool
     ensures { result ≡ is_bool bytes.now }
 {
@@ -26,6 +28,7 @@ fn is_bool(bytes: &[u8]) -> bool
 }
 
 // Whether the bytes are a type URL.
+#[tactic(auto, using(crate::proofs::LeafLaws::url_size))]
 fn is_url(bytes: &[u8]) -> bool
     ensures { result ≡ is_url bytes.now }
 {
@@ -33,6 +36,7 @@ fn is_url(bytes: &[u8]) -> bool
 }
 
 // Whether the payload is one of a constant of this tag that is no message and no list.
+#[tactic(auto, using(crate::proofs::LeafLaws::scalar_laws))]
 pub fn good_scalar(tag: u8, bytes: &[u8]) -> bool
     ensures { result ≡ good_scalar tag bytes.now }
 {
@@ -52,6 +56,7 @@ pub fn good_scalar(tag: u8, bytes: &[u8]) -> bool
 }
 
 // Whether the payload is one of a pair's name of this tag.
+#[tactic(auto, using(crate::proofs::LeafLaws::pair_name_laws))]
 pub fn good_pair_name(tag: u8, bytes: &[u8]) -> bool
     ensures { result ≡ good_pair_name tag bytes.now }
 {
@@ -68,6 +73,7 @@ pub fn good_pair_name(tag: u8, bytes: &[u8]) -> bool
 }
 
 // Whether the payload is one of a part.
+#[tactic(auto, using(crate::proofs::LeafLaws::part_leaf_laws))]
 pub fn good_part(extension: bool, bytes: &[u8]) -> bool
     ensures { result ≡ good_part extension bytes.now }
 {

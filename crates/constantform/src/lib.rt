@@ -13,6 +13,7 @@ use reply::Refusal;
 use request::table;
 
 // A constant's field, with `left` levels of constants left.
+#[tactic(auto, using(crate::proofs::ConstantLaws::constant_laws))]
 #[cycle(check_constant_check_elements_check_pairs)]
 pub fn check_constant(s: &[u8], tag: u8, from: usize, to: usize, left: usize) -> Result<(), Refusal>
     requires { (from ≤ to) × (to ≤ length s.now) }
@@ -34,6 +35,7 @@ pub fn check_constant(s: &[u8], tag: u8, from: usize, to: usize, left: usize) ->
 }
 
 // The elements of a list.
+#[tactic(auto, using(crate::proofs::ConstantLaws::element_laws))]
 #[cycle(check_constant_check_elements_check_pairs)]
 fn check_elements(s: &[u8], from: usize, to: usize, left: usize) -> Result<(), Refusal>
     requires { (from ≤ to) × (to ≤ length s.now) }
@@ -41,7 +43,9 @@ fn check_elements(s: &[u8], from: usize, to: usize, left: usize) -> Result<(), R
 {
     let mut at = from;
     while at < to {
-        let Some(field) = field::field_at(s, at, to) else { return Err(Refusal::BadRequest); };
+        let Some(field) = field::field_at(s, at, to) else {
+            return Err(Refusal::BadRequest);
+        };
         check_constant(s, field.tag, field.from, field.to, left)?;
         at = field.to;
     }
@@ -49,6 +53,7 @@ fn check_elements(s: &[u8], from: usize, to: usize, left: usize) -> Result<(), R
 }
 
 // The pairs of a message constant.
+#[tactic(auto, using(crate::proofs::ConstantLaws::pairs_laws))]
 #[cycle(check_constant_check_elements_check_pairs)]
 fn check_pairs(s: &[u8], from: usize, to: usize, left: usize) -> Result<(), Refusal>
     requires { (from ≤ to) × (to ≤ length s.now) }
@@ -56,19 +61,15 @@ fn check_pairs(s: &[u8], from: usize, to: usize, left: usize) -> Result<(), Refu
 {
     let mut at = from;
     while at < to {
-        let Some(p) = pair_at(s, at, to) else { return Err(Refusal::BadRequest); };
+        let Some(p) = pair_at(s, at, to) else {
+            return Err(Refusal::BadRequest);
+        };
         let a = p.name.from;
         let e = p.name.to;
         if !good_pair_name(p.by, &s[a..e]) {
             return Err(Refusal::BadRequest);
         }
-        check_constant(
-            s,
-            p.tag,
-            p.constant.from,
-            p.constant.to,
-            left,
-        )?;
+        check_constant(s, p.tag, p.constant.from, p.constant.to, left)?;
         at = p.constant.to;
     }
     Ok(())
