@@ -30,20 +30,20 @@ fn lower_case(s: &[u8], at: usize) -> usize
     requires { at ≤ length s.now }
     ensures { result ≤ length s.now }
 {
-    let Some(place) = field_of(s, at, KIND) else {
+    let Some(kind) = field_of(s, at, KIND) else {
         return 0;
     };
-    if !console::input::has_size(KIND, place.from, place.to, 4) {
+    if !console::input::has_size(KIND, kind.from, kind.to, 4) {
         return 0;
     }
-    let Some(held) = field_of(s, place.to, WORDS) else {
+    let Some(words) = field_of(s, kind.to, WORDS) else {
         return 0;
     };
-    if !console::input::has_words(WORDS, held.from, held.to) {
+    if !console::input::has_words(WORDS, words.from, words.to) {
         return 0;
     }
-    lower(octets::u32_at(s, place.from), &s[held.from..held.to]);
-    held.to
+    lower(octets::u32_at(s, kind.from), &s[words.from..words.to]);
+    words.to
 }
 
 // All cases, of which there has to be one.
