@@ -5,13 +5,11 @@
 --       each-cut  where no whole field stands, v is what a cut is
 --   each-refused  a fault of the field that stands there is v
 --      each_next  where it is fine, v is the verdict of the fields from its end on
--- And `handed-on`: a verdict is v where `?` hands on a fault that v is.
 -- `each_loop` and `each_from_loop` have these, for any reader; `each_laws` and `each_from_laws` all that a loop over the fields of
 -- `field_at` needs, but its start, which is `rest-start`.
 --
 -- Assumes nothing.
-use Rattle.std.specs.Prelude.{◌≡◌, List, ℕ, ◌+◌, ◌≤◌, ◌<◌, length, Err, None, Ok, Option, Some}
-use Rattle.std.specs.Result.{IsErrAnd}
+use Rattle.std.specs.Prelude.{◌≡◌, List, ℕ, ◌+◌, ◌≤◌, ◌<◌, length, Err, None, Option, Some}
 use Rattle.basis.specs.Kit.{sym, ◌∙◌}
 use Rattle.reply.specs.declared.Refusal.{Refusal}
 use Rattle.reply.proofs.VerdictLaws.{first-refused, first_fine}
@@ -24,10 +22,6 @@ use Rattle.field.proofs.InFields.{RestIn, over-ordered, over-within, rest-in-end
 use Rattle.field.proofs.Rest.{RestBy, rest_end, rest-cut, rest-step, rest-next}
 use Rattle.field.specs.declared.Field.{Field}
 use Rattle.reply.specs.Verdicts.{Verdict, fine}
-
-pub handed-on : {r v : Verdict} {w : Refusal} → IsErrAnd r (λ e. e ≡ w) → Err w ≡ v → r ≡ v
-handed-on {r = Ok x} h q = elim h [ ]
-handed-on {r = Err e} h q = rw h q
 
 module _ {next : Reader} (bad : Refusal) (f : ℕ → ℕ → ℕ → Verdict) (v : Verdict) (s : List ℕ) (to i : ℕ)
     (k : RestBy next v (each bad f) s to i) where

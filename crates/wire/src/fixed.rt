@@ -11,11 +11,9 @@ fn put_little(out: &mut [u8], at: usize, v: u64, width: usize) -> usize
     ensures { Laid out.old at (little_of width v) out.new result }
 {
     let mut x = v;
-    let mut i = 0;
-    while i < width {
+    for i in 0..width {
         octets::put(out, at + i, (x % 256) as u8);
         x /= 256;
-        i += 1;
     }
     at + i
 }

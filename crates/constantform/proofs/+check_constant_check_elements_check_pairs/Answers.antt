@@ -1,7 +1,7 @@
 -- What these functions promise follows from their laws.
 -- Assumes nothing.
 use Rattle.basis.proofs.Kit.{rules}
-use Rattle.form.proofs.EachLaws.{handed-on}
+use Rattle.reply.proofs.VerdictLaws.{handed-on}
 use Rattle.constantform.proofs.ConstantLaws.{element_laws, pairs_laws}
 use Rattle.constantform.proofs.+check_constant_check_elements_check_pairs.Goals as goal
 

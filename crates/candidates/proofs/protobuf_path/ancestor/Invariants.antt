@@ -6,6 +6,3 @@ use Rattle.candidates.proofs.protobuf_path.ancestor.Given as goal
 
 abbrev pub invariant-loop-k : goal.invariant-loop-k
 invariant-loop-k l = Climbed l.s l.i l.end l.k
-
-abbrev pub decreases-loop-k : goal.decreases-loop-k
-decreases-loop-k l = l.i - l.k
