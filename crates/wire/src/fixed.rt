@@ -15,7 +15,7 @@ fn put_little(out: &mut [u8], at: usize, v: u64, width: usize) -> usize
         octets::put(out, at + i, (x % 256) as u8);
         x /= 256;
     }
-    at + i
+    at + width
 }
 
 // The number of the `width` bytes at a place.
@@ -25,9 +25,7 @@ fn little_at(s: &[u8], at: usize, width: usize) -> u64
     ensures { (result ≡ little (part s.now at (at + width))) × (result < 256 ^ width) }
 {
     let mut n: u64 = 0;
-    let mut i = width;
-    while 0 < i {
-        i -= 1;
+    for i in (0..width).rev() {
         n = n * 256 + (octets::byte_at(s, at + i) as u64);
     }
     n

@@ -1,6 +1,5 @@
 -- `candidates::protobuf_path::ancestor` meets its contract.
 -- Assumes nothing.
-use Rattle.std.specs.Prelude.{◌-◌}
 use Rattle.candidates.proofs.CandidateLaws.{Climbed}
 use Rattle.candidates.proofs.protobuf_path.ancestor.Given as goal
 

@@ -1,6 +1,5 @@
 -- `wire::fixed::put_little` meets its contract, by its loop's invariant and laws.
 -- Assumes nothing.
-use Rattle.std.specs.Prelude.{◌-◌}
 use Rattle.wire.proofs.FixedLoops.{Filling}
 use Rattle.wire.proofs.fixed.put_little.Given as goal
 
