@@ -62,9 +62,7 @@ fn check_pairs(s: &[u8], from: usize, to: usize, left: usize) -> Result<(), Refu
         let Some(p) = pair_at(s, at, to) else {
             return Err(Refusal::BadRequest);
         };
-        let a = p.name.from;
-        let e = p.name.to;
-        if !good_pair_name(p.by, &s[a..e]) {
+        if !good_pair_name(p.by, &s[p.name.from..p.name.to]) {
             return Err(Refusal::BadRequest);
         }
         check_constant(s, p.tag, p.constant.from, p.constant.to, left)?;
