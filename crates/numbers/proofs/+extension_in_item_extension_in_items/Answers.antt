@@ -1,11 +1,8 @@
 -- What these functions promise follows from their laws.
 -- Assumes nothing.
 use Rattle.basis.proofs.Kit.{rules}
-use Rattle.numbers.proofs.NumberLaws.{in_item_laws, in_items_laws}
+use Rattle.numbers.proofs.NumberLaws.{in_items_laws}
 use Rattle.numbers.proofs.+extension_in_item_extension_in_items.Goals as goal
-
-pub extension_in_item-returns-in_err-name : goal.extension_in_item-returns-in_err-name
-extension_in_item-returns-in_err-name t c = rw c.from_residual.ensures (search (rules, in_item_laws, c.in_err-name.was))
 
 pub extension_in_items-returns-in-Some : goal.extension_in_items-returns-in-Some
 extension_in_items-returns-in-Some t c = search (rules, in_items_laws, c.in_ok-field.was)
