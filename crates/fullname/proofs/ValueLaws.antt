@@ -9,7 +9,8 @@ use Rattle.octets.specs.Octets.{same_bytes, big_at}
 use Rattle.field.specs.Leaf.{is_text, any_bytes, of_size, leaf_at}
 use Rattle.field.specs.Walk.{Walk}
 use Rattle.field.proofs.LeafLaws.{on-leaf-some}
-use Rattle.field.proofs.Seek.{seek, seek_is, seek_laws}
+use Rattle.field.proofs.Seek.{seek, seek_is}
+use Rattle.field.proofs.InFields.{sought_laws}
 use Rattle.sheet.specs.declared.declaration.Value.{Value}
 use Rattle.sheet.specs.Table.{name_tag, value_tag, signed_number_tag}
 use Rattle.sheet.specs.Declaration.{last_at, value_at}
@@ -93,4 +94,4 @@ module _ (s n : List ℕ) where
       q ∙ sym (seek_is None (first_of tells_valued) (value_named_at n s) (λ w. valued (value_named s n (values_in s w))) refl refl
       (λ t a e w. value-step t a e (values_in s w)) w)
 
-pub ruleset value_named_laws = (value-named-is, seek_laws)
+pub ruleset value_named_laws = (value-named-is, sought_laws)

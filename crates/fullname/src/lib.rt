@@ -17,6 +17,7 @@ ghost use Rattle.fullname.specs.inner.Ahead.{passing, is_message, declares_enum}
 
 use cursor::{Cursor, Next, next_scope, start};
 use field::Span;
+use field::fields::Fields;
 use path::protobuf_rel_path::{before, last_at};
 use reply::Refusal;
 use scope::lookup::{LookupScope, enum_named, named_at};
@@ -123,14 +124,11 @@ pub fn value_named(s: &[u8], values: Span, name: &[u8]) -> Option<Value>
     ensures { result ≡ valued (value_named s.now name.now
         (values_in s.now (walk s.now values.from values.to))) }
 {
-    let end = values.to;
-    let mut at = values.from;
-    while at < end {
-        let field = field::field_at(s, at, end)?;
+    for field in Fields::between(s, values.from, values.to) {
+        let field = field?;
         if let Some(v) = value_named_at(s, field.tag, field.from, field.to, name) {
             return Some(v);
         }
-        at = field.to;
     }
     None
 }

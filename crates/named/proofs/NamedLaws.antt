@@ -16,7 +16,8 @@ use Rattle.field.specs.declared.Span.{Span}
 use Rattle.field.specs.Leaf.{span, text, is_text, any_bytes, leaf_at}
 use Rattle.field.specs.Walk.{Walk, walk}
 use Rattle.field.proofs.LeafLaws.{leaf-good, leaf-tested, leaf-untested, on-leaf-some}
-use Rattle.field.proofs.Seek.{seek, seek_is, seek_laws}
+use Rattle.field.proofs.Seek.{seek, seek_is}
+use Rattle.field.proofs.InFields.{sought_laws}
 use Rattle.sheet.specs.declared.declaration.Declaration.{Declaration}
 use Rattle.sheet.specs.Table.{name_tag, extendee_tag, extension_tag, field_tag}
 use Rattle.sheet.specs.Declaration.{shape_at, declared_with, extension_at, message_field_at}
@@ -207,4 +208,4 @@ pub declaration-named-is : (k : ℕ) (s n : List ℕ) (p : LookupScope) (r : Opt
 declaration-named-is k s n p r q =
     q ∙ sym (declarations-seek (λ d. is_text s n d.name) k p.left s (walk s p.body.from p.body.to))
 
-pub ruleset declaration_named_laws = (declaration-named-is, seek_laws)
+pub ruleset declaration_named_laws = (declaration-named-is, sought_laws)

@@ -7,7 +7,8 @@ ghost use Rattle.scope.specs.Scope.{holding, declaration_named, extends as exten
 ghost use Rattle.scope.specs.inner.Answers.{InSheet, declared};
 ghost use Rattle.scope.specs.inner.Steps.{declaration_at, tells_declared, whose};
 
-use field::{Field, Span};
+use field::Span;
+use field::fields::Fields;
 use scope::lookup::{LookupScope, named_at};
 use sheet::declaration::Declaration;
 use sheet::table;
@@ -64,14 +65,11 @@ pub fn declaration_named(s: &[u8], scope: LookupScope, want: u8, name: &[u8]) ->
     requires { InSheet s.now scope }
     ensures { result ≡ declared (declaration_named want s.now name.now (holding s.now scope)) }
 {
-    let end = scope.body.to;
-    let mut at = scope.body.from;
-    while at < end {
-        let field = field::field_at(s, at, end)?;
+    for field in Fields::between(s, scope.body.from, scope.body.to) {
+        let field = field?;
         if let Some(d) = declaration_named_at(s, field.tag, field.from, field.to, want, name) {
             return Some(d);
         }
-        at = field.to;
     }
     None
 }

@@ -16,6 +16,7 @@ use Rattle.field.specs.Field.{field_at}
 use Rattle.field.specs.Walk.{Walk, walk}
 use Rattle.field.proofs.LeafLaws.{leaf_inside}
 use Rattle.field.proofs.Seek.{seek, seek_is, Seeking, seek-start, seek-next, seek_laws}
+use Rattle.field.proofs.InFields.{SeekingIn, sought-start, sought_laws}
 use Rattle.sheet.specs.declared.declaration.Declaration.{Declaration}
 use Rattle.sheet.specs.Table.{file_tag, message_tag, extension_tag, field_tag, package_tag, name_tag}
 use Rattle.sheet.specs.Tree.{none, message_in, items_in, files_in}
@@ -80,7 +81,7 @@ pub field-numbered-is : (k : ℕ) (s : List ℕ) (p : LookupScope) (r : Option D
     → r ≡ declared (field_numbered k (holding s p))
 field-numbered-is k s p r q = q ∙ sym (declarations-seek (has_number k) field_tag p.left s (walk s p.body.from p.body.to))
 
-pub ruleset field_numbered_laws = (field-numbered-is, seek_laws)
+pub ruleset field_numbered_laws = (field-numbered-is, sought_laws)
 
 -- ---- extension_in_item and extension_in_items
 module _ (good : Declaration → Bool) (d : ℕ) (s : List ℕ) (t a e : ℕ) where
@@ -159,17 +160,11 @@ pub ruleset in_file_laws = (in-file-other, in-file-unnamed, in-file-named, leaf_
 abbrev pub file_where : (good : Declaration → Bool) (s : List ℕ) (tag from to : ℕ) → Option Declaration
 file_where good s t a e = declared (first good (every_extension (file_at s t a e)))
 
-module _ (s m : List ℕ) (k to : ℕ) (h : to ≡ length s) where
-  pub extension-numbered-start : Seeking None (first_of tells_declared) (file_where (is_extension_of s m k) s) s 0 to 0
-  extension-numbered-start =
-      seek-start None (first_of tells_declared) (file_where (is_extension_of s m k) s) s 0 to (omega arith) (omega arith)
-
-  -- the loop is a premise so that a search reads from it where the sheet ends
-  pub extension-numbered-is : (r : Option Declaration) (i : ℕ)
-      → Seeking None (first_of tells_declared) (file_where (is_extension_of s m k) s) s 0 to i
-      → r ≡ seek None (first_of tells_declared) (file_where (is_extension_of s m k) s) (walk s 0 to)
+module _ (s m : List ℕ) (k : ℕ) where
+  pub extension-numbered-is : (r : Option Declaration)
+      → r ≡ seek None (first_of tells_declared) (file_where (is_extension_of s m k) s) (walk s 0 (length s))
       → r ≡ declared (extension_numbered s m k)
-  extension-numbered-is r i _ q = q ∙ rw (h, tree-files s) (sym (files (walk s 0 (length s))))
+  extension-numbered-is r q = q ∙ rw (tree-files s) (sym (files (walk s 0 (length s))))
     where
       files : (w : Walk) → declared (first (is_extension_of s m k) (every_extension (files_in s w)))
           ≡ seek None (first_of tells_declared) (file_where (is_extension_of s m k) s) w
@@ -178,7 +173,7 @@ module _ (s m : List ℕ) (k to : ℕ) (h : to ≡ length s) where
           (λ w. declared (first (is_extension_of s m k) (every_extension (files_in s w)))) refl refl
           λ t a e w. rw (every-extension-file s t a e (files_in s w), declared-append)
 
-pub ruleset extension_numbered_laws = (extension-numbered-start, extension-numbered-is, seek_laws)
+pub ruleset extension_numbered_laws = (extension-numbered-is, sought_laws)
 
 -- ---- declaration_of
 module _ (s m : List ℕ) (c : Scope) (k : ℕ) (r : Option Declaration) (q : r ≡ declared (field_numbered k c)) where

@@ -15,6 +15,7 @@ ghost use Rattle.numbers.specs.Number.{has_number, is_extension_of, field_number
 ghost use Rattle.numbers.specs.inner.Says.{says_number, field_says, extension_says, may_hold};
 
 use field::Span;
+use field::fields::Fields;
 use limits::MOST_MESSAGES;
 use named::{declaration_at, extends};
 use scope::lookup::LookupScope;
@@ -87,10 +88,8 @@ fn field_numbered(s: &[u8], scope: LookupScope, number: u32) -> Option<Declarati
     requires { InSheet s.now scope }
     ensures { result ≡ declared (field_numbered number (holding s.now scope)) }
 {
-    let end = scope.body.to;
-    let mut at = scope.body.from;
-    while at < end {
-        let field = field::field_at(s, at, end)?;
+    for field in Fields::between(s, scope.body.from, scope.body.to) {
+        let field = field?;
         let item = Span {
             from: field.from,
             to: field.to,
@@ -98,7 +97,6 @@ fn field_numbered(s: &[u8], scope: LookupScope, number: u32) -> Option<Declarati
         if let Some(d) = field_numbered_at(s, field.tag, item, number) {
             return Some(d);
         }
-        at = field.to;
     }
     None
 }
@@ -231,10 +229,8 @@ fn extension_in_file(
 fn extension_numbered(s: &[u8], message: &[u8], number: u32) -> Option<Declaration>
     ensures { result ≡ declared (extension_numbered s.now message.now number) }
 {
-    let end = s.len();
-    let mut at = 0;
-    while at < end {
-        let field = field::field_at(s, at, end)?;
+    for field in Fields::between(s, 0, s.len()) {
+        let field = field?;
         let item = Span {
             from: field.from,
             to: field.to,
@@ -242,7 +238,6 @@ fn extension_numbered(s: &[u8], message: &[u8], number: u32) -> Option<Declarati
         if let Some(d) = extension_in_file(s, field.tag, item, message, number) {
             return Some(d);
         }
-        at = field.to;
     }
     None
 }
