@@ -4,7 +4,7 @@ use Rattle.std.specs.Prelude.{◌≡◌, Bool, true, false, List, ℕ, ◌+◌, 
 use Rattle.basis.specs.Kit.{sym, ap, ◌∙◌}
 use Rattle.basis.proofs.Kit.{arith, eq-eqb, ne_eqb, not-true, not-false}
 use borrow.Author.Tests.{eqb-true}
-use Rattle.field.specs.Leaf.{any_bytes, leaf_at, span}
+use Rattle.field.specs.Leaf.{any_bytes, leaf_at}
 use Rattle.field.proofs.LeafLaws.{leaf-ordered, leaf_inside}
 use Rattle.inputs.specs.declared.due.Due.{Due}
 use Rattle.inputs.specs.inner.Due.{due_at, due_leaf}
@@ -32,8 +32,8 @@ leaf_due k s at d q r p = p ∙ ap due_leaf q ∙ due-leaf k s at
 pub payload-holds : (k : ℕ) (s : List ℕ) (at end : ℕ) (r : Option Span) → r ≡ leaf_at k any_bytes s at end → (u : Span) → r ≡ Some u
     → (size : ℕ) (b : Bool) → b ≡ eqb (u.to - u.from) size → b ≡ true → u.from + size ≤ end
 payload-holds k s at end r q u g size b p t =
-    let ordered = leaf-ordered k any_bytes s at end r q u.from u.to g in
-    let inside = leaf_inside k any_bytes s at end r q u.from u.to g in
+    let ordered = leaf-ordered k any_bytes s at end r q u g in
+    let inside = leaf_inside k any_bytes s at end r q u g in
     omega (arith, eqb-true (u.to - u.from) size (sym p ∙ t))
 
 pub input-within : (r : Option ℕ) (room : ℕ) → Fills r room → (n : ℕ) → r ≡ Some n → n ≤ room

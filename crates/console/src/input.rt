@@ -5,6 +5,7 @@ ghost use Rattle.field.specs.Leaf.{any_bytes, leaf_at};
 ghost use Rattle.console.specs.Input.{Fills};
 
 use crate::output::{hex_byte, number, text};
+use field::Span;
 use hexadecimal::digits::{Decoded, decode};
 use inputs::due::{Due, due_at, due_leaf};
 
@@ -67,6 +68,7 @@ fn too_much(verb: &[u8], most: usize) {
 }
 
 // The field at a place, which has to have this tag.
+#[tactic(auto, using(crate::proofs::InputLaws::leaf_due))]
 pub fn field_of(s: &[u8], at: usize, tag: u8) -> Option<Span>
     requires { at ≤ length s.now }
     ensures { result ≡ leaf_at tag any_bytes s.now at (length s.now) }

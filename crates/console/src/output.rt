@@ -1,8 +1,8 @@
 // The lines that programs print.
 ghost use Rattle.std.specs.Prelude.{◌≡◌, nat_abs};
 
-use field::part::span_in;
 use field::Span;
+use field::part::span_in;
 use hexadecimal::digits::glyph;
 use inputs::words::least;
 use reply::{Answer, NOWHERE};
@@ -13,10 +13,10 @@ pub fn text(bytes: &[u8]) {
 
 // The text of a span. One that is none of the bytes has none: this asks nothing of callers, who have spans that no contract speaks of.
 pub fn text_at(s: &[u8], span: Span) {
-    let Some(Span { from, to }) = span_in(s, span) else {
+    let Some(part) = span_in(s, span) else {
         return;
     };
-    text(&s[from..to]);
+    text(&s[part.from..part.to]);
 }
 
 pub fn number(n: u64) {
@@ -24,6 +24,7 @@ pub fn number(n: u64) {
 }
 
 // The size of a signed number. The least i32 has one that is no i32.
+#[tactic(auto, using(crate::proofs::OutputLaws::size_laws))]
 fn size(n: i32) -> u64
     ensures { result ≡ nat_abs n }
 {
@@ -41,10 +42,8 @@ pub fn hex_byte(b: u8) {
 
 // Bytes as hexadecimal digits, two a byte, with nothing between them.
 pub fn hex(bytes: &[u8]) {
-    let mut i = 0;
-    while i < bytes.len() {
+    for i in 0..bytes.len() {
         hex_byte(bytes[i]);
-        i += 1;
     }
 }
 
@@ -123,10 +122,8 @@ fn signed_word(w: i32) {
 pub fn words(what: &[u8], ws: &[u32], n: usize) {
     text(what);
     let end = least(n, ws.len());
-    let mut i = 0;
-    while i < end {
+    for i in 0..end {
         word(ws[i]);
-        i += 1;
     }
     text(b"\n");
 }
@@ -135,10 +132,8 @@ pub fn words(what: &[u8], ws: &[u32], n: usize) {
 pub fn signed_words(ws: &[i32], n: usize) {
     text(b"words");
     let end = least(n, ws.len());
-    let mut i = 0;
-    while i < end {
+    for i in 0..end {
         signed_word(ws[i]);
-        i += 1;
     }
     text(b"\n");
 }

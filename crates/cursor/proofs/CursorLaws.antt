@@ -11,7 +11,7 @@ use mathlib.Core.List.{append-nil}
 use borrow.Author.Tests.{eqb-true}
 use Rattle.basis.proofs.Never.{never}
 use Rattle.octets.specs.Octets.{part}
-use Rattle.field.specs.Field.{field_at, field}
+use Rattle.field.specs.Field.{field_at}
 use Rattle.field.specs.Leaf.{on_leaf}
 use Rattle.field.specs.Walk.{walk}
 use Rattle.field.proofs.FieldLaws.{field-bounds, field-ordered, field-inside}
@@ -56,11 +56,11 @@ module _ (L : Cursor → List Scope) (s t : List ℕ) (c : Cursor) (r : Option N
 -- ---- what a step answers
 module _ (L : Cursor → List Scope) (s t : List ℕ) (c : Cursor) where
   pub nexts-no-more : L c ≡ [] → Nexts L s t c None
-  nexts-no-more e = record { some = λ p c' q. never cc; none = λ q. e }
+  nexts-no-more e = record { some = λ n q. never cc; none = λ q. e }
 
-  pub nexts-at : (p : LookupScope) (c' : Cursor) → Steps L s t c p c' → Nexts L s t c (Some (next_of p c'))
-  nexts-at p c' k = record {
-    some = λ p₁ c₁ q. let u : p₁ ≡ p = cc in let v : c₁ ≡ c' = cc in rw (u, v) k;
+  pub nexts-at : (n : Next) → Steps L s t c n.scope n.rest → Nexts L s t c (Some n)
+  nexts-at n k = record {
+    some = λ m q. let u : m ≡ n = cc in rw u k;
     none = λ q. never cc;
   }
 
@@ -157,8 +157,8 @@ module _ (L : Cursor → List Scope) (s t : List ℕ) (c c' : Cursor) (k : Onwar
   onward-none : L c' ≡ [] → Nexts L s t c None
   onward-none e = nexts-no-more L s t c (k.rest ∙ e)
 
-  onward-at : (p : LookupScope) (c'' : Cursor) → InSheet s p → Stands s t c'' → L c' ≡ holding s p ∷ L c'' → Nexts L s t c (Some (next_of p c''))
-  onward-at p c'' l d e = nexts-at L s t c p c'' (record { lies = l; stands = d; is = k.rest ∙ e })
+  onward-at : (n : Next) → InSheet s n.scope → Stands s t n.rest → L c' ≡ holding s n.scope ∷ L n.rest → Nexts L s t c (Some n)
+  onward-at n l d e = nexts-at L s t c n (record { lies = l; stands = d; is = k.rest ∙ e })
 
 -- ---- next_here
 module _ (s t : List ℕ) (c : Cursor) (at file : ℕ)
@@ -206,7 +206,7 @@ module _ (s t : List ℕ) (c : Cursor) (at file : ℕ)
       pub here-at : n ≤ 1 → (p : LookupScope) → o ≡ Some p
           → Nexts (here s t) s t c (Some (next_of p (record { next = c.next; at = it.to; file = file + n })))
       here-at one p x =
-          onward-at (here s t) s t c _ k p _ (scope-lies s t c.next file pk it.to here-within here-inside o u p x) (here-stands one)
+          onward-at (here s t) s t c _ k (next_of p _) (scope-lies s t c.next file pk it.to here-within here-inside o u p x) (here-stands one)
           (here-open ∙ onto-some _ _ _ (scope-to s t c.next file pk it.to here-within here-inside o u p x))
 
 -- it stays at its packages
@@ -215,18 +215,18 @@ level-none next n g = never cc
 
 pub level-at : (n : Next) (next : ℕ) → n.rest.next ≡ next
     → (m : Next) → Some n ≡ Some m → m.rest.next ≡ next
-level-at n.scope n.rest next h m.scope m.rest g = let u : m.rest ≡ n.rest = cc in rw u h
+level-at n next h m g = let u : m ≡ n = cc in rw u h
 
 pub ruleset here_laws =
     (onward-start, here_end, here-cut, here-next, here-at, level-none, level-at, package-within, field-ordered, field-within, field-less)
 
 -- ---- next_scope
 module _ (s t : List ℕ) (c₀ c : Cursor) (k : Onward (ahead s t) s t c₀ c) (r : Option Next) (n : Nexts (here s t) s t c r) where
-  pub scopes-at : ((m : Next) → r ≡ Some m → m.rest.next ≡ c.next) → (m.scope : LookupScope) (m.rest : Cursor) → r ≡ Some m
+  pub scopes-at : ((m : Next) → r ≡ Some m → m.rest.next ≡ c.next) → (m : Next) → r ≡ Some m
       → Nexts (ahead s t) s t c₀ (Some m)
   scopes-at l m g =
-      let st = n.some m.scope m.rest g in
-      onward-at (ahead s t) s t c₀ c k m.scope m.rest st.lies st.stands (ahead-some s t c m.scope m.rest st.is (l m.scope m.rest g))
+      let st = n.some m g in
+      onward-at (ahead s t) s t c₀ c k m st.lies st.stands (ahead-some s t c m.scope m.rest st.is (l m g))
 
   module _ (g : r ≡ None) where
     pub scopes-end : length t < c.next → Nexts (ahead s t) s t c₀ None

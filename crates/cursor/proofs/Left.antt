@@ -2,11 +2,10 @@
 -- Assumes nothing.
 use Rattle.std.specs.Prelude.{◌≡◌, refl, List, [], ◌∷◌, ℕ, ◌<◌, length, Option, None, Some}
 use Rattle.basis.specs.Kit.{ap, ◌∙◌}
-use Rattle.scope.specs.declared.lookup.LookupScope.{LookupScope}
 use Rattle.cursor.specs.declared.Cursor.{Cursor}
 use Rattle.basis.specs.First.{collect}
 use Rattle.scope.specs.Scope.{Scope, holding}
-use Rattle.cursor.specs.inner.Cursor.{ahead, Stands, Nexts, next_of}
+use Rattle.cursor.specs.inner.Cursor.{ahead, Stands, Nexts}
 use Rattle.basis.proofs.FirstLaws.{collect-none, collect-some}
 use Rattle.cursor.proofs.CursorLaws.{nexts-less, nexts-lies}
 use Rattle.cursor.specs.declared.Next.{Next}

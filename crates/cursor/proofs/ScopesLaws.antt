@@ -57,8 +57,8 @@ module _ (s : List ℕ) (tag a e : ℕ) where
       go : (b : Bool) → l ≡ elim b [ true ↦ leaf_at package_tag any_bytes s a e | false ↦ None ] → Within l e
       go true q = record { ordered = leaf-ordered package_tag any_bytes s a e l q; inside = leaf_inside package_tag any_bytes s a e l q }
       go false q = record {
-        ordered = λ n m g. never cc;
-        inside = λ n m g. never cc;
+        ordered = λ p g. never cc;
+        inside = λ p g. never cc;
       }
 
   -- it says whether the field is a file, and which
@@ -67,8 +67,8 @@ module _ (s : List ℕ) (tag a e : ℕ) where
   unfolding file_in package_at
   file-package rest = go (eqb tag file_tag)
     where
-      file : ℕ → ℕ → List File
-      file n m = file_with (span n m) (span m e) (items_in most_messages s (walk s m e)) ∷ rest
+      file : Span → List File
+      file p = file_with p (span p.to e) (items_in most_messages s (walk s p.to e)) ∷ rest
 
       go : (b : Bool) → elim b [ true ↦ on_leaf rest (leaf_at package_tag any_bytes s a e) file | false ↦ rest ]
           ≡ on_leaf rest (elim b [ true ↦ leaf_at package_tag any_bytes s a e | false ↦ None ]) file

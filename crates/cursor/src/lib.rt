@@ -8,7 +8,7 @@ ghost use Rattle.path.specs.inner.Places.{names_from};
 ghost use Rattle.scope.specs.Scope.{holding};
 ghost use Rattle.scope.specs.inner.Answers.{InSheet, placed};
 ghost use Rattle.scopes.specs.Scopes.{follow as follow_of};
-ghost use Rattle.cursor.specs.inner.Cursor.{here, ahead, start_of, package_at, scope_at, Within, Stands, Nexts, next_of};
+ghost use Rattle.cursor.specs.inner.Cursor.{here, ahead, start_of, package_at, scope_at, Within, Stands, Nexts};
 
 use field::{Field, Span};
 use limits::MOST_MESSAGES;
@@ -34,6 +34,7 @@ pub struct Next {
 }
 
 // Before the first scope. A path with no names starts past its end.
+#[tactic(auto, using(crate::proofs::ScopesLaws::start_laws))]
 pub fn start(bare: bool) -> Cursor
     ensures { result ≡ start_of bare }
 {
@@ -52,6 +53,7 @@ pub fn start(bare: bool) -> Cursor
 }
 
 // The scope that the names from a place on lead to, each the first message of its name.
+#[tactic(auto, using(crate::proofs::ScopesLaws::follow_laws))]
 fn follow(s: &[u8], names: &[u8], next: usize, scope: LookupScope) -> Option<LookupScope>
     requires { InSheet s.now scope × (next ≤ suc (length names.now)) }
     ensures { result ≡ placed (follow_of s.now (names_from names.now next) (holding s.now scope)) }
@@ -60,14 +62,14 @@ fn follow(s: &[u8], names: &[u8], next: usize, scope: LookupScope) -> Option<Loo
     let mut at = next;
     while at <= names.len() {
         let end = component_end(names, at);
-        let inner = down(s, reached, &names[at..end])?;
-        reached = inner;
+        reached = down(s, reached, &names[at..end])?;
         at = end + 1;
     }
     Some(reached)
 }
 
 // The package of a field of the sheet that is a file.
+#[tactic(auto, using(crate::proofs::ScopesLaws::package_laws))]
 fn package_at(s: &[u8], tag: u8, from: usize, to: usize) -> Option<Span>
     requires { (from ≤ to) × (to ≤ length s.now) }
     ensures { result ≡ package_at s.now tag from to }
@@ -82,12 +84,12 @@ fn package_at(s: &[u8], tag: u8, from: usize, to: usize) -> Option<Span>
 fn files_in(package_name: Option<Span>) -> usize
     ensures { (result ≡ on_leaf 0 package_name (λ p. 1)) × (result ≤ 1) }
 {
-    let Some(_) = package_name else { return 0; };
-    1
+    if package_name.is_some() { 1 } else { 0 }
 }
 
 // The scope that a field of this package and this end gives, as the file of this index: the package is the names before the place, and
 // the others are followed.
+#[tactic(auto, using(crate::proofs::ScopesLaws::scope_laws))]
 fn scope_at(
     s: &[u8],
     package_name: Option<Span>,
@@ -110,17 +112,21 @@ fn scope_at(
         LookupScope {
             file: file,
             message: false,
-            body: Span { from: place.to, to: to },
+            body: Span {
+                from: place.to,
+                to: to,
+            },
             left: MOST_MESSAGES,
         },
     )
 }
 
 // The next scope of a file whose package is the names before the cursor's place.
+#[tactic(auto, using(crate::proofs::CursorLaws::here_laws))]
 fn next_here(s: &[u8], names: &[u8], cursor: Cursor) -> Option<Next>
     requires { Stands s.now names.now cursor }
     ensures next { Nexts (here s.now names.now) s.now names.now cursor result }
-    ensures level { (p : LookupScope) (c : Cursor) → result ≡ Some (next_of p c) → c.next ≡ cursor.next }
+    ensures level { (n : Next) → result ≡ Some n → n.rest.next ≡ cursor.next }
 {
     let end = s.len();
     let mut at = cursor.at;
@@ -146,17 +152,15 @@ fn next_here(s: &[u8], names: &[u8], cursor: Cursor) -> Option<Next>
 }
 
 // The next scope at the path.
+#[tactic(auto, using(crate::proofs::CursorLaws::scopes_laws))]
 pub fn next_scope(s: &[u8], names: &[u8], cursor: Cursor) -> Option<Next>
     requires { Stands s.now names.now cursor }
     ensures { Nexts (ahead s.now names.now) s.now names.now cursor result }
 {
     let mut c = cursor;
     loop {
-        if let Some(Next { scope, rest }) = next_here(s, names, c) {
-            return Some(Next {
-                scope: scope,
-                rest: rest,
-            });
+        if let Some(next) = next_here(s, names, c) {
+            return Some(next);
         }
         if names.len() < c.next {
             return None;

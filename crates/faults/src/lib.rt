@@ -17,6 +17,7 @@ pub struct Fault {
 }
 
 // What the step on the last part answers, where the writer of the constant answered this: its refusal is one of that part.
+#[tactic(auto, using(crate::proofs::FaultLaws::on_last_laws))]
 pub fn on_last(part: u32, wrote: Result<usize, Refusal>) -> Result<usize, Fault>
     ensures { result ≡ stepped_by part wrote }
 {

@@ -43,6 +43,7 @@ fn same_text(s: &[u8], p: Span, o: &[u8], q: Span) -> bool
 }
 
 // Whether two declarations, each of its own sheet, have one type, name and type path.
+#[tactic(auto, using(crate::proofs::LikenessLaws::same_whole_laws))]
 fn same_whole(s: &[u8], d: Declaration, o: &[u8], e: Declaration) -> bool
     requires lies { Lies d.name s.now }
     requires lies_2 { Lies d.shape.path s.now }
@@ -61,6 +62,7 @@ fn same_whole(s: &[u8], d: Declaration, o: &[u8], e: Declaration) -> bool
 }
 
 // Whether the declaration d of s is like that of o.
+#[tactic(auto, using(crate::proofs::LikenessLaws::is_like_laws))]
 fn is_like(s: &[u8], d: Declaration, o: &[u8], like: Like) -> bool
     requires lies { Lies d.name s.now }
     requires lies_2 { Lies d.shape.path s.now }
@@ -77,6 +79,7 @@ fn is_like(s: &[u8], d: Declaration, o: &[u8], like: Like) -> bool
 }
 
 // 1 where a scope stands so to the message that it is that, and the field that a payload says of is like it.
+#[tactic(auto, using(crate::proofs::LikenessLaws::in_field_laws))]
 pub fn in_field(s: &[u8], item: Span, way: Way, o: &[u8], like: Like) -> usize
     requires lies { Lies item s.now }
     requires placed { Placed o.now like }
@@ -88,18 +91,23 @@ pub fn in_field(s: &[u8], item: Span, way: Way, o: &[u8], like: Like) -> usize
         Way::Within(_) => return 0,
         Way::Off => return 0,
     }
-    let Some(d) = message_field_at(s, item.from, item.to) else { return 0; };
+    let Some(d) = message_field_at(s, item.from, item.to) else {
+        return 0;
+    };
     if is_like(s, d, o, like) { 1 } else { 0 }
 }
 
 // 1 where the extension that a payload says of is one of the message and is like it.
+#[tactic(auto, using(crate::proofs::LikenessLaws::in_extension_laws))]
 pub fn in_extension(s: &[u8], item: Span, message: &[u8], o: &[u8], like: Like) -> usize
     requires lies { Lies item s.now }
     requires placed { Placed o.now like }
     ensures { (result ≡ declared_likes (extension_likes message.now like o.now s.now)
         (extension_at s.now item.from item.to)) × (result ≤ 1) }
 {
-    let Some(d) = extension_at(s, item.from, item.to) else { return 0; };
+    let Some(d) = extension_at(s, item.from, item.to) else {
+        return 0;
+    };
     if extends(s, message, d) {
         if is_like(s, d, o, like) {
             return 1;

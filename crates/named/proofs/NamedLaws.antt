@@ -55,13 +55,13 @@ pub ruleset declaration_at_laws = (declaration-other, declaration-extension, dec
 
 -- ---- the name of a declaration and of a value is the leaf that its payload starts with
 abbrev pub Named : List ℕ → ℕ → ℕ → Span → Type 0
-Named s a e p = leaf_at name_tag any_bytes s a e ≡ Some (span p.from p.to)
+Named s a e p = leaf_at name_tag any_bytes s a e ≡ Some p
 
 module _ (s : List ℕ) (a e : ℕ) (d : Declaration) where
   declared-name : (q : Span) (x : Span) → leaf_at name_tag any_bytes s a e ≡ Some q → (h : Option Shape) → Some d ≡ declared_with q x h
       → Named s a e d.name
   declared-name q x y None p = never cc
-  declared-name q.from q.to x y (Some h) p = let u : d ≡ record { name = q; extendee = x; shape = h } = cc in rw u y
+  declared-name q x y (Some h) p = let u : d ≡ record { name = q; extendee = x; shape = h } = cc in rw u y
 
   none-declared : Some d ≡ None → ⊥
   none-declared p = never cc
@@ -71,13 +71,13 @@ module _ (s : List ℕ) (a e : ℕ) (d : Declaration) where
   extension-name =
       on-leaf-some None (Some d) (leaf_at name_tag any_bytes s a e) _ (Named s a e d.name) none-declared λ w y.
       on-leaf-some None (Some d) (leaf_at extendee_tag any_bytes s w.to e) _ (Named s a e d.name) none-declared
-      λ l _. declared-name w.from w.to l y (shape_at s l.to e)
+      λ l _. declared-name w l y (shape_at s l.to e)
 
   field-name : Some d ≡ message_field_at s a e → Named s a e d.name
   unfolding message_field_at
   field-name =
       on-leaf-some None (Some d) (leaf_at name_tag any_bytes s a e) _ (Named s a e d.name) none-declared λ p y.
-      declared-name p.from p.to (span 0 0) y (shape_at s p.to e)
+      declared-name p (span 0 0) y (shape_at s p.to e)
 
   -- whatever its tag, it is an extension or a field
   pub declaration-cases : (P : Type 0) (k t : ℕ) → (Some d ≡ extension_at s a e → P) → (Some d ≡ message_field_at s a e → P)
@@ -107,15 +107,15 @@ module _ (s : List ℕ) (a e : ℕ) (p : Span) (g : Named s a e p) (test : List 
       go : (b : Bool) → test (text s p) ≡ b → test (text s p) ≡ false
       go false z = z
       go true z =
-          let y = leaf-good name_tag test s a e (Some (span p.from p.to)) (sym g) p refl true (sym z) refl in
+          let y = leaf-good name_tag test s a e (Some p) (sym g) p refl true (sym z) refl in
           never cc
 
   name-yes : (it : Span) → l ≡ Some it → test (text s p) ≡ true
   name-yes it w =
       let f : leaf_at name_tag test s a e ≡ Some it = sym q ∙ w in
-      let h : leaf_at name_tag any_bytes s a e ≡ Some it = leaf-untested name_tag test s a e it.from it.to f in
-      let u : p ≡ span it.from it.to = cc in
-      rw u (leaf-tested name_tag test s a e it.from it.to f)
+      let h : leaf_at name_tag any_bytes s a e ≡ Some it = leaf-untested name_tag test s a e it f in
+      let u : p ≡ it = cc in
+      rw u (leaf-tested name_tag test s a e it f)
 
 -- ---- an answer that tells of something which its payload names, whatever that is
 module _ {A R : Type 0} (nothing : R) (tells : R → Option A) (name : A → Span) (s n : List ℕ) (a e : ℕ) (x : R)
@@ -136,7 +136,7 @@ module _ {A R : Type 0} (nothing : R) (tells : R → Option A) (name : A → Spa
     where
       go : (o : Option A) → tells x ≡ o → x ≡ told nothing (λ v. only_if (good v) x nothing) o
       go None p = bare p
-      go (Some v) p = rw (same v, name-yes s a e (name v) (starts v p) (same_bytes n) l q u.from u.to w)
+      go (Some v) p = rw (same v, name-yes s a e (name v) (starts v p) (same_bytes n) l q u w)
 
 declares-some : (r : Option Declaration) (d : Declaration) → tells_declared r ≡ Some d → Some d ≡ r
 declares-some None d p = never cc
@@ -162,7 +162,7 @@ module _ (good : Declaration → Bool) (k : ℕ) (s n : List ℕ) (t a e : ℕ) 
   pub declaration-same-name : (u : Span) → l ≡ Some u → ((d : Declaration) → good d ≡ is_text s n d.name)
       → (r : Option Declaration) → r ≡ declaration_at k s t a e → r ≡ declaration_where good k s t a e
   declaration-same-name u w same r p =
-      p ∙ same_name None tells_declared (λ d. d.name) s n a e (declaration_at k s t a e) starts good same l q u.from u.to w
+      p ∙ same_name None tells_declared (λ d. d.name) s n a e (declaration_at k s t a e) starts good same l q u w
       (declares-none (declaration_at k s t a e))
 
 pub ruleset declaration_named_at_laws = (declaration-other-name, declaration-same-name, declaration_at_laws)

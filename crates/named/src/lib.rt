@@ -13,6 +13,7 @@ use sheet::declaration::Declaration;
 use sheet::table;
 
 // The declaration that a field of a scope is, where its tag is `want`: an extension or a field. No other tag has any.
+#[tactic(auto, using(crate::proofs::NamedLaws::declaration_at_laws))]
 pub fn declaration_at(s: &[u8], tag: u8, from: usize, to: usize, want: u8) -> Option<Declaration>
     requires { (from ≤ to) × (to ≤ length s.now) }
     ensures { result ≡ declaration_at want s.now tag from to }
@@ -31,6 +32,7 @@ pub fn declaration_at(s: &[u8], tag: u8, from: usize, to: usize, want: u8) -> Op
 
 // The same, where it is of this name. The readers are called from here, and not through `declaration_at`: so they are compiled in line in
 // the loop below, and what they read is not copied on its way out.
+#[tactic(auto, using(crate::proofs::NamedLaws::declaration_named_at_laws))]
 fn declaration_named_at(
     s: &[u8],
     tag: u8,
@@ -57,6 +59,7 @@ fn declaration_named_at(
 }
 
 // The first extension of that name that the scope declares, or the first field: the first declaration of the tag `want`.
+#[tactic(auto, using(crate::proofs::NamedLaws::declaration_named_laws))]
 pub fn declaration_named(s: &[u8], scope: LookupScope, want: u8, name: &[u8]) -> Option<Declaration>
     requires { InSheet s.now scope }
     ensures { result ≡ declared (declaration_named want s.now name.now (holding s.now scope)) }

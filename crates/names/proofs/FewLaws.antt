@@ -27,17 +27,17 @@ module _ (d : ℕ) (s f : List ℕ) (c : Scope) (at end t a e : ℕ) (rest : Ite
       → length (declared_in s f c (item_in (message_in d s) s t a e rest)) ≤ end - at
   item-few inner =
       item-cases (λ g. length (declared_in s f c (g rest)) ≤ end - at) s a e (omega arith) d t
-      (λ _ h n m p.
-      let l = leaf-bounds name_tag any_bytes s a e (Some (span n m)) (sym p) n m refl in
+      (λ _ h n p.
+      let l = leaf-bounds name_tag any_bytes s a e (Some n) (sym p) n refl in
       let i = l.inside in
-      let j : at < m = omega (arith, l.starts, l.ordered) in
-      let g = f ++ text s (span n m) in
-      let x = message_scope c (record { name = span n m; body = span m e; inside = items_in (d - 1) s (walk s m e) }) in
-      let xs = declared_in s (inside g) x (items_in (d - 1) s (walk s m e)) in
-      one_more (record { name = g; what = message x }) (xs ++ declared_in s f c rest) at m end j (omega arith)
-      (both-few xs (declared_in s f c rest) m e end i z (inner h (inside g) x m) k))
+      let j : at < n.to = omega (arith, l.starts, l.ordered) in
+      let g = f ++ text s n in
+      let x = message_scope c (record { name = n; body = span n.to e; inside = items_in (d - 1) s (walk s n.to e) }) in
+      let xs = declared_in s (inside g) x (items_in (d - 1) s (walk s n.to e)) in
+      one_more (record { name = g; what = message x }) (xs ++ declared_in s f c rest) at n.to end j (omega arith)
+      (both-few xs (declared_in s f c rest) n.to e end i z (inner h (inside g) x n.to) k))
       (λ _ _ _. omega arith)
-      (λ _ _ _ _. omega arith)
+      (λ _ _ _. omega arith)
       (λ _ _ _. omega arith)
 
 level-few : (d : ℕ) (s f : List ℕ) (c : Scope) (at end : ℕ)
@@ -60,14 +60,14 @@ files-few s at end =
     let x = b.starts in
     let y = b.ordered in
     let z = b.inside in
-    file-cases (λ f. length (declared_by s k (f (files_in s w))) ≤ end - at) s t a e (omega (arith, h k)) λ n m p.
-    let l = leaf-bounds package_tag any_bytes s a e (Some (span n m)) (sym p) n m refl in
+    file-cases (λ f. length (declared_by s k (f (files_in s w))) ≤ end - at) s t a e (omega (arith, h k)) λ n p.
+    let l = leaf-bounds package_tag any_bytes s a e (Some n) (sym p) n refl in
     let i = l.inside in
-    let j : at ≤ m = omega (arith, l.starts, l.ordered) in
-    let f = file_with (span n m) (span m e) (items_in most_messages s (walk s m e)) in
-    let front = file_front (text s (span n m)) in
-    let here = both-few (declared_in s front (file_scope k f) f.items) (declared_by s (k + 1) (files_in s w)) m e end i z
-    (items-few most_messages s front (file_scope k f) m e) (h (k + 1)) in
+    let j : at ≤ n.to = omega (arith, l.starts, l.ordered) in
+    let f = file_with n (span n.to e) (items_in most_messages s (walk s n.to e)) in
+    let front = file_front (text s n) in
+    let here = both-few (declared_in s front (file_scope k f) f.items) (declared_by s (k + 1) (files_in s w)) n.to e end i z
+    (items-few most_messages s front (file_scope k f) n.to e) (h (k + 1)) in
     omega arith)
     at
 

@@ -41,9 +41,9 @@ module _ (d : ℕ) (s f : List ℕ) (c : Scope) (same : c.place.left ≡ d) (t a
       → All s (declared_in s f c (item_in (message_in d s) s t a e rest))
   item-stands inner =
       item-cases (λ g. All s (declared_in s f c (g rest))) s a e k d t
-      (λ _ z n m p. one_of (body-lies n m p, rw same refl) (every_append _ (inner z _ _ (rw same refl) m) k))
+      (λ _ z n p. one_of (body-lies n p, rw same refl) (every_append _ (inner z _ _ (rw same refl) n.to) k))
       (λ _ x p. one_of (places-within e (length s) x (extension-places s a e x (sym p)) h) k)
-      (λ _ n m p. one_of (body-lies n m p, refl) k)
+      (λ _ n p. one_of (body-lies n p, refl) k)
       (λ _ x p. k)
 
 -- at one depth, where it is so at the next

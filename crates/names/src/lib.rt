@@ -8,6 +8,7 @@ ghost use Rattle.names.specs.inner.Leads.{leads_at};
 use octets::same;
 
 // Whether the text goes on at a place with this name and a dot.
+#[tactic(auto, using(crate::proofs::LeadsLaws::leads_laws))]
 pub fn leads(text: &[u8], at: usize, name: &[u8]) -> bool
     requires { at ≤ length text.now }
     ensures { result ≡ leads_at text.now at name.now }

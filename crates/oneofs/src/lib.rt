@@ -11,7 +11,7 @@ ghost use Rattle.emit.specs.inner.Puts.{Puts};
 
 use emit::put_word;
 use limits::MOST_WORDS;
-use reply::{Answer, Refusal};
+use reply::{Answer, Cause, Refusal};
 
 // The words of fields.
 const PLAIN: u32 = 0;
@@ -28,15 +28,14 @@ pub const DECLARED: u32 = 0;
 pub const SYNTHETIC_LAST: u32 = 1;
 
 // How many real oneofs there are, empty ones too.
+#[tactic(auto, using(crate::proofs::CountingLaws::counting_laws))]
 fn count_reals(words: &[u32]) -> u32
     requires { length words.now ≤ most_words }
     ensures { result ≡ real_count words.now }
 {
     let mut count: u32 = 0;
-    let mut i = 0;
-    while i < words.len() {
+    for i in 0..words.len() {
         let w = words[i];
-        i += 1;
         if w == OPENS {
             count += 1;
         }
@@ -45,6 +44,7 @@ fn count_reals(words: &[u32]) -> u32
 }
 
 // The index of the first synthetic oneof.
+#[tactic(auto, using(crate::proofs::IndexLaws::first_laws))]
 fn first_synthetic(numbering: u32, reals: u32) -> u32
     ensures { result ≡ index_of numbering reals (oneof synthetic 0 0) }
 {
@@ -52,6 +52,7 @@ fn first_synthetic(numbering: u32, reals: u32) -> u32
 }
 
 // By how much a oneof moves the next index of the other kind: in order of declaration both kinds share one count.
+#[tactic(auto, using(crate::proofs::IndexLaws::step_laws))]
 fn shared_step(numbering: u32) -> u32
     ensures { (result ≡ index_of numbering 0 (oneof real 0 1)) × (result ≤ 1) }
 {
@@ -60,6 +61,7 @@ fn shared_step(numbering: u32) -> u32
 
 // Each field gives 0, or one more than the index of its oneof. `real` and `synthetic` are the indices that the next oneof of each kind has,
 // and `member` is what a member of the open one gives.
+#[tactic(auto, using(crate::proofs::WritingLaws::numbering_laws, crate::proofs::WritingLaws::numbering_optional))]
 fn put_fields(numbering: u32, reals: u32, words: &[u32], out: &mut [u32]) -> Result<usize, Cause>
     requires words_len_bound { length words.now ≤ most_words }
     requires reals_le_most_words { reals ≤ most_words }
@@ -70,10 +72,8 @@ fn put_fields(numbering: u32, reals: u32, words: &[u32], out: &mut [u32]) -> Res
     let mut synthetic = first_synthetic(numbering, reals);
     let mut member: u32 = 0;
     let mut n = 0;
-    let mut i = 0;
-    while i < words.len() {
+    for i in 0..words.len() {
         let w = words[i];
-        i += 1;
         if w == PLAIN {
             put_word(out, n, 0);
             member = 0;
@@ -103,6 +103,7 @@ fn put_fields(numbering: u32, reals: u32, words: &[u32], out: &mut [u32]) -> Res
 }
 
 // The oneof of each field, in a numbering of the caller's choice.
+#[tactic(auto, using(crate::proofs::FieldLaws::fields_laws), unfolding(crate::specs::Fields::lower_fields_by))]
 pub fn lower_fields_by(numbering: u32, words: &[u32], out: &mut [u32]) -> Answer
     ensures { Answered (lower_fields_by numbering words.now) out.old out.new result }
 {
@@ -119,7 +120,7 @@ pub fn lower_fields_by(numbering: u32, words: &[u32], out: &mut [u32]) -> Answer
             if out.len() < n {
                 return reply::refused(Refusal::NoRoom);
             }
-            put_fields(numbering, reals, words, out);
+            let _ = put_fields(numbering, reals, words, out);
             reply::done(n as u32)
         }
     }

@@ -24,28 +24,34 @@ fn lower(numbering: u32, payload: &[u8]) {
 }
 
 // The words at a place, in a numbering, and where the next case starts; 0 where the input is no such field.
+#[tactic(auto, using(console::proofs::InputLaws::input_laws))]
 fn lower_words(numbering: u32, s: &[u8], at: usize) -> usize
     requires { at ≤ length s.now }
     ensures { result ≤ length s.now }
 {
-    let Some(place) = field_of(s, at, WORDS) else { return 0; };
-    if !console::input::has_words(WORDS, place.from, place.to) {
+    let Some(words) = field_of(s, at, WORDS) else {
+        return 0;
+    };
+    if !console::input::has_words(WORDS, words.from, words.to) {
         return 0;
     }
-    lower(numbering, &s[place.from..place.to]);
-    place.to
+    lower(numbering, &s[words.from..words.to]);
+    words.to
 }
 
 // The same, of a case that starts with its numbering.
+#[tactic(auto, using(console::proofs::InputLaws::input_laws))]
 fn lower_numbered(s: &[u8], at: usize) -> usize
     requires { at ≤ length s.now }
     ensures { result ≤ length s.now }
 {
-    let Some(place) = field_of(s, at, NUMBERING) else { return 0; };
-    if !console::input::has_size(NUMBERING, place.from, place.to, 4) {
+    let Some(given) = field_of(s, at, NUMBERING) else {
+        return 0;
+    };
+    if !console::input::has_size(NUMBERING, given.from, given.to, 4) {
         return 0;
     }
-    lower_words(octets::u32_at(s, place.from), s, place.to)
+    lower_words(octets::u32_at(s, given.from), s, given.to)
 }
 
 // The case at a place, and where the next one starts; 0 where the input is no such fields.
@@ -77,6 +83,7 @@ fn lower_cases(s: &[u8]) {
 }
 
 // Standard input, read into a lent buffer.
+#[tactic(auto, using(console::proofs::InputLaws::input_laws))]
 fn run_over(buffer: &mut [u8]) {
     let Some(n) = console::input::read(buffer) else {
         return;

@@ -12,6 +12,7 @@ const KIND: u8 = 0x47;
 
 const WORDS: u8 = 0x48;
 
+#[tactic(auto, using(console::proofs::InputLaws::input_laws))]
 fn lower(kind: u32, payload: &[u8]) {
     let mut words = [0i32; MOST_PAYLOAD_WORDS];
     let n = inputs::words::signed_words_of(payload, &mut words);
@@ -24,20 +25,25 @@ fn lower(kind: u32, payload: &[u8]) {
 }
 
 // The case at a place, and where the next one starts; 0 where the input is no such fields.
+#[tactic(auto, using(console::proofs::InputLaws::input_laws))]
 fn lower_case(s: &[u8], at: usize) -> usize
     requires { at ≤ length s.now }
     ensures { result ≤ length s.now }
 {
-    let Some(place) = field_of(s, at, KIND) else { return 0; };
-    if !console::input::has_size(KIND, place.from, place.to, 4) {
+    let Some(kind) = field_of(s, at, KIND) else {
+        return 0;
+    };
+    if !console::input::has_size(KIND, kind.from, kind.to, 4) {
         return 0;
     }
-    let Some(held) = field_of(s, place.to, WORDS) else { return 0; };
-    if !console::input::has_words(WORDS, held.from, held.to) {
+    let Some(words) = field_of(s, kind.to, WORDS) else {
+        return 0;
+    };
+    if !console::input::has_words(WORDS, words.from, words.to) {
         return 0;
     }
-    lower(octets::u32_at(s, place.from), &s[held.from..held.to]);
-    held.to
+    lower(octets::u32_at(s, kind.from), &s[words.from..words.to]);
+    words.to
 }
 
 // All cases, of which there has to be one.
@@ -56,6 +62,7 @@ fn lower_cases(s: &[u8]) {
 }
 
 // Standard input, read into a lent buffer.
+#[tactic(auto, using(console::proofs::InputLaws::input_laws))]
 fn run_over(buffer: &mut [u8]) {
     let Some(n) = console::input::read(buffer) else {
         return;

@@ -82,7 +82,7 @@ module _ (bs : List ℕ) (x : Extent) where
   extent-own e =
       let g = read-given bs (λ v n. within bs 0 n) x e in
       let h = within_held bs 0 g.size x g.made in
-      let here : read_varint (take g.size bs) ≡ Some (read g.value g.size) = varint-own bs g.value g.size g.read in
+      let here : read_varint (take g.size bs) ≡ Some (read g.value g.size) = varint-own bs (read g.value g.size) g.read in
       rw (h.is, here)
 
   pub extent-eight : payload_at I64 bs ≡ Some x → x.size ≡ 8
@@ -100,27 +100,29 @@ module _ (bs : List ℕ) (x : Extent) where
       rw (within_held bs g.size g.value x g.made).is g.read
 
 -- ---- a payload at a place
-pub record PlacedAs (w : ℕ) (s : List ℕ) (at end p k v : ℕ) : Type 0 where
+pub record PlacedAs (w : ℕ) (s : List ℕ) (at end : ℕ) (p : Payload) : Type 0 where
   pub extent : Extent
   pub found : payload_at w (part s at end) ≡ Some extent
-  pub place : p ≡ at + extent.before
-  pub size : k ≡ extent.size
-  pub number : v ≡ said w (bytes_of (part s at end) extent)
+  pub place : p.at ≡ at + extent.before
+  pub size : p.size ≡ extent.size
+  pub number : p.number ≡ said w (bytes_of (part s at end) extent)
 
-module _ (w : ℕ) (s : List ℕ) (at end p k v : ℕ) where
-  pub payload-placed : payload_in w s at end ≡ Some (held p k v) → PlacedAs w s at end p k v
+module _ (w : ℕ) (s : List ℕ) (at end : ℕ) (p : Payload) where
+  pub payload-placed : payload_in w s at end ≡ Some p → PlacedAs w s at end p
   unfolding payload_in
   payload-placed = go (payload_at w (part s at end)) refl
     where
-      go : (o : Option Extent) → payload_at w (part s at end) ≡ o → placed w (part s at end) at o ≡ Some (held p k v) → PlacedAs w s at end p k v
+      go : (o : Option Extent) → payload_at w (part s at end) ≡ o → placed w (part s at end) at o ≡ Some p → PlacedAs w s at end p
       go None e q = never cc
-      go (Some x) e q = record { extent = x; found = e; place = cc; size = cc; number = cc }
+      go (Some x) e q =
+          let is : p ≡ held (at + x.before) x.size (said w (bytes_of (part s at end) x)) = cc in
+          rw is (record { extent = x; found = e; place = refl; size = refl; number = refl })
 
-  module _ (e : payload_in w s at end ≡ Some (held p k v)) where
-    pub payload-after : at ≤ p
+  module _ (e : payload_in w s at end ≡ Some p) where
+    pub payload-after : at ≤ p.at
     payload-after = let h = payload-placed e in omega (arith, h.place)
 
-    pub payload-inside : at ≤ end → p + k ≤ end
+    pub payload-inside : at ≤ end → p.at + p.size ≤ end
     payload-inside g =
         let h = payload-placed e in
         let room = extent-inside w (part s at end) h.extent h.found in
@@ -130,9 +132,9 @@ module _ (w : ℕ) (s : List ℕ) (at end p k v : ℕ) where
 -- as the callers of `payload_at` have it
 module _ (w : ℕ) (s : List ℕ) (at end : ℕ) (r : Option Payload) (e : r ≡ payload_in w s at end) (x : Payload) (q : r ≡ Some x) where
   pub whole-after : at ≤ x.at
-  whole-after = payload-after w s at end x.at x.size x.number (sym e ∙ q)
+  whole-after = payload-after w s at end x (sym e ∙ q)
 
   pub whole-inside : at ≤ end → x.at + x.size ≤ end
-  whole-inside = payload-inside w s at end x.at x.size x.number (sym e ∙ q)
+  whole-inside = payload-inside w s at end x (sym e ∙ q)
 
 pub ruleset payload_bounds = (whole-after, whole-inside)

@@ -5,7 +5,6 @@ use Rattle.basis.specs.Kit.{sym, ap, ◌∙◌}
 use Rattle.basis.proofs.Kit.{arith, eq-eqb, ne_eqb, not-true, not-false}
 use Rattle.basis.specs.First.{only_if}
 use Rattle.basis.proofs.Never.{never}
-use mathlib.Core.Path.{ap₂}
 use mathlib.Core.Bool.{or-false}
 use native.Mathlib.Nat.{add-zero, add-sub_cancel_left}
 use native.Mathlib.Decide.{ℕ_discrete}
@@ -50,9 +49,9 @@ read_none at (Some it) e = never cc
 read_none at None e = refl
 
 read-placed : (at : ℕ) (x : Read) (r : Option Read) → Some x ≡ at_place at r → r ≡ Some (read x.value (x.next - at))
-read-placed at x (Some it1) e =
-    let place : x.next ≡ at + it1.next = cc in
-    ap₂ Some (read (cc) (omega arith))
+read-placed at x (Some y) e =
+    let is : x ≡ read y.value (at + y.next) = cc in
+    rw (is, add-sub_cancel_left at y.next)
 read-placed at x None e = never cc
 
 module _ (s : List ℕ) (at end : ℕ) (r : Option Read) (p : r ≡ varint_at s at end) where
@@ -72,7 +71,7 @@ module _ (s : List ℕ) (at end : ℕ) (r : Option Read) (p : r ≡ varint_at s 
   module _ (x : Read) (q : r ≡ Some x) where
     pub varint-read : read_varint (part s at end) ≡ Some (read x.value (x.next - at))
     unfolding varint_at
-    varint-read = read-placed at x.value x.next (read_varint (part s at end)) (sym q ∙ p)
+    varint-read = read-placed at x (read_varint (part s at end)) (sym q ∙ p)
 
     pub next-after : at ≤ x.next
     next-after = omega (arith, varint-after s at end r p x q)
@@ -85,8 +84,8 @@ module _ (s : List ℕ) (at end : ℕ) (r : Option Read) (p : r ≡ varint_at s 
     varint-whole =
         let bs = part s at end in
         let n = x.next - at in
-        let room : 0 + n ≤ length bs = omega (arith, read-inside bs x.value n varint-read) in
-        rw add-zero at (in_whole VARINT s at end 0 n x.value (rw varint-read (within-whole bs 0 n room)) (rw (varint-own bs x.value n varint-read)))
+        let room : 0 + n ≤ length bs = omega (arith, read-inside bs (read x.value n) varint-read) in
+        rw add-zero at (in_whole VARINT s at end 0 n x.value (rw varint-read (within-whole bs 0 n room)) (rw (varint-own bs (read x.value n) varint-read)))
 
     module _ (h : end ≤ length s) where
       size : length (part s at end) ≡ end - at

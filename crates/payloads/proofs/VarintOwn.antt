@@ -8,7 +8,7 @@ use native.Mathlib.Nat.{le_trans, min-le_left}
 use native.Mathlib.Decide.{dec_lt}
 use lib.ListN.{length-take, take-append-drop}
 use lib.Seq.{take-take}
-use Rattle.varint.specs.Varint.{continued, read_within, read_varint, read}
+use Rattle.varint.specs.Varint.{continued, read_within, read_varint}
 use Rattle.varint.proofs.VarintLaws.{read-last, read-over, read_one, read_more, read-inside}
 use Rattle.varint.specs.declared.Read.{Read}
 
@@ -48,5 +48,5 @@ module _ (bs : List ℕ) (x : Read) (e : read_varint bs ≡ Some x) where
 -- what is read of the first k bytes is read of all
 pub varint-more : (k : ℕ) (bs : List ℕ) (x : Read) → read_varint (take k bs) ≡ Some x → read_varint bs ≡ Some x
 varint-more k bs x e =
-    let few : x.next ≤ k = le_trans (rw length-take at (read-inside (take k bs) x.value x.next e)) (min-le_left k _) in
-    rw (take-take x.next k bs few, take-append-drop x.next bs) at (varint-before (take k bs) x.value x.next e (drop x.next bs))
+    let few : x.next ≤ k = le_trans (rw length-take at (read-inside (take k bs) x e)) (min-le_left k _) in
+    rw (take-take x.next k bs few, take-append-drop x.next bs) at (varint-before (take k bs) x e (drop x.next bs))

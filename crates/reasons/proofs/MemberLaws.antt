@@ -44,7 +44,7 @@ module _ (k : ℕ) (s : List ℕ) (t a e : ℕ) where
       pub member-no-field : r ≡ None → None ≡ member_at k s t a e
       member-no-field u = ap field_name (sym u) ∙ field-member
 
-      pub member-field : (d : Declaration) → r ≡ Some d → Some (span d.name.from d.name.to) ≡ member_at k s t a e
+      pub member-field : (d : Declaration) → r ≡ Some d → Some d.name ≡ member_at k s t a e
       member-field d u = ap field_name (sym u) ∙ field-member
 
     module _ (g : k ≡ field_tag → ⊥) (r : Option Value) (q : r ≡ value_at s a e) where
@@ -55,7 +55,7 @@ module _ (k : ℕ) (s : List ℕ) (t a e : ℕ) where
       pub member-no-value : r ≡ None → None ≡ member_at k s t a e
       member-no-value u = ap value_name (sym u) ∙ value-member
 
-      pub member-value : (v : Value) → r ≡ Some v → Some (span v.name.from v.name.to) ≡ member_at k s t a e
+      pub member-value : (v : Value) → r ≡ Some v → Some v.name ≡ member_at k s t a e
       member-value v u = ap value_name (sym u) ∙ value-member
 
 pub ruleset member_at_laws = (member-other, member-no-field, member-field, member-no-value, member-value)
@@ -85,16 +85,16 @@ module _ (s : List ℕ) (a e : ℕ) (h : e ≤ length s) where
       go : (b c : Bool)
           → elim b [ true ↦ only_if c (field_name (message_field_at s a e)) (value_name (value_at s a e)) | false ↦ None ] ≡ Some p
           → Lies (length s) p.from p.to
-      go true true g = field-lies (message_field_at s a e) refl p.from p.to g
-      go true false g = value-lies (value_at s a e) refl p.from p.to g
+      go true true g = field-lies (message_field_at s a e) refl p g
+      go true false g = value-lies (value_at s a e) refl p g
       go false c g = never cc
 
 module _ (k : ℕ) (s : List ℕ) (t a e : ℕ) (r : Option Span) (q : r ≡ member_at k s t a e) (p : Span) (g : r ≡ Some p) (h : e ≤ length s) where
   pub member-ordered : p.from ≤ p.to
-  member-ordered = (member-lies s a e h k t p.from p.to (sym q ∙ g)).ordered
+  member-ordered = (member-lies s a e h k t p (sym q ∙ g)).ordered
 
   pub member-within : p.to ≤ length s
-  member-within = (member-lies s a e h k t p.from p.to (sym q ∙ g)).inside
+  member-within = (member-lies s a e h k t p (sym q ∙ g)).inside
 
 pub ruleset member_place_laws = (member-ordered, member-within)
 

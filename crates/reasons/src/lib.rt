@@ -51,6 +51,7 @@ pub fn holds(reason: Reason) -> bool
 }
 
 // This reason, where the test does not hold.
+#[tactic(auto, using(crate::proofs::ReasonLaws::or_no_laws))]
 pub fn or_no(test: bool, why: Why, index: usize, about: Span) -> Reason
     ensures { result ≡ or_no test why index about }
 {

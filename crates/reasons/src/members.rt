@@ -7,12 +7,13 @@ ghost use Rattle.reasons.specs.Reasons.{member_flaws};
 ghost use Rattle.reasons.specs.inner.Members.{member_at, leaf_onto, members_in, member_flaw};
 
 use crate::{Reason, Why, or_no};
-use field::{Field, Span, field_at};
+use field::{Span, field_at};
 use octets::same;
 use sheet::declaration::{message_field_at, value_at};
 use sheet::table;
 
 // The name of the field or the value that a field is, where its tag is `want`, the one or the other.
+#[tactic(auto, using(crate::proofs::MemberLaws::member_at_laws))]
 fn member_at(s: &[u8], tag: u8, item: Span, want: u8) -> Option<Span>
     requires { Lies item s.now }
     ensures { result ≡ member_at want s.now tag item.from item.to }
@@ -21,30 +22,32 @@ fn member_at(s: &[u8], tag: u8, item: Span, want: u8) -> Option<Span>
         return None;
     }
     if want == table::FIELD {
-        let d = message_field_at(s, item.from, item.to)?;
-        return Some(Span {
-            from: d.name.from,
-            to: d.name.to,
-        });
+        let field = message_field_at(s, item.from, item.to)?;
+        return Some(field.name);
     }
-    let v = value_at(s, item.from, item.to)?;
-    Some(Span {
-        from: v.name.from,
-        to: v.name.to,
-    })
+    let value = value_at(s, item.from, item.to)?;
+    Some(value.name)
 }
 
 // 1 where a field is such a member of this name.
+#[tactic(auto, using(crate::proofs::MemberLaws::one_named_laws))]
 fn one_named(s: &[u8], tag: u8, item: Span, want: u8, name: &[u8]) -> usize
     requires { Lies item s.now }
     ensures { (result ≡ count (is_text s.now name.now)
         (leaf_onto (member_at want s.now tag item.from item.to) [])) × (result ≤ 1) }
 {
-    let Some(place) = member_at(s, tag, item, want) else { return 0; };
-    if same(name, &s[place.from..place.to]) { 1 } else { 0 }
+    let Some(own) = member_at(s, tag, item, want) else {
+        return 0;
+    };
+    if same(name, &s[own.from..own.to]) {
+        1
+    } else {
+        0
+    }
 }
 
 // How many members have this name.
+#[tactic(auto, using(crate::proofs::MemberLaws::count_named_laws))]
 fn count_named(s: &[u8], body: Span, want: u8, name: &[u8]) -> usize
     requires { Lies body s.now }
     ensures { result ≡ count (is_text s.now name.now)
@@ -54,8 +57,13 @@ fn count_named(s: &[u8], body: Span, want: u8, name: &[u8]) -> usize
     let mut n = 0;
     let mut p = body.from;
     while p < end {
-        let Some(field) = field_at(s, p, end) else { return n; };
-        let item = Span { from: field.from, to: field.to };
+        let Some(field) = field_at(s, p, end) else {
+            return n;
+        };
+        let item = Span {
+            from: field.from,
+            to: field.to,
+        };
         n += one_named(s, field.tag, item, want, name);
         p = field.to;
     }
@@ -63,6 +71,7 @@ fn count_named(s: &[u8], body: Span, want: u8, name: &[u8]) -> usize
 }
 
 // A member that shares its name with another.
+#[tactic(auto, using(crate::proofs::MemberLaws::member_flaw_laws))]
 fn flaw_of_member(
     s: &[u8],
     tag: u8,
@@ -77,12 +86,15 @@ fn flaw_of_member(
     ensures { result ≡ member_flaw s.now why index (members_in want s.now (walk s.now body.from body.to))
         (member_at want s.now tag item.from item.to) }
 {
-    let Some(place) = member_at(s, tag, item, want) else { return Reason::Yes; };
-    let n = count_named(s, body, want, &s[place.from..place.to]);
-    or_no(n == 1, why, index, place)
+    let Some(name) = member_at(s, tag, item, want) else {
+        return Reason::Yes;
+    };
+    let n = count_named(s, body, want, &s[name.from..name.to]);
+    or_no(n == 1, why, index, name)
 }
 
 // The first member that shares its name with another.
+#[tactic(auto, using(crate::proofs::MemberLaws::member_flaws_laws))]
 pub fn flaw_of_members(s: &[u8], body: Span, want: u8, why: Why, index: usize) -> Reason
     requires { Lies body s.now }
     ensures { result ≡ member_flaws s.now why index
@@ -91,8 +103,13 @@ pub fn flaw_of_members(s: &[u8], body: Span, want: u8, why: Why, index: usize) -
     let end = body.to;
     let mut p = body.from;
     while p < end {
-        let Some(field) = field_at(s, p, end) else { return Reason::Yes; };
-        let item = Span { from: field.from, to: field.to };
+        let Some(field) = field_at(s, p, end) else {
+            return Reason::Yes;
+        };
+        let item = Span {
+            from: field.from,
+            to: field.to,
+        };
         if let Reason::No {
             why: w,
             index: i,

@@ -1,6 +1,6 @@
 -- A message's record that is written from its inside: its inside is moved on behind its head, and the head is put.
 -- Assumes nothing.
-use Rattle.std.specs.Prelude.{◌≡◌, refl, List, ◌++◌, ℕ, ◌+◌, ◌^◌, ◌≤◌, ◌<◌, length}
+use Rattle.std.specs.Prelude.{◌≡◌, refl, List, ℕ, ◌+◌, ◌^◌, ◌≤◌, ◌<◌, length}
 use Rattle.basis.specs.Kit.{◌∙◌}
 use Rattle.basis.proofs.Kit.{arith, add-one}
 use lib.ListN.{length-append}

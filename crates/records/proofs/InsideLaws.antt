@@ -1,18 +1,18 @@
 -- A message's record: what it holds is written behind the shortest head, and then enclosed. One set of laws for every enum that a writer
 -- answers.
 -- Assumes nothing.
-use Rattle.std.specs.Prelude.{◌≡◌, List, ◌++◌, ℕ, ◌+◌, ◌-◌, ◌^◌, ◌≤◌, ◌<◌, length}
+use Rattle.std.specs.Prelude.{◌≡◌, List, ℕ, ◌+◌, ◌-◌, ◌^◌, ◌≤◌, ◌<◌, length}
 use Rattle.basis.specs.Kit.{sym, ap, ◌∙◌, sets}
 use Rattle.basis.proofs.Kit.{arith, w64, Fits}
 use mathlib.Core.List.{append-nil}
 use lib.ListN.{length-append}
 use Rattle.octets.specs.inner.Laid.{Laid}
-use Rattle.records.specs.Records.{Recs, nil, message, head_of, encode}
+use Rattle.records.specs.Records.{Recs, nil, message, encode}
 use Rattle.records.specs.Made.{Made, holding}
 use Rattle.records.specs.inner.Emits.{bytes_most, Emits, Roomy}
 use Rattle.records.specs.inner.Enclosed.{shortest, Encloses}
 use Rattle.records.proofs.RecsLaws.{message-few}
-use Rattle.records.proofs.EmitsLaws.{Tells, Given, emits-next, emits-refused, refuses, emits-laid}
+use Rattle.records.proofs.EmitsLaws.{Tells, emits-next, emits-refused, refuses, emits-laid}
 
 -- what is enclosed is the record of a message
 message-laid : (n at k : ℕ) (x : Recs) → k ≡ length (encode x) → (l m l' : List ℕ) (r : ℕ) → m ≡ sets l (at + shortest n) (encode x)

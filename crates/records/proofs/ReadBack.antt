@@ -12,14 +12,14 @@ use lib.Seq.{take-append_seam, drop-append_seam}
 use borrow.Author.Tests.{eqb-true, le-leb}
 use Rattle.limits.specs.Figures.{most_number}
 use Rattle.types.specs.Types.{is_any, wire_of, VARINT, I64, I32, LEN}
-use Rattle.varint.specs.Varint.{varint, read_varint, read}
+use Rattle.varint.specs.Varint.{varint, read_varint}
 use Rattle.varint.proofs.VarintLaws.{varint-some, read-varint, varint-shortest}
 use Rattle.wire.specs.Tag.{tag_of, wire_type_of, wire_read}
 use Rattle.wire.specs.Fixed.{little_of}
 use Rattle.wire.specs.Numbers.{low32_of}
 use Rattle.wire.proofs.TagLaws.{number-of-tag-of, wire-type-of-tag-of, wire-read-lt, tag-of-good}
 use Rattle.wire.proofs.FixedLaws.{little-of-length}
-use Rattle.records.specs.Records.{Recs, number, message, payload, head_of, headed, sized, encode}
+use Rattle.records.specs.Records.{Recs, message, payload, head_of, headed, sized, encode}
 use Rattle.payloads.specs.Extent.{Extent, within, on_read, payload_at}
 use Rattle.records.specs.Raw.{Raw, behind_tag, front_of, raw_from, raw_of, raws_of, Proper}
 use Rattle.records.specs.Raw.{proper-nil, proper-number, proper-bytes, proper-message}

@@ -22,6 +22,7 @@ pub enum Body {
 }
 
 // A number's bytes on a type.
+#[tactic(auto, using(crate::proofs::RecordLaws::payload_laws), unfolding(crate::specs::Records::payload))]
 fn put_payload(out: &mut [u8], at: usize, typ: usize, bits: u64) -> usize
     requires { at < 2 ^ 63 }
     ensures { Laid out.old at (payload typ bits) out.new result }
@@ -61,6 +62,7 @@ fn put_head(out: &mut [u8], at: usize, number: u32, length: usize) -> usize
 }
 
 // How many bytes the head of a message has at the least: its tag, and a length of one byte.
+#[tactic(auto, using(crate::proofs::EnclosedLaws::head_laws))]
 pub fn shortest_head(number: u32) -> usize
     ensures is { result ≡ shortest number }
     ensures few { result ≤ 11 }
@@ -69,6 +71,7 @@ pub fn shortest_head(number: u32) -> usize
 }
 
 // How many bytes the head of a message has.
+#[tactic(auto, using(crate::proofs::EnclosedLaws::head_laws))]
 fn head_len(number: u32, size: usize) -> usize
     ensures is { result ≡ length (head_of number size) }
     ensures few { result ≤ 20 }
@@ -77,6 +80,7 @@ fn head_len(number: u32, size: usize) -> usize
 }
 
 // The inside of a message, which stands behind the shortest head at a place, is moved on behind its own.
+#[tactic(auto, using(crate::proofs::EnclosedLaws::way_laws))]
 fn make_way(out: &mut [u8], at: usize, number: u32, size: usize)
     requires { at + size < 2 ^ 62 }
     ensures { Moved out.old (at + shortest number) (at + length (head_of number size)) size out.new }
@@ -107,6 +111,7 @@ fn put_bytes(out: &mut [u8], at: usize, number: u32, bytes: &[u8]) -> usize
 }
 
 // The record of a body on a field of that shape.
+#[tactic(auto, using(crate::proofs::RecordLaws::record_laws), unfolding(crate::specs::Records::encode))]
 pub fn put_record(request: &[u8], shape: Shape, body: Body, out: &mut [u8], at: usize) -> usize
     requires in_body { InBody body request.now }
     requires request_bound { at + length request.now < 2 ^ 62 }

@@ -39,7 +39,7 @@ pub record HeldEnum (s : List ℕ) (end : ℕ) (x : Enumeration) : Type 0 where
   pub within : x.body.to ≤ end
 
 module _ (d : ℕ) (s : List ℕ) (end : ℕ) where
-  -- the message or the enum of the name n..m that a field a..e is
+  -- the message or the enum of the name q that a field a..e is
   module _ (a e : ℕ) (h : e ≤ end) (q : Span) (p : leaf_at name_tag any_bytes s a e ≡ Some q) where
     message-held : Held d s end (record { name = q; body = span q.to e; inside = items_in (d - 1) s (walk s q.to e) })
     message-held = record { inside = refl; ordered = leaf_inside name_tag any_bytes s a e (Some q) (sym p) q refl; within = h }
@@ -52,14 +52,14 @@ module _ (d : ℕ) (s : List ℕ) (end : ℕ) where
   messages-held =
       walk-holds s end (λ _ w. Every (Held d s end) (messages_of (items_in d s w))) (λ _. none_of) (λ _. none_of) λ _ t a e w b k.
       item-cases (λ f. Every (Held d s end) (messages_of (f (items_in d s w)))) s a e k d t
-      (λ _ _ n m p. one_of (message-held a e b.inside n m p) k) (λ _ _ _. k) (λ _ _ _ _. k) (λ _ _ _. k)
+      (λ _ _ q p. one_of (message-held a e b.inside q p) k) (λ _ _ _. k) (λ _ _ _. k) (λ _ _ _. k)
 
   enums-held : (at : ℕ) → Every (HeldEnum s end) (enums_of (items_in d s (walk s at end)))
   unfolding items_in
   enums-held =
       walk-holds s end (λ _ w. Every (HeldEnum s end) (enums_of (items_in d s w))) (λ _. none_of) (λ _. none_of) λ _ t a e w b k.
       item-cases (λ f. Every (HeldEnum s end) (enums_of (f (items_in d s w)))) s a e k d t
-      (λ _ _ _ _ _. k) (λ _ _ _. k) (λ _ n m p. one_of (enumeration-held a e b.inside n m p) k) (λ _ _ _. k)
+      (λ _ _ _ _. k) (λ _ _ _. k) (λ _ q p. one_of (enumeration-held a e b.inside q p) k) (λ _ _ _. k)
 
 -- ---- a scope that is gone down to
 module _ (s n : List ℕ) (p : LookupScope) where

@@ -8,7 +8,8 @@ ghost use Rattle.scope.specs.Scope.{holding, down as down_of, enum_named};
 ghost use Rattle.scope.specs.inner.Answers.{InSheet, placed, bodied};
 ghost use Rattle.scope.specs.inner.Steps.{body_at, body_named};
 
-use field::{Field, Span};
+use field::Span;
+use field::fields::Fields;
 use sheet::table;
 
 // A file or a message of the sheet, protobuf-parse's LookupScope2.
@@ -29,11 +30,11 @@ pub fn named_at(s: &[u8], from: usize, to: usize, name: &[u8]) -> Option<Span>
     requires { (from ≤ to) × (to ≤ length s.now) }
     ensures { result ≡ leaf_at name_tag (same_bytes name.now) s.now from to }
 {
-    let own_name = field::leaf_at(s, from, to, table::NAME)?;
-    if !octets::same(name, &s[own_name.from..own_name.to]) {
+    let place = field::leaf_at(s, from, to, table::NAME)?;
+    if !octets::same(name, &s[place.from..place.to]) {
         return None;
     }
-    Some(own_name)
+    Some(place)
 }
 
 // What stands after the name in a field of the tag `want` and of this name.
@@ -46,7 +47,10 @@ fn body_at(s: &[u8], tag: u8, from: usize, to: usize, want: u8, name: &[u8]) -> 
         return None;
     }
     let place = named_at(s, from, to, name)?;
-    Some(Span { from: place.to, to: to })
+    Some(Span {
+        from: place.to,
+        to: to,
+    })
 }
 
 // What stands after the name in the first field of that tag and name in the scope.
@@ -56,16 +60,11 @@ fn body_named(s: &[u8], scope: LookupScope, want: u8, name: &[u8]) -> Option<Spa
     ensures { result ≡ body_named want name.now s.now
         (walk s.now scope.body.from scope.body.to) }
 {
-    let end = scope.body.to;
-    let mut at = scope.body.from;
-    while at < end {
-        let Some(Field { tag, from, to }) = field::field_at(s, at, end) else {
-            return None;
-        };
-        if let Some(Span { from: a, to: e }) = body_at(s, tag, from, to, want, name) {
-            return Some(Span { from: a, to: e });
+    for field in Fields::between(s, scope.body.from, scope.body.to) {
+        let field = field?;
+        if let Some(body) = body_at(s, field.tag, field.from, field.to, want, name) {
+            return Some(body);
         }
-        at = to;
     }
     None
 }

@@ -4,6 +4,7 @@ use Rattle.std.specs.Prelude.{◌≡◌, refl, Bool, true, false, List, [], ◌�
 use Rattle.basis.specs.Kit.{sym, ap, ◌∙◌}
 use Rattle.basis.proofs.Kit.{arith}
 use lib.ListN.{get_elem?}
+use mathlib.Core.Option as option
 use Rattle.basis.proofs.Never.{never}
 use Rattle.octets.specs.Octets.{same_bytes}
 use Rattle.octets.proofs.SameBytes.{same_refl, same-sound}
@@ -52,7 +53,7 @@ module _ (s : List ℕ) where
       pub at : ℕ
       pub counted : i + k ≡ at
       pub file : File
-      pub is : get_elem? fs k ≡ Some file
+      pub is : get_elem? fs k ≡ option.some file
       pub gives : scope_in s t ns at file ≡ Some c
 
     pub comes : (i : ℕ) (fs : List File) (c : Scope) → Among c (scopes_in s t ns i fs) → Comes i fs c
@@ -68,7 +69,7 @@ module _ (s : List ℕ) where
     pub goes : (i : ℕ) (fs : List File) (c : Scope) → Comes i fs c → Among c (scopes_in s t ns i fs)
     goes i fs c r = go i fs r.k r.counted r.is
       where
-        go : (i : ℕ) (fs : List File) (k : ℕ) → i + k ≡ r.at → get_elem? fs k ≡ Some r.file → Among c (scopes_in s t ns i fs)
+        go : (i : ℕ) (fs : List File) (k : ℕ) → i + k ≡ r.at → get_elem? fs k ≡ option.some r.file → Among c (scopes_in s t ns i fs)
         go i [] k n e = never cc
         go i (f ∷ fs) zero n e =
             let q : f ≡ r.file = cc in

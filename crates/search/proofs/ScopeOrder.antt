@@ -1,11 +1,12 @@
 -- The scopes at a path, package by package: the order they stand in, and the files that give them.
 -- Assumes nothing.
-use Rattle.std.specs.Prelude.{◌≡◌, refl, true, List, [], ◌∷◌, ◌++◌, map, ℕ, zero, suc, ◌≤◌, ◌<◌, length, get_or, Some}
+use Rattle.std.specs.Prelude.{◌≡◌, refl, true, List, [], ◌∷◌, ◌++◌, map, ℕ, zero, suc, ◌≤◌, ◌<◌, length, get_or}
 use Rattle.basis.specs.Kit.{sym, ap, ◌∙◌}
 use Rattle.basis.proofs.Kit.{arith}
 use mathlib.Core.Path.{subst}
 use mathlib.Core.List.{append-nil, append_assoc}
 use lib.ListN.{get_elem?, length-append}
+use mathlib.Core.Option as option
 use Rattle.basis.proofs.Never.{never}
 use Rattle.field.specs.Leaf.{text}
 use Rattle.path.specs.Path.{Name, Path, components, spell, all_ident}
@@ -18,7 +19,7 @@ use Rattle.search.specs.Answers.{Gives, package_of, Earlier, fewer, sooner}
 use Rattle.basis.proofs.AmongLaws.{among-append-left, among-append-right, among-append-cases, ordered-append, ordered-mono}
 use Rattle.scopes.proofs.ScopeFiles.{same-components, components-same, Comes, comes, goes, follows, index, files-rise}
 
-get_or-map-some : {A B : Type 0} (g : A → B) (xs : List A) (k : ℕ) (x : A) (d : B) → get_elem? xs k ≡ Some x → get_or (map g xs) k d ≡ g x
+get_or-map-some : {A B : Type 0} (g : A → B) (xs : List A) (k : ℕ) (x : A) (d : B) → get_elem? xs k ≡ option.some x → get_or (map g xs) k d ≡ g x
 get_or-map-some g [] k x d e = never cc
 get_or-map-some g (y ∷ xs) zero x d e = let q : y ≡ x = cc in ap g q
 get_or-map-some g (y ∷ xs) (suc k) x d e = get_or-map-some g xs k x d e

@@ -60,7 +60,7 @@ module _ (s m : List ℕ) where
     compared-extends (Err w) q = never cc
     compared-extends (Ok d) q = go (extends s m d.found.declaration) q
       where
-        go : (b : Bool) → extended b d ≡ Extends c → Ok d ≡ Ok c
+        go : (b : Bool) → extended b d ≡ Extends c → ◌≡◌ {A = Result Candidate Refusal} (Ok d) (Ok c)
         go true q = let u : d ≡ c = cc in rw u
         go false q = never cc
 
@@ -68,7 +68,7 @@ module _ (s m : List ℕ) where
     compared-other (Err w) q = never cc
     compared-other (Ok d) q = go (extends s m d.found.declaration) q
       where
-        go : (b : Bool) → extended b d ≡ ExtendsOther c → Ok d ≡ Ok c
+        go : (b : Bool) → extended b d ≡ ExtendsOther c → ◌≡◌ {A = Result Candidate Refusal} (Ok d) (Ok c)
         go true q = never cc
         go false q = let u : d ≡ c = cc in rw u
 

@@ -14,6 +14,7 @@
 -- Assumes nothing.
 use Rattle.std.specs.Prelude.{◌≡◌, true, List, [], ◌++◌, map, ℕ, ◌<◌, length, get_or, Some}
 use Rattle.std.proofs.Math.ListN.{get_elem?}
+use mathlib.Core.Option as option
 use Rattle.field.specs.Leaf.{text, is_text}
 use Rattle.path.specs.Path.{Path, components, parent, last}
 use Rattle.candidates.specs.Candidates.{candidates, candidate}
@@ -53,7 +54,7 @@ pub record AnswersAt (s scope name : List ℕ) (c : Candidate) : Type 0 where
 -- ---- the files that the scopes at a path are of
 pub record Gives (s : List ℕ) (p : Path) (i : ℕ) (c : Scope) : Type 0 where
   pub file : File
-  pub is : get_elem? (tree_of s) i ≡ Some file
+  pub is : get_elem? (tree_of s) i ≡ option.some file
   pub rest : Path
   pub leads : components (text s file.package_name) ++ rest ≡ p
   pub follows : follow s rest (file_scope i file) ≡ Some c

@@ -11,13 +11,12 @@ use Rattle.payloads.specs.Value.{value_of}
 use Rattle.taken.specs.declared.Taken.TheVariants.{Record, Wrong}
 use Rattle.taken.specs.inner.Taking.{PayloadIn, unknown_taken, plain_taken, known_taken}
 use Rattle.payloads.specs.declared.Payload.{Payload}
-use Rattle.payloads.specs.inner.Placed.{held}
 
 -- ---- a payload in 65,536 bytes: its place, its size and the place after it are words
 module _ (p : Option Payload) (h : PayloadIn most_option_bytes p) (x : Payload) (e : p ≡ Some x) where
   room : x.at + x.size ≤ most_option_bytes
   unfolding PayloadIn
-  room = rw e x.at h
+  room = rw e at h
 
   pub place-fits : Fits w32 x.at
   place-fits = record { fits = omega (arith, room) }

@@ -22,15 +22,18 @@ pub enum Taken {
 }
 
 // Of a number that nothing declares.
+#[tactic(auto, using(crate::proofs::TakenLaws::unknown_laws))]
 pub fn take_unknown(payload: Option<Payload>) -> Taken
     requires { PayloadIn most_option_bytes payload }
     ensures { result ≡ unknown_taken payload }
 {
-    let Some(payload3) = payload else { return Taken::Wrong(Refusal::BadBytes); };
-    let next = payload3.at + payload3.size;
+    let Some(payload) = payload else {
+        return Taken::Wrong(Refusal::BadBytes);
+    };
+    let next = payload.at + payload.size;
     Taken::Record {
-        place: payload3.at as u32,
-        size: payload3.size as u32,
+        place: payload.at as u32,
+        size: payload.size as u32,
         value: 0,
         next: next,
     }
@@ -45,11 +48,13 @@ pub fn take_known(typ: usize, wire: u8, payload: Option<Payload>) -> Taken
     if wire_of(typ) != wire {
         return Taken::Wrong(Refusal::WireMismatch);
     }
-    let Some(payload3) = payload else { return Taken::Wrong(Refusal::BadBytes); };
+    let Some(payload) = payload else {
+        return Taken::Wrong(Refusal::BadBytes);
+    };
     Taken::Record {
-        place: payload3.at as u32,
-        size: payload3.size as u32,
-        value: value_of(typ, payload3.number),
-        next: payload3.at + payload3.size,
+        place: payload.at as u32,
+        size: payload.size as u32,
+        value: value_of(typ, payload.number),
+        next: payload.at + payload.size,
     }
 }

@@ -2,7 +2,7 @@
 -- Assumes nothing.
 use Rattle.std.specs.Prelude.{◌≡◌, Bool, List, ℕ, ◌+◌, ◌-◌, ◌≤◌, ◌<◌, Some, Option}
 use Rattle.basis.proofs.Kit.{arith}
-use Rattle.field.specs.Leaf.{leaf_at, span}
+use Rattle.field.specs.Leaf.{leaf_at}
 use Rattle.field.proofs.FieldLaws.{Bounds, field-ordered, field-within, field-less}
 use Rattle.field.proofs.LeafLaws.{leaf-bounds, leaf-within}
 use Rattle.console.proofs.InputLaws.{input_laws}

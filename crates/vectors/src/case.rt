@@ -1,11 +1,13 @@
 // The parts of an example.
-use field::Field;
 
 // The payload of the first field of a tag, empty where there is none.
+#[tactic(auto, using(crate::proofs::CaseLaws::case_laws))]
 pub fn part(c: &[u8], tag: u8) -> &[u8] {
     let mut at = 0;
     while at < c.len() {
-        let Some(field) = field::field_at(c, at, c.len()) else { return &c[..0]; };
+        let Some(field) = field::field_at(c, at, c.len()) else {
+            return &c[..0];
+        };
         if field.tag == tag {
             return &c[field.from..field.to];
         }
@@ -31,6 +33,7 @@ pub fn number_of(s: &[u8]) -> u64 {
 }
 
 // Whether the first n bytes are these.
+#[tactic(auto, using(console::proofs::OutputLaws::front_laws))]
 pub fn begins(s: &[u8], n: usize, want: &[u8]) -> bool {
     if n <= s.len() {
         return octets::same(&s[..n], want);

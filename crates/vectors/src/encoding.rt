@@ -1,7 +1,7 @@
 // The protobuf encoding document: varints and zigzag, both ways.
 use crate::case::{begins, number_of, word_of};
 use limits::MOST_VARINT;
-use varint::{Read, put_varint, varint_at, varint_len};
+use varint::{put_varint, varint_at, varint_len};
 use wire::numbers::{unzigzag, zigzag};
 
 // Whether a number is written as these bytes, and has that length, and is read back from all of them.
@@ -27,7 +27,9 @@ fn has_length(given: &[u8], n: usize) -> bool {
 
 // Whether a number is read at the front of these bytes, from n of them.
 fn reads(s: &[u8], v: u64, n: usize) -> bool {
-    let Some(read) = varint_at(s, 0, s.len()) else { return false; };
+    let Some(read) = varint_at(s, 0, s.len()) else {
+        return false;
+    };
     (read.value == v) & (read.next == n)
 }
 

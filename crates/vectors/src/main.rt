@@ -68,21 +68,23 @@ fn example(c: &[u8]) -> usize
     0
 }
 
+#[tactic(auto, using(crate::proofs::CaseLaws::run_laws))]
 fn run(s: &[u8]) {
     let mut held = 0;
     let mut at = 0;
     while at < s.len() {
-        let Some(Span { from, to }) = field_of(s, at, CASE) else {
+        let Some(case) = field_of(s, at, CASE) else {
             return;
         };
-        held += example(&s[from..to]);
-        at = to;
+        held += example(&s[case.from..case.to]);
+        at = case.to;
     }
     number(held as u64);
     text(b" held\n");
 }
 
 // Standard input, read into a lent buffer.
+#[tactic(auto, using(crate::proofs::CaseLaws::case_laws))]
 fn run_over(buffer: &mut [u8]) {
     let Some(n) = console::input::read(buffer) else {
         return;

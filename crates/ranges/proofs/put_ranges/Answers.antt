@@ -6,17 +6,11 @@ use Rattle.ranges.proofs.put_ranges.Goals as goal
 pub loop-i-init : goal.loop-i-init
 loop-i-init c = search ranging_laws
 
-pub shape_of-out-in_default : goal.shape_of-out-in_default
-shape_of-out-in_default c = search ranging_laws
-
 pub returns-in_default : goal.returns-in_default
 returns-in_default c = search ranging_laws
 
 pub loop-i-preserved : goal.loop-i-preserved
 loop-i-preserved c = search ranging_laws
-
-pub shape_of-out : goal.shape_of-out
-shape_of-out c = search ranging_laws
 
 pub returns : goal.returns
 returns c = search ranging_laws

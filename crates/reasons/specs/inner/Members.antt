@@ -11,7 +11,7 @@ use Rattle.std.specs.Prelude.{true, false, List, [], ◌∷◌, ℕ, eqb, None, 
 use Rattle.basis.specs.First.{only_if}
 use Rattle.basis.specs.Count.{once}
 use Rattle.field.specs.declared.Span.{Span}
-use Rattle.field.specs.Leaf.{span, text, is_text}
+use Rattle.field.specs.Leaf.{text, is_text}
 use Rattle.field.specs.Walk.{Walk, done, cut, step}
 use Rattle.sheet.specs.Table.{field_tag}
 use Rattle.sheet.specs.Declaration.{message_field_at, value_at}
@@ -24,11 +24,11 @@ use Rattle.sheet.specs.declared.declaration.Value.{Value}
 
 abbrev pub field_name : Option Declaration → Option Span
 field_name None = None
-field_name (Some d) = Some (span d.name.from d.name.to)
+field_name (Some d) = Some d.name
 
 abbrev pub value_name : Option Value → Option Span
 value_name None = None
-value_name (Some v) = Some (span v.name.from v.name.to)
+value_name (Some v) = Some v.name
 
 unfoldable pub member_at : (want : ℕ) (s : List ℕ) (tag from to : ℕ) → Option Span
 member_at k s t a e = elim (eqb t k) [
@@ -38,7 +38,7 @@ member_at k s t a e = elim (eqb t k) [
 
 abbrev pub leaf_onto : Option Span → List Span → List Span
 leaf_onto None ns = ns
-leaf_onto (Some p) ns = span p.from p.to ∷ ns
+leaf_onto (Some p) ns = p ∷ ns
 
 abbrev pub members_in : (want : ℕ) (s : List ℕ) → Walk → List Span
 members_in k s done = []
@@ -47,4 +47,4 @@ members_in k s (step t a e w) = leaf_onto (member_at k s t a e) (members_in k s 
 
 unfoldable pub member_flaw : (s : List ℕ) → Why → (index : ℕ) → List Span → Option Span → Reason
 member_flaw s w k ns None = Yes
-member_flaw s w k ns (Some l) = or_no (once (is_text s (text s (span l.from l.to))) ns) w k (span l.from l.to)
+member_flaw s w k ns (Some l) = or_no (once (is_text s (text s l)) ns) w k l

@@ -6,6 +6,3 @@ use Rattle.records.proofs.make_way.Goals as goal
 
 pub move_on-requires : goal.move_on-requires
 move_on-requires c = search (rules, way_laws)
-
-pub returns : goal.returns
-returns c = search way_laws

@@ -12,7 +12,6 @@ use Rattle.sheet.specs.declared.declaration.Value.{Value}
 use Rattle.sheet.specs.Members.{Enumeration}
 use Rattle.scope.specs.declared.lookup.LookupScope.{LookupScope}
 use Rattle.scope.specs.Scope.{Scope}
-use Rattle.field.specs.Leaf.{span}
 use Rattle.field.specs.declared.Span.{Span}
 
 pub record InSheet (s : List ℕ) (p : LookupScope) : Type 0 where
@@ -29,4 +28,4 @@ abbrev pub valued : Option Value → Option Value
 valued = told None Some
 
 abbrev pub bodied : Option Enumeration → Option Span
-bodied = told None (λ e. Some (span e.body.from e.body.to))
+bodied = told None (λ e. Some e.body)

@@ -27,7 +27,7 @@ use Rattle.sheet.specs.Tree.{Items, none, File, item_in, message_in, file_in}
 -- ---- answers
 abbrev pub tells_leaf : Option Span → Option Span
 tells_leaf None = None
-tells_leaf (Some p) = Some (span p.from p.to)
+tells_leaf (Some p) = Some p
 
 abbrev pub tells_declared : Option Declaration → Option Declaration
 tells_declared None = None
