@@ -17,7 +17,7 @@ every s = every_declared s
 
 -- ---- P1: the extension p.x, then the message o.F
 p1-bearers : map (nth (every p1)) (0 ∷ 1 ∷ 2 ∷ 5 ∷ [])
-    ≡ Is (Extension (record { name = span 13 14; extendee = span 17 20; shape = shape 5 13 1 0 0 })) 3
+    ≡ Is (Extension (record { name = span 13 14; extendee = span 17 20; shape = shape 5 13 1 (span 0 0) })) 3
     ∷ Is (Message (span 49 49)) 3 ∷ Beyond 0 ∷ Beyond 3 ∷ []
 unfolding every
 p1-bearers = refl

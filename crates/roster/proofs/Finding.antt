@@ -21,7 +21,7 @@ use Rattle.basis.specs.Kit.{sym, ◌∙◌}
 use Rattle.basis.proofs.Kit.{arith}
 use mathlib.Core.List.{append_assoc, append-nil}
 use lib.Seq.{length-take-le}
-use Rattle.field.specs.Field.{field_at, field}
+use Rattle.field.specs.Field.{field_at}
 use Rattle.field.specs.Walk.{Walk, done, cut, step, walk}
 use Rattle.field.proofs.FieldLaws.{field-bounds}
 use Rattle.field.proofs.Rest.{Rest, rest-start, rest_end, rest-cut, rest-step, rest-next}
@@ -83,7 +83,7 @@ module _ (f : ℕ → ℕ → ℕ → List Named) (s : List ℕ) (from to i at :
       finding-cut g = none_left (rest-cut _ (behind x.passed f) s to p x.left h r q g)
 
       pub finding-ahead : (here : Field) → r ≡ Some here → at ≤ here.from
-      finding-ahead here g = let b = field-bounds s p to r q here.tag here.from here.to g in omega (arith, x.ahead, b.starts)
+      finding-ahead here g = let b = field-bounds s p to r q here g in omega (arith, x.ahead, b.starts)
 
       module _ (here : Field) (g : r ≡ Some here) (after : List ℕ) (y : Nth) (z : Finds (f here.tag here.from here.to) k at room after y) where
         pub finding-hit : (b : Bearer) (n : ℕ) → y ≡ Is b n → Finds (in_turn f (walk s from to)) i at before after (Is b n)

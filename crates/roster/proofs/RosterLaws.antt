@@ -15,7 +15,7 @@ use Rattle.octets.specs.Octets.{part}
 use Rattle.octets.specs.inner.Laid.{Laid}
 use Rattle.octets.proofs.Parts.{part-nil, part_length}
 use Rattle.field.specs.declared.Span.{Span}
-use Rattle.field.specs.Field.{header, field_at, field}
+use Rattle.field.specs.Field.{header, field_at}
 use Rattle.field.specs.Leaf.{span, text, any_bytes, leaf_at}
 use Rattle.field.specs.Walk.{Walk, done, cut, step, walk}
 use Rattle.field.proofs.FieldLaws.{field_place_laws}
@@ -73,7 +73,7 @@ pub ruleset inside_laws = (point-fits, inside-spelt, inside-ends)
 -- ---- where a name starts
 pub leaf-ahead : (k : ℕ) (s : List ℕ) (a e : ℕ) (l : Option Span) → l ≡ leaf_at k any_bytes s a e → (p : Span) → l ≡ Some p
     → (at : ℕ) → at ≤ a → at < p.from
-leaf-ahead k s a e l q p g at h = omega (arith, (leaf-bounds k any_bytes s a e l q p.from p.to g).starts)
+leaf-ahead k s a e l q p g at h = omega (arith, (leaf-bounds k any_bytes s a e l q p g).starts)
 
 pub ruleset leaf_laws = (leaf-ahead, leaf-ordered, leaf-within)
 
@@ -93,7 +93,7 @@ module _ (s : List ℕ) (a e : ℕ) (d : Declaration) where
   extension-starts =
       on-leaf-some None (Some d) (leaf_at name_tag any_bytes s a e) _ (d.name.from ≡ a + header) none-declared λ w p.
       on-leaf-some None (Some d) (leaf_at extendee_tag any_bytes s w.to e) _ (d.name.from ≡ a + header) none-declared λ q _.
-      shape-ahead w.from w.to q.from q.to p (shape_at s q.to e)
+      shape-ahead w q.from q.to p (shape_at s q.to e)
 
   pub extension-ahead : (x : Option Declaration) → x ≡ extension_at s a e → x ≡ Some d → (at : ℕ) → at ≤ a → at < d.name.from
   extension-ahead x q g at h = omega (arith, extension-starts (sym g ∙ q))
@@ -216,8 +216,8 @@ item-splits : (s q : List ℕ) (d t a e : ℕ) (rest : Items)
     → declared_in s q nowhere_in (item_in (message_in d s) s t a e rest) ≡ in_item s q d t a e ++ declared_in s q nowhere_in rest
 item-splits s q d t a e rest =
     item-cases (λ f. declared_in s q nowhere_in (f rest) ≡ declared_in s q nowhere_in (f none) ++ declared_in s q nowhere_in rest) s a e refl d t
-    (λ _ _ n m _. message-splits s q (span n m) (span m e) (items_in (d - 1) s (walk s m e)) rest)
-    (λ _ _ _. refl) (λ _ _ _ _. refl) (λ _ _ _. refl)
+    (λ _ _ n _. message-splits s q n (span n.to e) (items_in (d - 1) s (walk s n.to e)) rest)
+    (λ _ _ _. refl) (λ _ _ _. refl) (λ _ _ _. refl)
 
 items-gathered : (s q : List ℕ) (d : ℕ) (w : Walk) → declared_in s q nowhere_in (items_in d s w) ≡ in_turn (in_item s q d) w
 unfolding items_in
@@ -301,9 +301,9 @@ file-splits : (s : List ℕ) (t a e : ℕ) (rest : List File)
     → Same (in_file s t a e ++ declared_by s 0 rest) (declared_by s 0 (file_in s t a e rest))
 file-splits s t a e rest =
     file-cases (λ f. Same (declared_by s 0 (f []) ++ declared_by s 0 rest) (declared_by s 0 (f rest))) s t a e (same_refl _)
-    λ n m _.
-    let file = file_with (span n m) (span m e) (items_in most_messages s (walk s m e)) in
-    rw append-nil (same-append (same_refl (declared_in s (file_front (part s n m)) (file_scope 0 file) file.items)) (index_same s 0 1 rest))
+    λ n _.
+    let file = file_with n (span n.to e) (items_in most_messages s (walk s n.to e)) in
+    rw append-nil (same-append (same_refl (declared_in s (file_front (text s n)) (file_scope 0 file) file.items)) (index_same s 0 1 rest))
 
 files-gathered : (s : List ℕ) (w : Walk) → Same (in_turn (in_file s) w) (declared_by s 0 (files_in s w))
 files-gathered s done = same_refl []

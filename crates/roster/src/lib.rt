@@ -11,7 +11,7 @@ ghost use Rattle.scope.specs.inner.Steps.{item_at, file_at};
 ghost use Rattle.names.specs.Names.{inside, declared_in, declared_by, every_declared};
 ghost use Rattle.roster.specs.inner.Nth.{nowhere_in, Spelt, Finds};
 
-use field::{Field, Span, field_at, leaf_at};
+use field::{Span, field_at, leaf_at};
 use limits::MOST_MESSAGES;
 use octets::{put, put_all};
 use sheet::declaration::{Declaration, extension_at};
@@ -56,18 +56,23 @@ fn put_inside(s: &[u8], name: Span, room: &mut [u8], at: usize) -> usize
 }
 
 // An enum, as the first of what a scope declares.
+#[tactic(auto, using(crate::proofs::RosterLaws::enum_laws))]
 fn nth_enum(s: &[u8], item: Span, room: &mut [u8], at: usize, i: usize) -> Nth
     requires lies { Lies item s.now }
     requires at_le_from { (at ≤ item.from) × (length s.now ≤ length room.old) }
     ensures { Finds (declared_in s.now (take at room.old) nowhere_in
         (enum_in s.now item.from item.to none)) i at room.old room.new result }
 {
-    let Some(own_name) = leaf_at(s, item.from, item.to, table::NAME) else { return Nth::Beyond(i); };
+    let Some(name) = leaf_at(s, item.from, item.to, table::NAME) else {
+        return Nth::Beyond(i);
+    };
     if i != 0 {
         return Nth::Beyond(i - 1);
     }
-    let name = own_name;
-    let values = Span { from: own_name.to, to: item.to };
+    let values = Span {
+        from: name.to,
+        to: item.to,
+    };
     let size = put_name(s, name, room, at);
     Nth::Is {
         bearer: Bearer::Enum(values),
@@ -76,13 +81,16 @@ fn nth_enum(s: &[u8], item: Span, room: &mut [u8], at: usize, i: usize) -> Nth
 }
 
 // An extension, likewise.
+#[tactic(auto, using(crate::proofs::RosterLaws::extension_laws))]
 fn nth_extension(s: &[u8], item: Span, room: &mut [u8], at: usize, i: usize) -> Nth
     requires lies { Lies item s.now }
     requires at_le_from { (at ≤ item.from) × (length s.now ≤ length room.old) }
     ensures { Finds (declared_in s.now (take at room.old) nowhere_in
         (extension_in (extension_at s.now item.from item.to) none)) i at room.old room.new result }
 {
-    let Some(d) = extension_at(s, item.from, item.to) else { return Nth::Beyond(i); };
+    let Some(d) = extension_at(s, item.from, item.to) else {
+        return Nth::Beyond(i);
+    };
     if i != 0 {
         return Nth::Beyond(i - 1);
     }
@@ -134,9 +142,13 @@ fn nth_in_message(s: &[u8], item: Span, left: usize, room: &mut [u8], at: usize,
         return Nth::Beyond(i);
     }
     let end = item.to;
-    let Some(own_name) = leaf_at(s, item.from, end, table::NAME) else { return Nth::Beyond(i); };
-    let name = own_name;
-    let within = Span { from: own_name.to, to: end };
+    let Some(name) = leaf_at(s, item.from, end, table::NAME) else {
+        return Nth::Beyond(i);
+    };
+    let within = Span {
+        from: name.to,
+        to: end,
+    };
     if i == 0 {
         let size = put_name(s, name, room, at);
         return Nth::Is {
@@ -160,8 +172,13 @@ fn nth_in_items(s: &[u8], body: Span, left: usize, room: &mut [u8], at: usize, i
     let mut k = i;
     let mut p = body.from;
     while p < end {
-        let Some(field) = field_at(s, p, end) else { return Nth::Beyond(k); };
-        let item = Span { from: field.from, to: field.to };
+        let Some(field) = field_at(s, p, end) else {
+            return Nth::Beyond(k);
+        };
+        let item = Span {
+            from: field.from,
+            to: field.to,
+        };
         match nth_in_item(s, field.tag, item, left, room, at, k) {
             Nth::Is { bearer, size } => {
                 return Nth::Is {
@@ -177,6 +194,7 @@ fn nth_in_items(s: &[u8], body: Span, left: usize, room: &mut [u8], at: usize, i
 }
 
 // The i-th of what a field of a sheet declares.
+#[tactic(auto, using(crate::proofs::RosterLaws::file_laws, crate::proofs::RosterLaws::leaf_laws, field::proofs::LeafLaws::leaf_inside))]
 fn nth_in_file(s: &[u8], tag: u8, item: Span, room: &mut [u8], i: usize) -> Nth
     requires lies { Lies item s.now }
     requires s_in_bounds { length s.now ≤ length room.old }
@@ -187,17 +205,22 @@ fn nth_in_file(s: &[u8], tag: u8, item: Span, room: &mut [u8], i: usize) -> Nth
         return Nth::Beyond(i);
     }
     let end = item.to;
-    let Some(package) = leaf_at(s, item.from, end, table::PACKAGE) else { return Nth::Beyond(i); };
-    let within = Span { from: package.to, to: end };
+    let Some(package) = leaf_at(s, item.from, end, table::PACKAGE) else {
+        return Nth::Beyond(i);
+    };
+    let within = Span {
+        from: package.to,
+        to: end,
+    };
     if package.from == package.to {
         return nth_in_items(s, within, MOST_MESSAGES, room, 0, i);
     }
-    let name = package;
-    let size = put_inside(s, name, room, 0);
+    let size = put_inside(s, package, room, 0);
     nth_in_items(s, within, MOST_MESSAGES, room, size, i)
 }
 
 // The i-th of all messages, enums and extensions of the sheet, its full name at the front of the room.
+#[tactic(auto, using(crate::proofs::RosterLaws::declared_laws))]
 pub fn nth_declared(s: &[u8], room: &mut [u8], i: usize) -> Nth
     requires { length s.now ≤ length room.old }
     ensures { Finds (every_declared s.now) i 0 room.old room.new result }
@@ -206,8 +229,13 @@ pub fn nth_declared(s: &[u8], room: &mut [u8], i: usize) -> Nth
     let mut k = i;
     let mut p = 0;
     while p < end {
-        let Some(field) = field_at(s, p, end) else { return Nth::Beyond(k); };
-        let item = Span { from: field.from, to: field.to };
+        let Some(field) = field_at(s, p, end) else {
+            return Nth::Beyond(k);
+        };
+        let item = Span {
+            from: field.from,
+            to: field.to,
+        };
         match nth_in_file(s, field.tag, item, room, k) {
             Nth::Is { bearer, size } => {
                 return Nth::Is {

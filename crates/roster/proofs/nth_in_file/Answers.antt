@@ -11,20 +11,11 @@ returns-then-tag-ne-FILE c = search (rules, file_laws, leaf_inside, leaf_laws)
 pub returns-in_default : goal.returns-in_default
 returns-in_default c = search (rules, file_laws, leaf_inside, leaf_laws)
 
-pub nth_in_items-requires-clause-lies : goal.nth_in_items-requires-clause-lies
-nth_in_items-requires-clause-lies c = search (rules, file_laws, leaf_inside, leaf_laws)
-
-pub returns-then-from-body : goal.returns-then-from-body
-returns-then-from-body c = search (rules, file_laws, leaf_inside, leaf_laws)
-
-pub put_inside-size-requires-clause-lies : goal.put_inside-size-requires-clause-lies
-put_inside-size-requires-clause-lies c = search (rules, file_laws, leaf_inside, leaf_laws)
+pub returns-then-package : goal.returns-then-package
+returns-then-package c = search (rules, file_laws, leaf_inside, leaf_laws)
 
 pub put_inside-size-requires-clause-at_lt_from : goal.put_inside-size-requires-clause-at_lt_from
 put_inside-size-requires-clause-at_lt_from c = search (rules, file_laws, leaf_inside, leaf_laws)
-
-pub nth_in_items-requires-2-clause-lies : goal.nth_in_items-requires-2-clause-lies
-nth_in_items-requires-2-clause-lies c = search (rules, file_laws, leaf_inside, leaf_laws)
 
 pub returns : goal.returns
 returns c = search (rules, file_laws, leaf_inside, leaf_laws)
