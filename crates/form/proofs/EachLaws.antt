@@ -90,6 +90,35 @@ module _ (bad : Refusal) (f : ℕ → ℕ → ℕ → Verdict) (v : Verdict) (s 
 
 pub ruleset each_in_laws = (each-in-end, each-in-cut, each-in-ordered, each-in-within, each-in-refused, each-in-next)
 
+module _ (bad : Refusal) (f : ℕ → ℕ → ℕ → ℕ → Verdict) (v : Verdict) (s : List ℕ) (to n : ℕ) (it : Fields)
+    (k : RestIn v (each_from bad f n) s to it) where
+  pub each-from-in-end : it.end ≤ it.at → fine ≡ v
+  each-from-in-end h = sym (rest-in-end v (each_from bad f n) s to it k h)
+
+  module _ (it' : Fields) (o : Option Field) (x : Goes it it' o) where
+    pub each-from-in-cut : o ≡ None → Err bad ≡ v
+    each-from-in-cut g = sym (rest-in-cut v (each_from bad f n) s to it k it' o x g)
+
+    module _ (w : Field) (g : o ≡ Some w) where
+      pub each-from-in-ordered : w.from ≤ w.to
+      each-from-in-ordered = over-ordered k.over it' o x w g
+
+      pub each-from-in-within : to ≤ length s → w.to ≤ length s
+      each-from-in-within h = over-within k.over it' o x w g h
+
+      module _ (u : Verdict) (p : u ≡ f n w.tag w.from w.to) where
+        pub each-from-in-refused : (y : Refusal) → u ≡ Err y → Err y ≡ v
+        each-from-in-refused y e =
+            first-refused (f n w.tag w.from w.to) (each_from bad f (n + 1) (walk s w.to to)) y (sym p ∙ e)
+            ∙ sym (rest-in-step v (each_from bad f n) s to it k it' o x w g)
+
+        pub each-from-in-next : u ≡ fine → RestIn v (each_from bad f (n + 1)) s to it'
+        each-from-in-next e = rest-in-next v (each_from bad f n) s to it k it' o x w g (each_from bad f (n + 1))
+            (sym (first_fine (f n w.tag w.from w.to) (each_from bad f (n + 1) (walk s w.to to)) (sym p ∙ e)))
+
+pub ruleset each_from_in_laws =
+    (each-from-in-end, each-from-in-cut, each-from-in-ordered, each-from-in-within, each-from-in-refused, each-from-in-next)
+
 pub ruleset each_loop = (each-end, each-cut, each-refused, each_next)
 
 pub ruleset each_laws = (each_loop, field-within, field-less)

@@ -11,8 +11,9 @@ use Rattle.field.specs.Leaf.{leaf_at}
 use Rattle.form.specs.Each.{each}
 use Rattle.field.proofs.FieldLaws.{field-ordered}
 use Rattle.field.proofs.LeafLaws.{leaf_inside}
-use Rattle.field.proofs.Rest.{Rest, rest-start}
-use Rattle.form.proofs.EachLaws.{each_laws}
+use Rattle.form.proofs.EachLaws.{each_in_laws}
+use Rattle.field.specs.declared.fields.Fields.{Fields}
+use Rattle.field.proofs.InFields.{RestIn, rest-in-start}
 use Rattle.sheet.specs.Table.{message_tag, extension_tag, enum_tag, field_tag, value_tag, name_tag}
 use Rattle.declform.specs.Declarations.{is_extension, is_field, is_value}
 use Rattle.reply.specs.Verdicts.{beyond}
@@ -40,11 +41,13 @@ module _ (s : List ℕ) (a e : ℕ) (r : Option Span) (q : r ≡ leaf_at name_ta
   unfolding judge_enum
   enum-unnamed g = rw (← q, g)
 
-  pub enum-start : (p : Span) → r ≡ Some p → e ≤ length s → Rest (judge_enum s a e) (values s) s e p.to
+  pub enum-start : (p : Span) → r ≡ Some p → e ≤ length s → (it : Fields) → it.bytes.now ≡ s → it.at ≡ p.to → it.end ≡ e
+      → RestIn (judge_enum s a e) (values s) s e it
   unfolding judge_enum
-  enum-start p g h = rw (← q, g) (rest-start (values s) s p.to e (leaf_inside name_tag is_ident s a e r q p g) h)
+  enum-start p g h it b i n =
+      rest-in-start (judge_enum s a e) (values s) s p.to e it (rw (← q, g)) b i n (leaf_inside name_tag is_ident s a e r q p g) h
 
-pub ruleset enum_laws = (enum-unnamed, enum-start, field-ordered, each_laws)
+pub ruleset enum_laws = (enum-unnamed, enum-start, leaf_inside, each_in_laws)
 
 -- ---- check_item
 module _ (d : ℕ) (fields : Bool) (s : List ℕ) (t a e : ℕ) where
@@ -89,11 +92,11 @@ abbrev pub items : ℕ → Bool → List ℕ → Walk → Verdict
 items d fields s = each BadSheet (judge_item (judge_message d s) fields s)
 
 pub items-start : (d : ℕ) (fields : Bool) (s : List ℕ) (a e : ℕ) → a ≤ e → e ≤ length s
-    → Rest (judge_items d fields s a e) (items d fields s) s e a
+    → (it : Fields) → it.bytes.now ≡ s → it.at ≡ a → it.end ≡ e → RestIn (judge_items d fields s a e) (items d fields s) s e it
 unfolding judge_items
-items-start d fields s a e h k = rest-start (items d fields s) s a e h k
+items-start d fields s a e h k it b i n = rest-in-start (judge_items d fields s a e) (items d fields s) s a e it refl b i n h k
 
-pub ruleset items_laws = (items-start, field-ordered, each_laws)
+pub ruleset items_laws = (items-start, each_in_laws)
 
 -- ---- check_message
 module _ (s : List ℕ) (a e : ℕ) where

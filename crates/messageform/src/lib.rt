@@ -5,6 +5,7 @@ ghost use Rattle.std.specs.Prelude.{◌≡◌, ◌≤◌, length};
 ghost use Rattle.messageform.specs.Form.{judge_value, judge_enum, judge_item, judge_message, judge_items};
 
 use declform::{is_extension, is_field, is_value};
+use field::fields::Fields;
 use reply::Refusal;
 use sheet::table;
 
@@ -29,13 +30,11 @@ fn check_enum(s: &[u8], from: usize, to: usize) -> Result<(), Refusal>
     let Some(name) = form::ident_at(s, from, to, table::NAME) else {
         return Err(Refusal::BadSheet);
     };
-    let mut at = name.to;
-    while at < to {
-        let Some(field) = field::field_at(s, at, to) else {
+    for field in Fields::between(s, name.to, to) {
+        let Some(field) = field else {
             return Err(Refusal::BadSheet);
         };
         check_value(s, field.tag, field.from, field.to)?;
-        at = field.to;
     }
     Ok(())
 }
@@ -102,13 +101,11 @@ pub fn check_items(
     requires { (from ≤ to) × (to ≤ length s.now) }
     ensures { result ≡ judge_items left fields s.now from to }
 {
-    let mut at = from;
-    while at < to {
-        let Some(field) = field::field_at(s, at, to) else {
+    for field in Fields::between(s, from, to) {
+        let Some(field) = field else {
             return Err(Refusal::BadSheet);
         };
         check_item(s, field.tag, field.from, field.to, left, fields)?;
-        at = field.to;
     }
     Ok(())
 }

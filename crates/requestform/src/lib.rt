@@ -10,6 +10,7 @@ use limits::MOST_REQUEST;
 use optionform::{check_option, check_parts};
 use path::protobuf_path::is_path;
 use path::protobuf_rel_path::{is_rel_or_empty, is_rel_path};
+use field::fields::Fields;
 use reply::Refusal;
 use request::table;
 
@@ -19,15 +20,13 @@ fn check_options(s: &[u8], from: usize, end: usize) -> Result<(), Refusal>
     requires { (from ≤ end) × (end ≤ length s.now) }
     ensures { result ≡ judge_options s.now from end }
 {
-    let mut at = from;
     let mut index = 0;
-    while at < end {
-        let Some(field) = field::field_at(s, at, end) else {
+    for field in Fields::between(s, from, end) {
+        let Some(field) = field else {
             return Err(Refusal::BadRequest);
         };
         check_option(s, index, field.tag, field.from, field.to)?;
         index += 1;
-        at = field.to;
     }
     Ok(())
 }

@@ -7,6 +7,7 @@ ghost use Rattle.sheetform.specs.Form.{judge_file, judge_files, judge_length, ju
 
 use limits::{MOST_FILES, MOST_MESSAGES, MOST_SHEET};
 use messageform::check_items;
+use field::fields::Fields;
 use reply::Refusal;
 use sheet::table;
 
@@ -33,16 +34,13 @@ fn check_file(s: &[u8], index: usize, tag: u8, from: usize, to: usize) -> Result
 fn check_files(s: &[u8]) -> Result<(), Refusal>
     ensures { result ≡ judge_files s.now }
 {
-    let end = s.len();
-    let mut at = 0;
     let mut index = 0;
-    while at < end {
-        let Some(field) = field::field_at(s, at, end) else {
+    for field in Fields::between(s, 0, s.len()) {
+        let Some(field) = field else {
             return Err(Refusal::BadSheet);
         };
         check_file(s, index, field.tag, field.from, field.to)?;
         index += 1;
-        at = field.to;
     }
     Ok(())
 }

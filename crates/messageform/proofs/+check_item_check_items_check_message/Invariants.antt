@@ -1,7 +1,7 @@
 -- `messageform::check_item`, `messageform::check_items` and `messageform::check_message`, a cycle of calls, meet their contracts.
 -- Assumes nothing.
-use Rattle.std.specs.Prelude.{◌+◌, ◌-◌, ◌*◌}
-use Rattle.field.proofs.Rest.{Rest}
+use Rattle.std.specs.Prelude.{◌+◌, ◌*◌}
+use Rattle.field.proofs.InFields.{RestIn}
 use Rattle.messageform.specs.Form.{judge_items}
 use Rattle.messageform.proofs.MessageLaws.{items}
 use Rattle.messageform.proofs.+check_item_check_items_check_message.Given as goal
@@ -15,8 +15,5 @@ decreases-check_items l = 3 * l.left + 2
 abbrev pub decreases-check_message : goal.decreases-check_message
 decreases-check_message l = 3 * l.left
 
-abbrev pub invariant-check_items-loop-at : goal.invariant-check_items-loop-at
-invariant-check_items-loop-at l = Rest (judge_items l.left l.fields l.s l.from l.to) (items l.left l.fields l.s) l.s l.to l.at
-
-abbrev pub decreases-check_items-loop-at : goal.decreases-check_items-loop-at
-decreases-check_items-loop-at l = l.to - l.at
+abbrev pub invariant-check_items-loop-field : goal.invariant-check_items-loop-field
+invariant-check_items-loop-field l = RestIn (judge_items l.left l.fields l.s l.fn.from l.fn.to) (items l.left l.fields l.s) l.s l.fn.to l.field-iterator
