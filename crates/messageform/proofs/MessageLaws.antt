@@ -9,7 +9,6 @@ use Rattle.reply.specs.Verdicts.{judged, Verdict}
 use Rattle.field.specs.Walk.{Walk}
 use Rattle.field.specs.Leaf.{leaf_at}
 use Rattle.form.specs.Each.{each}
-use Rattle.field.proofs.FieldLaws.{field-ordered}
 use Rattle.field.proofs.LeafLaws.{leaf_inside}
 use Rattle.form.proofs.EachLaws.{each_in_laws}
 use Rattle.field.specs.declared.fields.Fields.{Fields}

@@ -1,7 +1,7 @@
 -- Requests, and what a call is given alone: the ways through `check_options`, `check_request`, `check_scope`, `check_options_type`,
 -- `check_path` and `check_name`.
 -- Assumes nothing.
-use Rattle.std.specs.Prelude.{◌≡◌, Bool, ◌&&◌, List, ℕ, ◌+◌, ◌≤◌, ◌<◌, eqb, length, Err, None, Some, Ok, Option, Result}
+use Rattle.std.specs.Prelude.{◌≡◌, refl, Bool, ◌&&◌, List, ℕ, ◌+◌, ◌≤◌, ◌<◌, eqb, length, Err, None, Some, Ok, Option, Result}
 use Rattle.basis.proofs.Kit.{arith, lt-ltb, le-ltb}
 use mathlib.Core.Bool.{not}
 use Rattle.limits.specs.Figures.{most_request}
@@ -12,12 +12,13 @@ use Rattle.reply.proofs.VerdictLaws.{says}
 use Rattle.reply.specs.declared.Refusal.{Refusal}
 use Rattle.field.specs.Leaf.{leaf_at}
 use Rattle.field.proofs.LeafLaws.{leaf_inside}
-use Rattle.field.specs.Field.{field_at}
 use Rattle.field.specs.Walk.{walk}
-use Rattle.field.proofs.FieldLaws.{field-bounds, field-ordered}
-use Rattle.field.proofs.Rest.{Rest, rest-start}
+use Rattle.field.proofs.FieldLaws.{field-bounds}
 use Rattle.form.specs.Each.{each_from}
-use Rattle.form.proofs.EachLaws.{each_from_laws}
+use Rattle.form.proofs.EachLaws.{each_from_in_laws}
+use Rattle.field.specs.declared.fields.Fields.{Fields}
+use Rattle.field.specs.Fields.{Goes}
+use Rattle.field.proofs.InFields.{RestIn, rest-in-start}
 use Rattle.request.specs.Table.{scope_tag, options_type_tag}
 use Rattle.constantform.specs.Form.{bad_request}
 use Rattle.optionform.specs.Form.{parts_from, judge_option}
@@ -26,16 +27,20 @@ use Rattle.field.specs.declared.Field.{Field}
 use Rattle.field.specs.declared.Span.{Span}
 
 -- ---- check_options
-pub options-start : (s : List ℕ) (from to : ℕ) → from ≤ to → to ≤ length s
-    → Rest (judge_options s from to) (each_from BadRequest (judge_option s) 0) s to from
+pub options-start : (s : List ℕ) (from to : ℕ) → from ≤ to → to ≤ length s → (it : Fields) → it.bytes.now ≡ s → it.at ≡ from → it.end ≡ to
+    → RestIn (judge_options s from to) (each_from BadRequest (judge_option s) 0) s to it
 unfolding judge_options
-options-start s from to h k = rest-start (each_from BadRequest (judge_option s) 0) s from to h k
+options-start s from to h k it b i n =
+    rest-in-start (judge_options s from to) (each_from BadRequest (judge_option s) 0) s from to it refl b i n h k
 
 -- there are no more fields than bytes
-pub index-next : (s : List ℕ) (at end n : ℕ) (r : Option Field) → r ≡ field_at s at end → (f : Field) → r ≡ Some f → n ≤ at → n + 1 ≤ f.to
-index-next s at end n r q f g h = let b = field-bounds s at end r q f g in omega (arith, b.starts, b.ordered)
+pub index-next : (it it' : Fields) (o : Option Field) → Goes it it' o → (f : Field) → o ≡ Some f → (n : ℕ) → n ≤ it.at → n + 1 ≤ it'.at
+index-next it it' o x f g n h =
+    let b = field-bounds it.bytes.now it.at it.end o x.is f g in
+    let p : it'.at ≡ f.to = rw g at x.at in
+    omega (arith, b.starts, b.ordered)
 
-pub ruleset options_laws = (options-start, index-next, each_from_laws, field-ordered)
+pub ruleset options_laws = (options-start, index-next, each_from_in_laws)
 
 -- ---- check_request
 module _ (s : List ℕ) where

@@ -6,11 +6,11 @@ ghost use Rattle.std.specs.Prelude.{◌≡◌, ◌≤◌, length};
 ghost use Rattle.reply.specs.Verdicts.{Says};
 ghost use Rattle.requestform.specs.Form.{judge_options, judge_request, judge_scope, judge_options_type, judge_path, judge_name};
 
+use field::fields::Fields;
 use limits::MOST_REQUEST;
 use optionform::{check_option, check_parts};
 use path::protobuf_path::is_path;
 use path::protobuf_rel_path::{is_rel_or_empty, is_rel_path};
-use field::fields::Fields;
 use reply::Refusal;
 use request::table;
 

@@ -14,10 +14,10 @@ use Rattle.reply.proofs.VerdictLaws.{says, first-fine-front}
 use Rattle.field.specs.Walk.{Walk}
 use Rattle.field.specs.Leaf.{leaf_at}
 use Rattle.form.specs.Each.{each_from}
-use Rattle.field.proofs.FieldLaws.{field-ordered}
 use Rattle.field.proofs.LeafLaws.{leaf_inside}
-use Rattle.field.proofs.Rest.{Rest, rest-start}
-use Rattle.form.proofs.EachLaws.{each_from_laws}
+use Rattle.form.proofs.EachLaws.{each_from_in_laws}
+use Rattle.field.specs.declared.fields.Fields.{Fields}
+use Rattle.field.proofs.InFields.{RestIn, rest-in-start}
 use Rattle.sheet.specs.Table.{file_tag, package_tag}
 use Rattle.reply.specs.Verdicts.{judged, beyond, Verdict, fine}
 use Rattle.messageform.specs.Form.{bad_sheet, judge_items}
@@ -50,9 +50,9 @@ pub ruleset file_laws = (file-other, file-beyond, file-unnamed, file-items, leaf
 abbrev pub files : List ℕ → ℕ → Walk → Verdict
 files s = each_from BadSheet (judge_file s)
 
-pub files-start : (s : List ℕ) → Rest (judge_files s) (files s 0) s (length s) 0
+pub files-start : (s : List ℕ) (it : Fields) → it.bytes.now ≡ s → it.at ≡ 0 → it.end ≡ length s → RestIn (judge_files s) (files s 0) s (length s) it
 unfolding judge_files
-files-start s = rest-start (files s 0) s 0 (length s) (omega arith) (omega arith)
+files-start s it b i n = rest-in-start (judge_files s) (files s 0) s 0 (length s) it refl b i n (omega arith) (omega arith)
 
 -- a file that is fine is one of the first
 pub file-early : (s : List ℕ) (i t a e : ℕ) → fine ≡ judge_file s i t a e → i < most_files
@@ -68,7 +68,7 @@ file-early s i t a e = go (eqb t file_tag) (ltb i most_files) refl _
 pub file-counted : (s : List ℕ) (i t a e : ℕ) (u : Verdict) → u ≡ judge_file s i t a e → u ≡ fine → i + 1 < 2 ^ 64
 file-counted s i t a e u q g = omega (arith, file-early s i t a e (sym g ∙ q))
 
-pub ruleset files_laws = (files-start, file-counted, field-ordered, each_from_laws)
+pub ruleset files_laws = (files-start, file-counted, each_from_in_laws)
 
 -- ---- check_length
 module _ (s : List ℕ) where

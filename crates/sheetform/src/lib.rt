@@ -5,9 +5,9 @@ ghost use Rattle.std.specs.Prelude.{◌≡◌, ◌≤◌, length};
 ghost use Rattle.reply.specs.Verdicts.{Says};
 ghost use Rattle.sheetform.specs.Form.{judge_file, judge_files, judge_length, judge_sheet};
 
+use field::fields::Fields;
 use limits::{MOST_FILES, MOST_MESSAGES, MOST_SHEET};
 use messageform::check_items;
-use field::fields::Fields;
 use reply::Refusal;
 use sheet::table;
 
