@@ -14,10 +14,8 @@ fn ancestor(s: &[u8], i: usize) -> &[u8]
     ensures { result.now ≡ spell (get_or (ancestors (components s.now)) i []) }
 {
     let mut end = s.len();
-    let mut k = 0;
-    while k < i {
+    for k in 0..i {
         end = parent_end(s, end);
-        k += 1;
     }
     &s[..end]
 }

@@ -42,10 +42,8 @@ pub fn hex_byte(b: u8) {
 
 // Bytes as hexadecimal digits, two a byte, with nothing between them.
 pub fn hex(bytes: &[u8]) {
-    let mut i = 0;
-    while i < bytes.len() {
+    for i in 0..bytes.len() {
         hex_byte(bytes[i]);
-        i += 1;
     }
 }
 
@@ -124,10 +122,8 @@ fn signed_word(w: i32) {
 pub fn words(what: &[u8], ws: &[u32], n: usize) {
     text(what);
     let end = least(n, ws.len());
-    let mut i = 0;
-    while i < end {
+    for i in 0..end {
         word(ws[i]);
-        i += 1;
     }
     text(b"\n");
 }
@@ -136,10 +132,8 @@ pub fn words(what: &[u8], ws: &[u32], n: usize) {
 pub fn signed_words(ws: &[i32], n: usize) {
     text(b"words");
     let end = least(n, ws.len());
-    let mut i = 0;
-    while i < end {
+    for i in 0..end {
         signed_word(ws[i]);
-        i += 1;
     }
     text(b"\n");
 }

@@ -20,6 +20,9 @@ use Rattle.pair.specs.inner.Pair.{pair_at}
 use Rattle.pair.proofs.PairLaws.{Pairless, broken, unnamed, alone, cut_short, rest-pairless, rest-pair, rest-pair-next, pair_places}
 use Rattle.constantform.specs.Leaves.{is_constant, good_scalar, good_pair_name}
 use Rattle.reply.specs.Verdicts.{beyond}
+use Rattle.field.specs.declared.fields.Fields.{Fields}
+use Rattle.field.proofs.InFields.{RestIn, rest-in-start}
+use Rattle.form.proofs.EachLaws.{each_in_laws}
 use Rattle.constantform.specs.Form.{bad_request, pairs_of, constant_with, judge_constant, judge_elements, judge_pairs}
 use Rattle.constantform.proofs.LeafLaws.{pair-name-other}
 
@@ -61,12 +64,13 @@ pub ruleset constant_laws =
     (not-true, not-false, constant-other, constant-beyond, constant-message, constant-list, constant-scalar)
 
 -- ---- check_elements
-pub elements-start : (d : ℕ) (s : List ℕ) (from to : ℕ) → from ≤ to → to ≤ length s
-    → Rest (judge_elements d s from to) (each BadRequest (judge_constant d s)) s to from
+pub elements-start : (d : ℕ) (s : List ℕ) (from to : ℕ) (it : Fields) → it.bytes.now ≡ s → it.at ≡ from → it.end ≡ to → from ≤ to → to ≤ length s
+    → RestIn (judge_elements d s from to) (each BadRequest (judge_constant d s)) s to it
 unfolding judge_elements
-elements-start d s from to h k = rest-start (each BadRequest (judge_constant d s)) s from to h k
+elements-start d s from to it b a e h k =
+    rest-in-start (judge_elements d s from to) (each BadRequest (judge_constant d s)) s from to it refl b a e h k
 
-pub ruleset element_laws = (elements-start, each_laws, field-ordered)
+pub ruleset element_laws = (elements-start, each_in_laws)
 
 -- ---- check_pairs
 pub pairs_start : (d : ℕ) (s : List ℕ) (from to : ℕ) → from ≤ to → to ≤ length s

@@ -7,7 +7,7 @@ ghost use Rattle.std.specs.Prelude.{◌≡◌, ◌≤◌, length};
 ghost use Rattle.constantform.specs.Form.{judge_constant, judge_elements, judge_pairs};
 
 use crate::leaves::{good_pair_name, good_scalar, is_constant};
-use field::Field;
+use field::fields::Fields;
 use pair::pair_at;
 use reply::Refusal;
 use request::table;
@@ -41,13 +41,11 @@ fn check_elements(s: &[u8], from: usize, to: usize, left: usize) -> Result<(), R
     requires { (from ≤ to) × (to ≤ length s.now) }
     ensures { result ≡ judge_elements left s.now from to }
 {
-    let mut at = from;
-    while at < to {
-        let Some(field) = field::field_at(s, at, to) else {
+    for field in Fields::between(s, from, to) {
+        let Some(field) = field else {
             return Err(Refusal::BadRequest);
         };
         check_constant(s, field.tag, field.from, field.to, left)?;
-        at = field.to;
     }
     Ok(())
 }
@@ -64,9 +62,7 @@ fn check_pairs(s: &[u8], from: usize, to: usize, left: usize) -> Result<(), Refu
         let Some(p) = pair_at(s, at, to) else {
             return Err(Refusal::BadRequest);
         };
-        let a = p.name.from;
-        let e = p.name.to;
-        if !good_pair_name(p.by, &s[a..e]) {
+        if !good_pair_name(p.by, &s[p.name.from..p.name.to]) {
             return Err(Refusal::BadRequest);
         }
         check_constant(s, p.tag, p.constant.from, p.constant.to, left)?;

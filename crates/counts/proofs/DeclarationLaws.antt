@@ -191,7 +191,7 @@ module _ (k : ℕ) (s : List ℕ) (a e : ℕ) (r : Option Span) (q : r ≡ leaf_
 
   pub enum-count-named : (u : Span) → r ≡ Some u → (x y z : ℕ) → x ≡ one k enum_tag → y ≡ one k value_tag
       → z ≡ length (values_in s (walk s u.to e)) → x + y * z ≡ items_hold k (enum_in s a e none)
-  enum-count-named u g x y z p o l = rw (enum-named s a e none r q u.from u.to g, p, o, l) (omega arith)
+  enum-count-named u g x y z p o l = rw (enum-named s a e none r q u g, p, o, l) (omega arith)
 
   module _ (d : ℕ) where
     pub message-count-unnamed : r ≡ None → 0 ≡ items_hold k (message_in d s a e none)
@@ -199,7 +199,7 @@ module _ (k : ℕ) (s : List ℕ) (a e : ℕ) (r : Option Span) (q : r ≡ leaf_
 
     pub message-count-named : (d ≡ 0 → ⊥) → (u : Span) → r ≡ Some u → (x y : ℕ) → x ≡ one k message_tag
         → y ≡ items_hold k (items_in (d - 1) s (walk s u.to e)) → x + y ≡ items_hold k (message_in d s a e none)
-    message-count-named z u g x y p o = rw (message-named d s a e none z r q u.from u.to g, p, o) (omega arith)
+    message-count-named z u g x y p o = rw (message-named d s a e none z r q u g, p, o) (omega arith)
 
 pub message-count-beyond : (k d : ℕ) (s : List ℕ) (a e : ℕ) → d ≡ 0 → 0 ≡ items_hold k (message_in d s a e none)
 message-count-beyond k d s a e h = rw (message-beyond d s a e none h)
@@ -245,7 +245,7 @@ module _ (k : ℕ) (s : List ℕ) (t a e : ℕ) where
 
     pub file-count-named : (u : Span) → r ≡ Some u → (x y : ℕ) → x ≡ one k file_tag → y ≡ items_hold k (items_in most_messages s (walk s u.to e))
         → x + y ≡ file_count k s t a e
-    file-count-named u g x y p o = rw (file-named s t a e [] h r q u.from u.to g, p, o) (omega arith)
+    file-count-named u g x y p o = rw (file-named s t a e [] h r q u g, p, o) (omega arith)
 
 pub ruleset file_count_laws = (file-count-other, file-count-unnamed, file-count-named, holder_laws)
 

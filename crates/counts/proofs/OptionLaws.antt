@@ -4,7 +4,7 @@ use Rattle.std.specs.Prelude.{◌≡◌, refl, List, [], ◌∷◌, ℕ, ◌+◌
 use Rattle.basis.specs.Kit.{sym, ap, ◌∙◌}
 use Rattle.basis.proofs.Kit.{arith, eq-eqb, ne_eqb, w64, Fits}
 use native.Mathlib.Nat.{zero-add, add-zero}
-use Rattle.field.specs.Field.{field_at, field}
+use Rattle.field.specs.Field.{field_at}
 use Rattle.field.specs.Walk.{Walk, step, walk}
 use Rattle.field.proofs.FieldLaws.{field-ordered, field-within, field-less}
 use Rattle.field.proofs.Tally.{Tally, counted, tally-start, tally-few, tally-end, tally-cut, tally-fits, tally-more}
@@ -84,7 +84,7 @@ module _ (s : List ℕ) (t a e : ℕ) (w : Walk) where
 none_more : (v : ℕ) (F : Walk → ℕ) (s : List ℕ) (from to n at : ℕ) → at < to → (r : Option Field) → r ≡ field_at s at to
     → (f : Field) → r ≡ Some f → Tally v F s from to n at → F (step f.tag f.from f.to (walk s f.to to)) ≡ F (walk s f.to to) → Tally v F s from to n f.to
 none_more v F s from to n at h r q f g k p =
-    rw (add-zero n) at (tally-more v F s from to n at k h r q f.tag f.from f.to g 0 (p ∙ sym (zero-add (F (walk s f.to to)))) (omega arith))
+    rw (add-zero n) at (tally-more v F s from to n at k h r q f g 0 (p ∙ sym (zero-add (F (walk s f.to to)))) (omega arith))
 
 module _ (v : ℕ) (s : List ℕ) (from to n at : ℕ) (h : at < to) (r : Option Field) (q : r ≡ field_at s at to) (f : Field) (g : r ≡ Some f) where
   module _ (k : Tally v (option_count s) s from to n at) where

@@ -18,6 +18,7 @@ fn in_range(n: u64, most: u64) -> bool
 }
 
 // Whether the type path, where the type has one, is a path.
+#[tactic(auto, using(crate::proofs::DeclarationLaws::type_path_laws))]
 fn good_type_path(s: &[u8], h: Shape) -> bool
     requires { Lies h.path s.now }
     ensures { result ≡ good_type_path s.now h }
@@ -25,12 +26,11 @@ fn good_type_path(s: &[u8], h: Shape) -> bool
     if !has_type_path(h.typ as usize) {
         return true;
     }
-    let from = h.path.from;
-    let to = h.path.to;
-    is_rel_path(&s[from..to])
+    is_rel_path(&s[h.path.from..h.path.to])
 }
 
 // Whether number, type and label are in their ranges, and the type path is a path.
+#[tactic(auto, using(crate::proofs::DeclarationLaws::shape_is))]
 fn good_shape(s: &[u8], h: Shape) -> bool
     requires { Lies h.path s.now }
     ensures { result ≡ good_shape s.now h }
@@ -42,42 +42,46 @@ fn good_shape(s: &[u8], h: Shape) -> bool
 }
 
 // Whether the name is an identifier, and the shape is good.
+#[tactic(auto, using(crate::proofs::DeclarationLaws::good_field_is))]
 fn good_field(s: &[u8], d: Declaration) -> bool
     requires { Lies d.name s.now × Lies d.shape.path s.now }
     ensures { result ≡ good_field s.now d }
 {
-    let from = d.name.from;
-    let to = d.name.to;
-    is_ident(&s[from..to]) & good_shape(s, d.shape)
+    is_ident(&s[d.name.from..d.name.to]) & good_shape(s, d.shape)
 }
 
 // Whether from..to is the payload of a field.
+#[tactic(auto, using(crate::proofs::DeclarationLaws::is_field_laws))]
 pub fn is_field(s: &[u8], from: usize, to: usize) -> bool
     requires { (from ≤ to) × (to ≤ length s.now) }
     ensures { result ≡ is_field s.now from to }
 {
-    let Some(d) = sheet::declaration::message_field_at(s, from, to) else { return false; };
+    let Some(d) = sheet::declaration::message_field_at(s, from, to) else {
+        return false;
+    };
     good_field(s, d)
 }
 
 // Whether from..to is the payload of an extension.
+#[tactic(auto, using(crate::proofs::DeclarationLaws::is_extension_laws))]
 pub fn is_extension(s: &[u8], from: usize, to: usize) -> bool
     requires { (from ≤ to) × (to ≤ length s.now) }
     ensures { result ≡ is_extension s.now from to }
 {
-    let Some(d) = sheet::declaration::extension_at(s, from, to) else { return false; };
-    let x = d.extendee.from;
-    let end = d.extendee.to;
-    is_rel_path(&s[x..end]) & good_field(s, d)
+    let Some(d) = sheet::declaration::extension_at(s, from, to) else {
+        return false;
+    };
+    is_rel_path(&s[d.extendee.from..d.extendee.to]) & good_field(s, d)
 }
 
 // Whether from..to is the payload of an enum value.
+#[tactic(auto, using(crate::proofs::DeclarationLaws::is_value_laws))]
 pub fn is_value(s: &[u8], from: usize, to: usize) -> bool
     requires { (from ≤ to) × (to ≤ length s.now) }
     ensures { result ≡ is_value s.now from to }
 {
-    let Some(v) = sheet::declaration::value_at(s, from, to) else { return false; };
-    let n = v.name.from;
-    let end = v.name.to;
-    is_ident(&s[n..end])
+    let Some(v) = sheet::declaration::value_at(s, from, to) else {
+        return false;
+    };
+    is_ident(&s[v.name.from..v.name.to])
 }

@@ -1,3 +1,3 @@
 pub mod WriteLaws
-pub mod Copying
+pub mod Giving
 pub mod Filling

@@ -33,7 +33,7 @@ pub fn put_words(words: &[u32], out: &mut [u32], at: usize)
 }
 
 // The words of an answer that are known beforehand, written where there is room for all of them.
-#[tactic(auto, using(crate::proofs::Copying::copying_laws))]
+#[tactic(auto, using(crate::proofs::Giving::giving_laws))]
 pub fn give_words(words: &[u32], out: &mut [u32]) -> Answer
     requires { length words.now < 2 ^ 32 }
     ensures { Answered (give words.now) out.old out.new result }
@@ -41,10 +41,7 @@ pub fn give_words(words: &[u32], out: &mut [u32]) -> Answer
     if out.len() < words.len() {
         return reply::refused(Refusal::NoRoom);
     }
-    let mut i = 0;
-    while i < words.len() {
-        out[i] = words[i];
-        i += 1;
-    }
-    reply::done(words.len() as u32)
+    let n = words.len();
+    out[..n].copy_from_slice(words);
+    reply::done(n as u32)
 }

@@ -7,6 +7,7 @@
 --
 -- Assumes nothing.
 use Rattle.std.specs.Prelude.{◌≡◌, refl, Bool, true, false, List, [], ◌∷◌, ℕ, ◌+◌, ◌-◌, ◌≤◌, ◌<◌, eqb, length, get_or, take, drop, Ok, Option, Err, None, Some, Result}
+use Rattle.std.specs.Result.{IsErrAnd}
 use Rattle.basis.specs.Kit.{sym, ap, ◌∙◌}
 use Rattle.basis.proofs.Kit.{arith, add-one, not-true, not-false}
 use lib.ListN.{drop_of_length-le}
@@ -25,7 +26,6 @@ use Rattle.path.proofs.PathLaws.{components-nil}
 use Rattle.candidates.proofs.CandidateLaws.{candidate-components, candidate-text-le}
 use Rattle.sheet.specs.Table.{extension_tag}
 use Rattle.sheet.specs.declared.declaration.Declaration.{Declaration}
-use Rattle.scope.specs.declared.lookup.LookupScope.{LookupScope}
 use Rattle.cursor.specs.declared.Cursor.{Cursor}
 use Rattle.search.specs.declared.extension.Found.{Found}
 use Rattle.search.specs.declared.extension.Candidate.{Candidate}
@@ -35,7 +35,7 @@ use Rattle.basis.specs.First.{first_some}
 use Rattle.scope.specs.Scope.{Scope, holding, declaration_named}
 use Rattle.scope.specs.inner.Answers.{declared}
 use Rattle.scopes.specs.Scopes.{scopes}
-use Rattle.cursor.specs.inner.Cursor.{ahead, start_of, Nexts, next_of}
+use Rattle.cursor.specs.inner.Cursor.{ahead, start_of, Nexts}
 use Rattle.search.specs.Lookup.{found_in, found_at, found_among, or_not_found, find_extension_by_abs_path, tried}
 use Rattle.search.specs.Lookup.{find_extension_by_path, ext_resolve_field}
 use Rattle.scope.proofs.Answers.{declared-none, declared-some}
@@ -150,6 +150,11 @@ module _ (v : Result Candidate Refusal) (s scope name l₀ l : List ℕ) (i : �
 pub ruleset try_candidates_laws = (trying_start, trying-end, trying-within, trying-length, trying-found, trying-next)
 
 -- ---- find_extension_by_path
+-- an answer is v where `?` hands on a refusal that v is
+pub handed-on : {A : Type 0} {r v : Result A Refusal} {w : Refusal} → IsErrAnd r (λ e. e ≡ w) → Err w ≡ v → r ≡ v
+handed-on {r = Ok x} h q = elim h [ ]
+handed-on {r = Err e} h q = rw h q
+
 module _ (s scope name : List ℕ) (r : Result Candidate Refusal) (q : r ≡ tried s scope name) where
   pub by-path-found : (c : Candidate) → r ≡ Ok c → Ok c.found ≡ find_extension_by_path s scope name
   unfolding find_extension_by_path

@@ -18,6 +18,7 @@ use search::extension::{Candidate, Compared, Found};
 use sheet::table;
 
 // The first extension of that name in the scopes that are still to come.
+#[tactic(auto, using(crate::proofs::ExtensionLaws::first_extension_laws))]
 fn first_extension(s: &[u8], names: &[u8], cursor: Cursor, name: &[u8]) -> Result<Found, Refusal>
     requires { Stands s.now names.now cursor }
     ensures { result ≡ or_not_found Ok Err (first_some (found_in s.now name.now)
@@ -25,7 +26,7 @@ fn first_extension(s: &[u8], names: &[u8], cursor: Cursor, name: &[u8]) -> Resul
 {
     let mut c = cursor;
     loop {
-        let Some(next) = next_scope(s, names, c) else { return Err(Refusal::ExtensionNotFound); };
+        let next = next_scope(s, names, c).ok_or(Refusal::ExtensionNotFound)?;
         c = next.rest;
         if let Some(d) = declaration_named(s, next.scope, table::EXTENSION, name) {
             return Ok(Found {
@@ -37,6 +38,7 @@ fn first_extension(s: &[u8], names: &[u8], cursor: Cursor, name: &[u8]) -> Resul
 }
 
 // The extension of a full name.
+#[tactic(auto, using(crate::proofs::ExtensionLaws::abs_extension_laws))]
 pub fn find_extension_by_abs_path(s: &[u8], path: &[u8]) -> Result<Found, Refusal>
     ensures { result ≡ find_extension_by_abs_path s.now (components path.now) }
 {
@@ -48,7 +50,13 @@ pub fn find_extension_by_abs_path(s: &[u8], path: &[u8]) -> Result<Found, Refusa
 }
 
 // The candidates of a name in a scope, put together in lent room and looked up one after the other, until one answers.
-pub fn try_candidates(s: &[u8], scope: &[u8], path: &[u8], room: &mut [u8]) -> Result<Candidate, Refusal>
+#[tactic(auto, using(crate::proofs::ExtensionLaws::try_candidates_laws))]
+pub fn try_candidates(
+    s: &[u8],
+    scope: &[u8],
+    path: &[u8],
+    room: &mut [u8],
+) -> Result<Candidate, Refusal>
     requires { (is_rel_or_empty scope.now ≡ true) × (is_path path.now ≡ true) × (most_candidate ≤ length room.old) }
     ensures { result ≡ tried s.now scope.now path.now }
 {
@@ -68,20 +76,22 @@ pub fn try_candidates(s: &[u8], scope: &[u8], path: &[u8], room: &mut [u8]) -> R
 }
 
 // The extension that a name finds in a scope.
-pub fn find_extension_by_path(s: &[u8], scope: &[u8], path: &[u8], room: &mut [u8]) -> Result<Found, Refusal>
+#[tactic(auto, using(crate::proofs::ExtensionLaws::extension_by_path_laws))]
+pub fn find_extension_by_path(
+    s: &[u8],
+    scope: &[u8],
+    path: &[u8],
+    room: &mut [u8],
+) -> Result<Found, Refusal>
     requires { (is_rel_or_empty scope.now ≡ true) × (is_path path.now ≡ true) × (most_candidate ≤ length room.old) }
     ensures { result ≡ find_extension_by_path s.now scope.now path.now }
 {
-    match try_candidates(s, scope, path, room) {
-        Err(why) => Err(why),
-        Ok(first) => {
-            let found = first.found;
-            Ok(found)
-        }
-    }
+    let first = try_candidates(s, scope, path, room)?;
+    Ok(first.found)
 }
 
 // The candidate that answers, compared with the message of that full name. A mismatch ends the search.
+#[tactic(auto, using(crate::proofs::ExtensionLaws::resolve_laws))]
 pub fn ext_resolve_field_ext(
     s: &[u8],
     scope: &[u8],

@@ -7,3 +7,5 @@ pub mod Rest
 pub mod Seek
 pub mod Tally
 pub mod Controls
+pub mod BehindLaws
+pub mod InFields

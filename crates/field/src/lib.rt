@@ -1,7 +1,9 @@
 // The fields of a sheet or a request: a tag (1 byte), a length (2 bytes, the higher first), a payload.
 #![tactic(auto)]
 
+pub mod fields;
 pub mod part;
+pub mod walk;
 
 ghost use Rattle.std.specs.Prelude.{◌≡◌, ◌≤◌, length};
 ghost use Rattle.field.specs.Field.{field_at};

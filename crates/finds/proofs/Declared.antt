@@ -8,6 +8,7 @@
 use Rattle.std.specs.Prelude.{◌≡◌, refl, Bool, true, ◌&&◌, List, [], ◌∷◌, ◌++◌, ℕ, ◌≤◌, Option, None, Some}
 use Rattle.basis.specs.Kit.{sym, ap, ◌∙◌}
 use Rattle.basis.proofs.Kit.{arith}
+use mathlib.Core.Option as option
 use lib.ListN.{get_elem?}
 use mathlib.Core.Bool.{true≢false}
 use mathlib.Core.List.{append_assoc}
@@ -88,7 +89,7 @@ module _ (s : List ℕ) where
   pub record Led (c : Scope) : Type 0 where
     pub k : ℕ
     pub file : File
-    pub is : get_elem? (tree_of s) k ≡ Some file
+    pub is : get_elem? (tree_of s) k ≡ option.some file
     pub names : Path
     pub leads : follow s names (file_scope k file) ≡ Some c
 
@@ -118,7 +119,7 @@ module _ (s : List ℕ) where
   scopes-gives p h c m = from_gives s [] p refl h c m
 
   -- ---- what a file declares
-  pub filed-declared : (k : ℕ) (f : File) → get_elem? (tree_of s) k ≡ Some f → (b : Named) → Filed s k f b → Among b (every_declared s)
+  pub filed-declared : (k : ℕ) (f : File) → get_elem? (tree_of s) k ≡ option.some f → (b : Named) → Filed s k f b → Among b (every_declared s)
   unfolding every_declared
   filed-declared k f e b m = stood s 0 (tree_of s) b k k (omega arith) f e m
 

@@ -5,9 +5,10 @@
 --   Stands s i fs b <-> b is among what one of the files fs declares, the first of which is the i-th
 --
 -- Assumes nothing.
-use Rattle.std.specs.Prelude.{◌≡◌, refl, Bool, true, List, [], ◌∷◌, ℕ, zero, suc, ◌+◌, ◌≤◌, Some}
+use Rattle.std.specs.Prelude.{◌≡◌, refl, Bool, true, List, [], ◌∷◌, ℕ, zero, suc, ◌+◌, ◌≤◌}
 use Rattle.basis.specs.Kit.{ap}
 use Rattle.basis.proofs.Kit.{arith}
+use mathlib.Core.Option as option
 use lib.ListN.{get_elem?}
 use Rattle.basis.proofs.Never.{never}
 use Rattle.basis.specs.Count.{count}
@@ -31,7 +32,7 @@ module _ (s : List ℕ) where
     pub at : ℕ
     pub counted : i + k ≡ at
     pub file : File
-    pub is : get_elem? fs k ≡ Some file
+    pub is : get_elem? fs k ≡ option.some file
     pub among : Filed at file b
 
   pub stands : (i : ℕ) (fs : List File) (b : Named) → Among b (declared_by s i fs) → Stands i fs b
@@ -44,7 +45,7 @@ module _ (s : List ℕ) where
       later : Stands (i + 1) fs b → Stands i (f ∷ fs) b
       later r = record { k = suc r.k; at = r.at; counted = omega arith; file = r.file; is = r.is; among = r.among }
 
-  pub stood : (i : ℕ) (fs : List File) (b : Named) (k at : ℕ) → i + k ≡ at → (f : File) → get_elem? fs k ≡ Some f → Filed at f b
+  pub stood : (i : ℕ) (fs : List File) (b : Named) (k at : ℕ) → i + k ≡ at → (f : File) → get_elem? fs k ≡ option.some f → Filed at f b
       → Among b (declared_by s i fs)
   stood i [] b k at n f e m = never cc
   stood i (g ∷ fs) b zero at n f e m =
@@ -56,8 +57,8 @@ module _ (s : List ℕ) where
   -- where one alone passes a test, two that pass are of one file
   module _ (good : Named → Bool) where
     pub one-file : (i : ℕ) (fs : List File) → count good (declared_by s i fs) ≤ 1
-        → (k at : ℕ) → i + k ≡ at → (f : File) → get_elem? fs k ≡ Some f → (a : Named) → Filed at f a → good a ≡ true
-        → (l by : ℕ) → i + l ≡ by → (g : File) → get_elem? fs l ≡ Some g → (b : Named) → Filed by g b → good b ≡ true → k ≡ l
+        → (k at : ℕ) → i + k ≡ at → (f : File) → get_elem? fs k ≡ option.some f → (a : Named) → Filed at f a → good a ≡ true
+        → (l by : ℕ) → i + l ≡ by → (g : File) → get_elem? fs l ≡ option.some g → (b : Named) → Filed by g b → good b ≡ true → k ≡ l
     one-file i [] h k at n f e a m x l by o g q b j y = never cc
     one-file i (d ∷ fs) h zero at n f e a m x zero by o g q b j y = refl
     one-file i (d ∷ fs) h (suc k) at n f e a m x (suc l) by o g q b j y =

@@ -4,9 +4,10 @@
 --   Located s b <-> b stands in a file; the package and the names that lead to it in the file are the components of its full name
 --
 -- Assumes nothing.
-use Rattle.std.specs.Prelude.{◌≡◌, refl, true, ◌&&◌, List, [], ◌∷◌, ◌++◌, ℕ, zero, suc, Some}
+use Rattle.std.specs.Prelude.{◌≡◌, refl, true, ◌&&◌, List, [], ◌∷◌, ◌++◌, ℕ, zero, suc}
 use Rattle.basis.specs.Kit.{sym, ap, ◌∙◌}
 use Rattle.basis.proofs.Kit.{arith}
+use mathlib.Core.Option as option
 use lib.ListN.{get_elem?}
 use mathlib.Core.Bool.{and-eq-true_iff}
 use mathlib.Core.List.{append_assoc}
@@ -38,7 +39,7 @@ reach-held : (s : List ℕ) {ns : Path} {c d : Scope} {n : Name} (m : Scope) →
 reach-held s {n = n} m r (message-of l k e) = (reach-last s n r l k e, refl)
 
 module _ (s : List ℕ) where
-  good-file : (fs : List File) (k : ℕ) (f : File) → good_files s fs ≡ true → get_elem? fs k ≡ Some f
+  good-file : (fs : List File) (k : ℕ) (f : File) → good_files s fs ≡ true → get_elem? fs k ≡ option.some f
       → (is_rel_or_empty (text s f.package_name) ≡ true) × (good_items s f.items ≡ true)
   good-file [] k f h e = never cc
   good-file (g ∷ fs) zero f h e =
@@ -51,14 +52,14 @@ module _ (s : List ℕ) where
   pub record Located (b : Named) : Type 0 where
     pub at : ℕ
     pub file : File
-    pub is : get_elem? (tree_of s) at ≡ Some file
+    pub is : get_elem? (tree_of s) at ≡ option.some file
     pub place : Placed s (file_front (text s file.package_name)) (file_scope at file) b
     pub path : components b.name ≡ components (text s file.package_name) ++ (place.names ++ place.own ∷ [])
     pub idents : all_ident (components b.name) ≡ true
     pub before-idents : all_ident (components (text s file.package_name) ++ place.names) ≡ true
 
   module _ (fine : judge_sheet s ≡ fine) where
-    filed-located : (b : Named) (at : ℕ) (f : File) → get_elem? (tree_of s) at ≡ Some f → Filed s at f b → Located b
+    filed-located : (b : Named) (at : ℕ) (f : File) → get_elem? (tree_of s) at ≡ option.some f → Filed s at f b → Located b
     filed-located b at f e m =
         let g = good-file (tree_of s) at f (fine-good s fine) e in
         let t = text s f.package_name in

@@ -5,26 +5,23 @@
 --       each-cut  where no whole field stands, v is what a cut is
 --   each-refused  a fault of the field that stands there is v
 --      each_next  where it is fine, v is the verdict of the fields from its end on
--- And `handed-on`: a verdict is v where `?` hands on a fault that v is.
 -- `each_loop` and `each_from_loop` have these, for any reader; `each_laws` and `each_from_laws` all that a loop over the fields of
 -- `field_at` needs, but its start, which is `rest-start`.
 --
 -- Assumes nothing.
-use Rattle.std.specs.Prelude.{◌≡◌, List, ℕ, ◌+◌, ◌≤◌, ◌<◌, Err, None, Ok, Option, Some}
-use Rattle.std.specs.Result.{IsErrAnd}
+use Rattle.std.specs.Prelude.{◌≡◌, List, ℕ, ◌+◌, ◌≤◌, ◌<◌, length, Err, None, Option, Some}
 use Rattle.basis.specs.Kit.{sym, ◌∙◌}
 use Rattle.reply.specs.declared.Refusal.{Refusal}
 use Rattle.reply.proofs.VerdictLaws.{first-refused, first_fine}
-use Rattle.field.specs.Walk.{Reader, walk_by}
+use Rattle.field.specs.declared.fields.Fields.{Fields}
+use Rattle.field.specs.Fields.{Goes}
+use Rattle.field.specs.Walk.{Reader, walk_by, walk}
 use Rattle.form.specs.Each.{each, each_from}
 use Rattle.field.proofs.FieldLaws.{field-within, field-less}
+use Rattle.field.proofs.InFields.{RestIn, over-ordered, over-within, rest-in-end, rest-in-cut, rest-in-step, rest-in-next}
 use Rattle.field.proofs.Rest.{RestBy, rest_end, rest-cut, rest-step, rest-next}
 use Rattle.field.specs.declared.Field.{Field}
 use Rattle.reply.specs.Verdicts.{Verdict, fine}
-
-pub handed-on : {r v : Verdict} {w : Refusal} → IsErrAnd r (λ e. e ≡ w) → Err w ≡ v → r ≡ v
-handed-on {r = Ok x} h q = elim h [ ]
-handed-on {r = Err e} h q = rw h q
 
 module _ {next : Reader} (bad : Refusal) (f : ℕ → ℕ → ℕ → Verdict) (v : Verdict) (s : List ℕ) (to i : ℕ)
     (k : RestBy next v (each bad f) s to i) where
@@ -63,6 +60,35 @@ module _ {next : Reader} (bad : Refusal) (f : ℕ → ℕ → ℕ → ℕ → Ve
       each-from-next x =
           rest-next v (each_from bad f n) s to i k h r q here g (each_from bad f (n + 1))
           (sym (first_fine (f n here.tag here.from here.to) (each_from bad f (n + 1) (walk_by next s here.to to)) (sym p ∙ x)))
+
+-- ---- the same of a `for` over fields
+module _ (bad : Refusal) (f : ℕ → ℕ → ℕ → Verdict) (v : Verdict) (s : List ℕ) (to : ℕ) (it : Fields)
+    (k : RestIn v (each bad f) s to it) where
+  pub each-in-end : it.end ≤ it.at → fine ≡ v
+  each-in-end h = sym (rest-in-end v (each bad f) s to it k h)
+
+  module _ (it' : Fields) (o : Option Field) (x : Goes it it' o) where
+    pub each-in-cut : o ≡ None → Err bad ≡ v
+    each-in-cut g = sym (rest-in-cut v (each bad f) s to it k it' o x g)
+
+    module _ (w : Field) (g : o ≡ Some w) where
+      pub each-in-ordered : w.from ≤ w.to
+      each-in-ordered = over-ordered k.over it' o x w g
+
+      pub each-in-within : to ≤ length s → w.to ≤ length s
+      each-in-within h = over-within k.over it' o x w g h
+
+      module _ (u : Verdict) (p : u ≡ f w.tag w.from w.to) where
+        pub each-in-refused : (y : Refusal) → u ≡ Err y → Err y ≡ v
+        each-in-refused y e =
+            first-refused (f w.tag w.from w.to) (each bad f (walk s w.to to)) y (sym p ∙ e)
+            ∙ sym (rest-in-step v (each bad f) s to it k it' o x w g)
+
+        pub each-in-next : u ≡ fine → RestIn v (each bad f) s to it'
+        each-in-next e = rest-in-next v (each bad f) s to it k it' o x w g (each bad f)
+            (sym (first_fine (f w.tag w.from w.to) (each bad f (walk s w.to to)) (sym p ∙ e)))
+
+pub ruleset each_in_laws = (each-in-end, each-in-cut, each-in-ordered, each-in-within, each-in-refused, each-in-next)
 
 pub ruleset each_loop = (each-end, each-cut, each-refused, each_next)
 

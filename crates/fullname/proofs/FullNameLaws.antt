@@ -1,11 +1,11 @@
 -- The laws of the look-ups by full name: the ways through `next_message`, `next_enum`, `find_message_by_abs_name`, `enum_in`,
 -- `only_enum` and `find_enum_by_abs_name`.
 -- Assumes nothing.
-use Rattle.std.specs.Prelude.{◌≡◌, refl, Bool, true, false, List, [], ◌∷◌, ℕ, suc, ◌-◌, ◌<◌, eqb, length, take, Option, None, Some, Err, Ok, Result}
+use Rattle.std.specs.Prelude.{◌≡◌, refl, Bool, true, false, List, [], ◌∷◌, ℕ, suc, ◌-◌, ◌<◌, eqb, length, take, Option, None, Some, Err, Ok, Result, is_some}
 use Rattle.basis.specs.Kit.{sym, ap, ◌∙◌}
 use Rattle.basis.proofs.Kit.{arith}
+use Rattle.basis.proofs.Never.{never}
 use Rattle.octets.specs.Octets.{part}
-use Rattle.field.specs.Leaf.{span}
 use Rattle.reply.specs.declared.Refusal.TheVariants.{MessageNotFound, MessageFoundMoreThanOnce}
 use Rattle.path.specs.Path.{Name, Path, components, parent, last}
 use Rattle.path.specs.inner.Last.{LastStarts}
@@ -17,7 +17,7 @@ use Rattle.basis.specs.First.{only_if, told, onto, collect}
 use Rattle.scope.specs.Scope.{Scope, holding, enum_named}
 use Rattle.scope.specs.inner.Answers.{bodied}
 use Rattle.scopes.specs.Scopes.{scopes}
-use Rattle.cursor.specs.inner.Cursor.{ahead, start_of, Nexts, next_of}
+use Rattle.cursor.specs.inner.Cursor.{ahead, start_of, Nexts}
 use Rattle.fullname.specs.FullName.{messages_at, enums_at, looked_up, looked_up_enum}
 use Rattle.fullname.specs.inner.Ahead.{kept, passing, is_message, declares_enum}
 use Rattle.scope.proofs.Held.{enum_at, enum-not}
@@ -37,7 +37,7 @@ module _ (good : Scope → Bool) (s t : List ℕ) (c₀ c : Cursor) (k : Left (p
   module _ (n : Next) (g : r ≡ Some n) where
     pub passing-found : good (holding s n.scope) ≡ true → Nexts (passing good s t) s t c₀ (Some n)
     passing-found h =
-        nexts-at (passing good s t) s t c₀ n.scope n.rest
+        nexts-at (passing good s t) s t c₀ n
         (record {
           lies = (q.some n g).lies;
           stands = (q.some n g).stands;
@@ -50,7 +50,7 @@ module _ (good : Scope → Bool) (s t : List ℕ) (c₀ c : Cursor) (k : Left (p
 -- a scope declares an enum of the name where `enum_named` gives one
 module _ (s : List ℕ) (n : Name) (p : LookupScope) (l : Option Span) (x : l ≡ bodied (enum_named s n (holding s p))) where
   pub enum-declared : (q : Span) → l ≡ Some q → declares_enum s n (holding s p) ≡ true
-  enum-declared q h = rw (enum_at s n p l x q.from q.to h).is
+  enum-declared q h = rw (enum_at s n p l x q h).is
 
   pub enum-undeclared : l ≡ None → declares_enum s n (holding s p) ≡ false
   enum-undeclared h = rw (enum-not s n p l x h)
@@ -58,6 +58,15 @@ module _ (s : List ℕ) (n : Name) (p : LookupScope) (l : Option Span) (x : l �
 pub ruleset next_message_laws = (left_laws, passing-end, passing-found, passing-next)
 
 pub ruleset next_enum_laws = (left_laws, passing-end, passing-found, passing-next, enum-declared, enum-undeclared)
+
+-- ---- whether there is a second one
+absent : {A : Type 0} (o : Option A) → is_some o ≡ false → o ≡ None
+absent None e = refl
+absent (Some x) e = never cc
+
+present : {A : Type 0} (o : Option A) → is_some o ≡ true → (x : A) × (o ≡ Some x)
+present None e = never cc
+present (Some x) e = (x, refl)
 
 -- ---- find_message_by_abs_name
 module _ (s t : List ℕ) (c : Cursor) (e : c ≡ start_of (eqb (length t) 0)) (r : Option Next) (q : Nexts (passing is_message s t) s t c r) where
@@ -68,13 +77,15 @@ module _ (s t : List ℕ) (c : Cursor) (e : c ≡ start_of (eqb (length t) 0)) (
   pub messages-none : r ≡ None → Err MessageNotFound ≡ looked_up (messages_at s (components t))
   messages-none g = rw (messages-all, q.none g)
 
-  module _ (n : Next) (g : r ≡ Some n) (r' : Option Next) (q' : Nexts (passing is_message s t) s t n.rest r') where
-    pub messages-one : r' ≡ None → Ok n.scope ≡ looked_up (messages_at s (components t))
-    messages-one g' = rw (messages-all, (q.some n g).is, q'.none g')
+  module _ (n : Next) (g : r ≡ Some n) (r' : Option Next) (q' : Nexts (passing is_message s t) s t n.rest r')
+      (b : Bool) (x : b ≡ is_some r') where
+    pub messages-one : b ≡ false → Ok n.scope ≡ looked_up (messages_at s (components t))
+    messages-one y = rw (messages-all, (q.some n g).is, q'.none (absent r' (sym x ∙ y)))
 
-    pub messages-more : (m : Next) → r' ≡ Some m
-        → Err MessageFoundMoreThanOnce ≡ looked_up (messages_at s (components t))
-    messages-more m g' = rw (messages-all, (q.some n g).is, (q'.some m.scope m.rest g').is)
+    pub messages-more : b ≡ true → Err MessageFoundMoreThanOnce ≡ looked_up (messages_at s (components t))
+    messages-more y =
+        let m = present r' (sym x ∙ y) in
+        rw (messages-all, (q.some n g).is, (q'.some m.0 m.1).is)
 
 pub ruleset message_by_name_laws = (start-stands, nexts-stands, messages-none, messages-one, messages-more)
 
@@ -84,7 +95,7 @@ module _ (s : List ℕ) (n : Name) (p : LookupScope) (l : Option Span) (x : l �
   enum-in-none h = rw (enum-not s n p l x h)
 
   pub enum-in-some : (q : Span) → l ≡ Some q → Ok q ≡ looked_up_enum (collect (enum_named s n) (holding s p ∷ []))
-  enum-in-some q h = let f = enum_at s n p l x q.from q.to h in ap Ok f.body ∙ rw f.is
+  enum-in-some q h = let f = enum_at s n p l x q h in ap Ok f.body ∙ rw f.is
 
 pub ruleset enum_in_laws = (enum-in-none, enum-in-some)
 
@@ -124,16 +135,17 @@ module _ (s t : List ℕ) (n : Name) (c : Cursor) (r : Option Next) (q : Nexts (
   pub enums-none : r ≡ None → Err MessageNotFound ≡ looked_up_enum (collect (enum_named s n) (ahead s t c))
   enums-none g = rw (enums-kept, q.none g)
 
-  module _ (m : Next) (g : r ≡ Some m) (r' : Option Next) (q' : Nexts (passing (declares_enum s n) s t) s t m.rest r') where
-    pub enums-one : r' ≡ None → (v : Result Span Refusal) → v ≡ looked_up_enum (collect (enum_named s n) (holding s m.scope ∷ []))
+  module _ (m : Next) (g : r ≡ Some m) (r' : Option Next) (q' : Nexts (passing (declares_enum s n) s t) s t m.rest r')
+      (b : Bool) (x : b ≡ is_some r') where
+    pub enums-one : b ≡ false → (v : Result Span Refusal) → v ≡ looked_up_enum (collect (enum_named s n) (holding s m.scope ∷ []))
         → v ≡ looked_up_enum (collect (enum_named s n) (ahead s t c))
-    enums-one g' v y = y ∙ rw (enums-kept, (q.some m g).is, q'.none g')
+    enums-one y v z = z ∙ rw (enums-kept, (q.some m g).is, q'.none (absent r' (sym x ∙ y)))
 
-    pub enums-more : (next1 : Next) → r' ≡ Some next1
-        → Err MessageFoundMoreThanOnce ≡ looked_up_enum (collect (enum_named s n) (ahead s t c))
-    enums-more next1 g' =
+    pub enums-more : b ≡ true → Err MessageFoundMoreThanOnce ≡ looked_up_enum (collect (enum_named s n) (ahead s t c))
+    enums-more y =
+        let m' = present r' (sym x ∙ y) in
         enums-more-than-one (collect (enum_named s n) (ahead s t c))
-        (rw (collect-length (enum_named s n) (ahead s t c), (q.some m g).is, (q'.some next1.scope next1.rest g').is) (omega arith))
+        (rw (collect-length (enum_named s n) (ahead s t c), (q.some m g).is, (q'.some m'.0 m'.1).is) (omega arith))
 
 pub ruleset only_enum_laws = (nexts-stands, nexts-lies, enums-none, enums-one, enums-more)
 

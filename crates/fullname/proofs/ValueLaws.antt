@@ -6,7 +6,7 @@ use Rattle.basis.specs.Kit.{sym, ◌∙◌}
 use Rattle.basis.proofs.Kit.{ne_eqb}
 use Rattle.basis.proofs.Never.{never}
 use Rattle.octets.specs.Octets.{same_bytes, big_at}
-use Rattle.field.specs.Leaf.{span, is_text, any_bytes, of_size, leaf_at}
+use Rattle.field.specs.Leaf.{is_text, any_bytes, of_size, leaf_at}
 use Rattle.field.specs.Walk.{Walk}
 use Rattle.field.proofs.LeafLaws.{on-leaf-some}
 use Rattle.field.proofs.Seek.{seek, seek_is, seek_laws}
@@ -32,7 +32,7 @@ module _ (s : List ℕ) (a e : ℕ) (v : Value) where
       on-leaf-some None (Some v) (leaf_at name_tag any_bytes s a e) _ (Named s a e v.name) none-valued λ q y.
       on-leaf-some None (Some v) (last_at e (leaf_at signed_number_tag (of_size 4) s q.to e)) _ (Named s a e v.name) none-valued
       λ w _ p.
-      let u : v ≡ record { name = span n numbers; number = big_at 4 s k } = cc in
+      let u : v ≡ record { name = q; number = big_at 4 s w.from } = cc in
       rw u y
 
 values-some : (r : Option Value) (v : Value) → tells_valued r ≡ Some v → Some v ≡ r
@@ -61,7 +61,7 @@ module _ (n s : List ℕ) (t a e : ℕ) where
     pub value-same-name : (u : Span) → l ≡ Some u → (r : Option Value) → r ≡ value_at s a e → r ≡ value_named_at n s t a e
     unfolding value_named_at
     value-same-name u w r p =
-        p ∙ rw h (same_name None tells_valued (λ v. v.name) s n a e (value_at s a e) starts-value _ (λ v. refl) l q u.from u.to w
+        p ∙ rw h (same_name None tells_valued (λ v. v.name) s n a e (value_at s a e) starts-value _ (λ v. refl) l q u w
         (values-none (value_at s a e)))
 
 pub ruleset value_named_at_laws = (value-other-tag, value-other-name, value-same-name)

@@ -44,22 +44,20 @@ pub fn decode(text: &[u8], out: &mut [u8]) -> Decoded
 {
     let mut half = BLANK;
     let mut n = 0;
-    let mut i = 0;
-    while i < text.len() {
+    for i in 0..text.len() {
         let d = digit_of(text[i]);
         if d == OTHER {
             return Decoded::NoDigit(i);
         }
         if d == BLANK {
-            i += 1;
-        } else if half == BLANK {
+            continue;
+        }
+        if half == BLANK {
             half = d;
-            i += 1;
         } else {
             octets::put(out, n, half * 16 + d);
             half = BLANK;
             n += 1;
-            i += 1;
         }
     }
     if half == BLANK {

@@ -22,10 +22,8 @@ pub fn words_of(payload: &[u8], out: &mut [u32]) -> usize
     ensures value { result ≡ min (length payload.now / 4) (length out.old) }
 {
     let n = least(payload.len() / 4, out.len());
-    let mut i = 0;
-    while i < n {
+    for i in 0..n {
         out[i] = octets::u32_at(payload, i * 4);
-        i += 1;
     }
     n
 }
@@ -37,11 +35,9 @@ pub fn signed_words_of(payload: &[u8], out: &mut [i32]) -> usize
     ensures value { result ≡ min (length payload.now / 4) (length out.old) }
 {
     let n = least(payload.len() / 4, out.len());
-    let mut i = 0;
-    while i < n {
+    for i in 0..n {
         let word = octets::signed32(octets::u32_at(payload, i * 4));
         out[i] = word;
-        i += 1;
     }
     n
 }

@@ -10,6 +10,7 @@ ghost use Rattle.lookups.specs.Lookups.{walking, field_named, value_in};
 
 use field::Span;
 use limits::MOST_CANDIDATE;
+use reply::Refusal;
 use scope::lookup::LookupScope;
 use search::extension::{Compared, Found};
 use sheet::declaration::{Declaration, Value};

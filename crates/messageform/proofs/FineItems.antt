@@ -36,13 +36,13 @@ pub record Inside (r : Option Span) (good : List ℕ → Bool) (s : List ℕ) (f
 pub leaf-fine : (k : ℕ) (good : List ℕ → Bool) (s : List ℕ) (a e : ℕ) (f : ℕ → Verdict)
     → on_leaf bad_sheet (leaf_at k good s a e) (λ p. f p.to) ≡ fine → Inside (leaf_at k any_bytes s a e) good s f
 leaf-fine k good s a e f p =
-    on-leaf-some bad_sheet fine (leaf_at k good s a e) (λ n m. f m) (Inside (leaf_at k any_bytes s a e) good s f)
+    on-leaf-some bad_sheet fine (leaf_at k good s a e) (λ p. f p.to) (Inside (leaf_at k any_bytes s a e) good s f)
     (λ q. refused-fine BadSheet (sym q))
     (λ u l q. record {
       from = u.from;
       to = u.to;
-      named = leaf-untested k good s a e u.from u.to l;
-      tested = leaf-tested k good s a e u.from u.to l;
+      named = leaf-untested k good s a e u l;
+      tested = leaf-tested k good s a e u l;
       fine = sym q;
     })
     (sym p)

@@ -6,7 +6,7 @@ use Rattle.basis.specs.Kit.{sym, ap, ◌∙◌}
 use Rattle.ident.specs.Ident.{is_ident}
 use Rattle.reply.specs.declared.Refusal.TheVariants.{BadSheet}
 use Rattle.reply.proofs.VerdictLaws.{first-fine-front, first-fine-rest}
-use Rattle.field.specs.Field.{field_at, field}
+use Rattle.field.specs.Field.{field_at}
 use Rattle.field.specs.Leaf.{any_bytes, leaf_at}
 use Rattle.field.specs.Walk.{Walk, step, walk, tags_in}
 use Rattle.form.specs.Each.{each}

@@ -7,7 +7,7 @@ use Rattle.ident.specs.Ident.{is_ident}
 use Rattle.reply.specs.declared.Refusal.TheVariants.{BadSheet}
 use Rattle.reply.specs.Verdicts.{judged, Verdict}
 use Rattle.field.specs.Walk.{Walk}
-use Rattle.field.specs.Leaf.{leaf_at, span}
+use Rattle.field.specs.Leaf.{leaf_at}
 use Rattle.form.specs.Each.{each}
 use Rattle.field.proofs.FieldLaws.{field-ordered}
 use Rattle.field.proofs.LeafLaws.{leaf_inside}
@@ -42,7 +42,7 @@ module _ (s : List ℕ) (a e : ℕ) (r : Option Span) (q : r ≡ leaf_at name_ta
 
   pub enum-start : (p : Span) → r ≡ Some p → e ≤ length s → Rest (judge_enum s a e) (values s) s e p.to
   unfolding judge_enum
-  enum-start p g h = rw (← q, g) (rest-start (values s) s p.to e (leaf_inside name_tag is_ident s a e r q p.from p.to g) h)
+  enum-start p g h = rw (← q, g) (rest-start (values s) s p.to e (leaf_inside name_tag is_ident s a e r q p g) h)
 
 pub ruleset enum_laws = (enum-unnamed, enum-start, field-ordered, each_laws)
 
@@ -105,7 +105,7 @@ module _ (s : List ℕ) (a e : ℕ) where
       → judge_items (d - 1) true s u.to e ≡ judge_message d s a e
   unfolding judge_items
   named zero z u q = absurd (z refl)
-  named (suc d) z u.from u.to q = let p : suc d - 1 ≡ d = omega arith in simp (judge_message, p, q)
+  named (suc d) z u q = let p : suc d - 1 ≡ d = omega arith in simp (judge_message, p, q)
 
 module _ (d : ℕ) (s : List ℕ) (a e : ℕ) where
   pub message-beyond : d ≡ 0 → beyond ≡ judge_message d s a e
@@ -116,6 +116,6 @@ module _ (d : ℕ) (s : List ℕ) (a e : ℕ) where
     message-unnamed g = none_named s a e d z (sym q ∙ g)
 
     pub message-named : (u : Span) → r ≡ Some u → (v : Verdict) → v ≡ judge_items (d - 1) true s u.to e → v ≡ judge_message d s a e
-    message-named u g v p = p ∙ named s a e d z u.from u.to (sym q ∙ g)
+    message-named u g v p = p ∙ named s a e d z u (sym q ∙ g)
 
 pub ruleset message_laws = (message-beyond, message-unnamed, message-named, leaf_inside)

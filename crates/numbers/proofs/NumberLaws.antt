@@ -11,8 +11,8 @@ use mathlib.Core.List.{append-nil}
 use borrow.Author.Tests.{eqb-false}
 use Rattle.basis.proofs.Never.{never}
 use Rattle.limits.specs.Figures.{most_messages}
-use Rattle.field.specs.Leaf.{is_text, any_bytes, leaf_at, span}
-use Rattle.field.specs.Field.{field_at, field}
+use Rattle.field.specs.Leaf.{is_text, any_bytes, leaf_at}
+use Rattle.field.specs.Field.{field_at}
 use Rattle.field.specs.Walk.{Walk, walk}
 use Rattle.field.proofs.LeafLaws.{leaf_inside}
 use Rattle.field.proofs.Seek.{seek, seek_is, Seeking, seek-start, seek-next, seek_laws}
@@ -101,7 +101,7 @@ module _ (good : Declaration → Bool) (d : ℕ) (s : List ℕ) (t a e : ℕ) wh
           → x ≡ declared (first good (every_extension_of (items_in (d - 1) s (walk s u.to e))))
           → x ≡ declared (first good (every_extension_of (item_at d s t a e)))
       in-item-named z u g x p =
-          rw (item-message (message_in d s) s t a e none h, message-named d s a e none z l q u.from u.to g, append-nil) p
+          rw (item-message (message_in d s) s t a e none h, message-named d s a e none z l q u g, append-nil) p
 
 pub ruleset in_item_laws = (in-item-other, in-item-beyond, in-item-unnamed, in-item-named, leaf_inside)
 
@@ -117,13 +117,13 @@ in-items-is good d s w r q =
     (λ t a e w. rw (every-extension-item d s t a e (items_in d s w), declared-append)) w)
 
 -- a field that may not hold one is passed over
-module _ (m : List ℕ) (k d : ℕ) (s : List ℕ) (t a e : ℕ) where
-  no-message : t ≡ message_tag → may_hold k s t a e ≡ true
-  no-message h = rw h
+module _ (m : List ℕ) (k d : ℕ) (s : List ℕ) where
+  no-message : (t a e : ℕ) → t ≡ message_tag → may_hold k s t a e ≡ true
+  no-message t a e h = rw h
 
-  passed_none : may_hold k s t a e ≡ false → None ≡ item_where (is_extension_of s m k) d s t a e
-  passed_none q =
-      in-item-other (is_extension_of s m k) d s t a e (λ h. never (let u = no-message h in cc)) None (go (eqb t extension_tag) refl q)
+  passed_none : (t a e : ℕ) → may_hold k s t a e ≡ false → None ≡ item_where (is_extension_of s m k) d s t a e
+  passed_none t a e q =
+      in-item-other (is_extension_of s m k) d s t a e (λ h. never (let u = no-message t a e h in cc)) None (go (eqb t extension_tag) refl q)
     where
       go : (c : Bool) → eqb t extension_tag ≡ c → elim c [ true ↦ extension_says k s a e | false ↦ eqb t message_tag ] ≡ false
           → None ≡ declaration_where (is_extension_of s m k) extension_tag s t a e
@@ -132,9 +132,10 @@ module _ (m : List ℕ) (k d : ℕ) (s : List ℕ) (t a e : ℕ) where
 
   pub in-items-pass : {from to i : ℕ}
       → Seeking None (first_of tells_declared) (item_where (is_extension_of s m k) d s) s from to i → i < to
-      → (r : Option Field) → r ≡ field_at s i to → r ≡ Some (field t a e) → (b : Bool) → b ≡ may_hold k s t a e → b ≡ false
-      → Seeking None (first_of tells_declared) (item_where (is_extension_of s m k) d s) s from to e
-  in-items-pass l h r q g b u z = seek-next l h r q t a e g None (passed_none (sym u ∙ z)) refl (λ y. refl)
+      → (r : Option Field) → r ≡ field_at s i to → (it : Field) → r ≡ Some it → (b : Bool) → b ≡ may_hold k s it.tag it.from it.to
+      → b ≡ false → Seeking None (first_of tells_declared) (item_where (is_extension_of s m k) d s) s from to it.to
+  in-items-pass l h r q it g b u z =
+      seek-next l h r q it g None (passed_none it.tag it.from it.to (sym u ∙ z)) refl (λ y. refl)
 
 pub ruleset in_items_laws = (in-items-is, in-items-pass, seek_laws, not-true, not-false)
 
@@ -150,7 +151,7 @@ module _ (good : Declaration → Bool) (s : List ℕ) (t a e : ℕ) where
     pub in-file-named : (u : Span) → r ≡ Some u → (x : Option Declaration)
         → x ≡ declared (first good (every_extension_of (items_in most_messages s (walk s u.to e))))
         → x ≡ declared (first good (every_extension (file_at s t a e)))
-    in-file-named u g x p = rw (file-named s t a e [] h r q u.from u.to g, append-nil) p
+    in-file-named u g x p = rw (file-named s t a e [] h r q u g, append-nil) p
 
 pub ruleset in_file_laws = (in-file-other, in-file-unnamed, in-file-named, leaf_inside)
 

@@ -54,11 +54,11 @@ pub ruleset extension_says_laws = (extension-says-none, extension-says-of-none, 
 shape-says : (k : ℕ) (s : List ℕ) (at end : ℕ) (h : Shape) → Some h ≡ shape_at s at end → eqb h.number k ≡ says_number k s at end
 unfolding shape_at
 shape-says k s at end h =
-    on-leaf-some None (Some h) (leaf_at number_tag (of_size 4) s at end) _ L none λ w x.
-    on-leaf-some None (Some h) (leaf_at type_tag (of_size 1) s w.to end) _ L none λ q _.
-    on-leaf-some None (Some h) (leaf_at label_tag (of_size 1) s q.to end) _ L none λ l _.
-    on-leaf-some None (Some h) (type_path_at (get_or s q.from 0) s l.to end) _ L none λ p _ p.
-    let u : h ≡ shape (big_at 4 s n) (get_or s t 0) (get_or s l 0) a e = cc in
+    on-leaf-some None (Some h) (leaf_at number_tag (of_size 4) s at end) _ L none λ number x.
+    on-leaf-some None (Some h) (leaf_at type_tag (of_size 1) s number.to end) _ L none λ typ _.
+    on-leaf-some None (Some h) (leaf_at label_tag (of_size 1) s typ.to end) _ L none λ label _.
+    on-leaf-some None (Some h) (type_path_at (get_or s typ.from 0) s label.to end) _ L none λ path _ p.
+    let u : h ≡ shape (big_at 4 s number.from) (get_or s typ.from 0) (get_or s label.from 0) path = cc in
     rw (u, x)
   where
     L : Type 0

@@ -14,42 +14,55 @@ ghost use Rattle.scope.specs.inner.Steps.{declaration_at, tells_declared, whose,
 ghost use Rattle.numbers.specs.Number.{has_number, is_extension_of, field_numbered, extension_numbered, declaration_of};
 ghost use Rattle.numbers.specs.inner.Says.{says_number, field_says, extension_says, may_hold};
 
-use field::{Field, Span};
+use field::Span;
 use limits::MOST_MESSAGES;
 use named::{declaration_at, extends};
 use scope::lookup::LookupScope;
+use sheet::declaration::Declaration;
 use sheet::table;
 
 // Whether the number of a declaration is this one. It is read before the rest: most declarations that a look-up comes by are of another.
+#[tactic(auto, using(crate::proofs::SaysLaws::says_number_laws))]
 fn says_number(s: &[u8], at: usize, end: usize, number: u32) -> bool
     requires { (at ≤ end) × (end ≤ length s.now) }
     ensures { result ≡ says_number number s.now at end }
 {
-    let Some(figure) = field::sized_at(s, at, end, table::NUMBER, 4) else { return false; };
-    octets::u32_at(s, figure.from) == number
+    let Some(place) = field::sized_at(s, at, end, table::NUMBER, 4) else {
+        return false;
+    };
+    octets::u32_at(s, place.from) == number
 }
 
 // Whether a field says this number.
+#[tactic(auto, using(crate::proofs::SaysLaws::field_says_laws, crate::proofs::SaysLaws::says_number_laws))]
 fn field_says(s: &[u8], item: Span, number: u32) -> bool
     requires { Lies item s.now }
     ensures { result ≡ field_says number s.now item.from item.to }
 {
-    let Some(name) = field::leaf_at(s, item.from, item.to, table::NAME) else { return false; };
+    let Some(name) = field::leaf_at(s, item.from, item.to, table::NAME) else {
+        return false;
+    };
     says_number(s, name.to, item.to, number)
 }
 
 // Whether an extension says this number.
+#[tactic(auto, using(crate::proofs::SaysLaws::extension_says_laws, crate::proofs::SaysLaws::says_number_laws))]
 fn extension_says(s: &[u8], item: Span, number: u32) -> bool
     requires { Lies item s.now }
     ensures { result ≡ extension_says number s.now item.from item.to }
 {
     let end = item.to;
-    let Some(name) = field::leaf_at(s, item.from, end, table::NAME) else { return false; };
-    let Some(extendee) = field::leaf_at(s, name.to, end, table::EXTENDEE) else { return false; };
+    let Some(name) = field::leaf_at(s, item.from, end, table::NAME) else {
+        return false;
+    };
+    let Some(extendee) = field::leaf_at(s, name.to, end, table::EXTENDEE) else {
+        return false;
+    };
     says_number(s, extendee.to, end, number)
 }
 
 // The field of a message that a field of its body is, where it is of this number.
+#[tactic(auto, using(crate::proofs::NumberLaws::field_numbered_at_laws))]
 fn field_numbered_at(s: &[u8], tag: u8, item: Span, number: u32) -> Option<Declaration>
     requires { Lies item s.now }
     ensures { result ≡ whose None tells_declared (has_number number)
@@ -69,6 +82,7 @@ fn field_numbered_at(s: &[u8], tag: u8, item: Span, number: u32) -> Option<Decla
 }
 
 // The first field of that number of the message.
+#[tactic(auto, using(crate::proofs::NumberLaws::field_numbered_laws))]
 fn field_numbered(s: &[u8], scope: LookupScope, number: u32) -> Option<Declaration>
     requires { InSheet s.now scope }
     ensures { result ≡ declared (field_numbered number (holding s.now scope)) }
@@ -77,7 +91,10 @@ fn field_numbered(s: &[u8], scope: LookupScope, number: u32) -> Option<Declarati
     let mut at = scope.body.from;
     while at < end {
         let field = field::field_at(s, at, end)?;
-        let item = Span { from: field.from, to: field.to };
+        let item = Span {
+            from: field.from,
+            to: field.to,
+        };
         if let Some(d) = field_numbered_at(s, field.tag, item, number) {
             return Some(d);
         }
@@ -87,7 +104,14 @@ fn field_numbered(s: &[u8], scope: LookupScope, number: u32) -> Option<Declarati
 }
 
 // The extension that a field of a scope is, where it is of this message and number, read as a whole.
-fn extension_read_at(s: &[u8], tag: u8, item: Span, message: &[u8], number: u32) -> Option<Declaration>
+#[tactic(auto, using(crate::proofs::NumberLaws::extension_read_at_laws))]
+fn extension_read_at(
+    s: &[u8],
+    tag: u8,
+    item: Span,
+    message: &[u8],
+    number: u32,
+) -> Option<Declaration>
     requires { Lies item s.now }
     ensures { result ≡ whose None tells_declared (is_extension_of s.now message.now number)
         (declaration_at extension_tag s.now tag item.from item.to) }
@@ -104,6 +128,7 @@ fn extension_read_at(s: &[u8], tag: u8, item: Span, message: &[u8], number: u32)
 
 // Whether an extension of this number may stand in a field of a scope: whether that is a message, or an extension that says this number. It
 // is a test by itself, so that a loop that comes by many others hands no declaration on for them.
+#[tactic(auto, using(crate::proofs::NumberLaws::may_hold_laws))]
 fn may_hold(s: &[u8], tag: u8, item: Span, number: u32) -> bool
     requires { Lies item s.now }
     ensures { result ≡ may_hold number s.now tag item.from item.to }
@@ -116,6 +141,7 @@ fn may_hold(s: &[u8], tag: u8, item: Span, number: u32) -> bool
 
 // The first one in a field of a scope, at every depth, with `left` levels of messages left.
 #[cycle(extension_in_item_extension_in_items)]
+#[tactic(auto, using(crate::proofs::NumberLaws::in_item_laws))]
 fn extension_in_item(
     s: &[u8],
     tag: u8,
@@ -136,13 +162,23 @@ fn extension_in_item(
     }
     let end = item.to;
     let name = field::leaf_at(s, item.from, end, table::NAME)?;
-    let inside = Span { from: name.to, to: end };
+    let inside = Span {
+        from: name.to,
+        to: end,
+    };
     extension_in_items(s, inside, left - 1, message, number)
 }
 
 // The first one in what a scope holds.
 #[cycle(extension_in_item_extension_in_items)]
-fn extension_in_items(s: &[u8], body: Span, left: usize, message: &[u8], number: u32) -> Option<Declaration>
+#[tactic(auto, using(crate::proofs::NumberLaws::in_items_laws))]
+fn extension_in_items(
+    s: &[u8],
+    body: Span,
+    left: usize,
+    message: &[u8],
+    number: u32,
+) -> Option<Declaration>
     requires { Lies body s.now }
     ensures { result ≡ declared (first (is_extension_of s.now message.now number)
         (every_extension_of (items_in left s.now (walk s.now body.from body.to)))) }
@@ -151,7 +187,10 @@ fn extension_in_items(s: &[u8], body: Span, left: usize, message: &[u8], number:
     let mut at = body.from;
     while at < end {
         let field = field::field_at(s, at, end)?;
-        let item = Span { from: field.from, to: field.to };
+        let item = Span {
+            from: field.from,
+            to: field.to,
+        };
         if may_hold(s, field.tag, item, number) {
             if let Some(d) = extension_in_item(s, field.tag, item, left, message, number) {
                 return Some(d);
@@ -163,7 +202,14 @@ fn extension_in_items(s: &[u8], body: Span, left: usize, message: &[u8], number:
 }
 
 // The first one in a field of a sheet.
-fn extension_in_file(s: &[u8], tag: u8, item: Span, message: &[u8], number: u32) -> Option<Declaration>
+#[tactic(auto, using(crate::proofs::NumberLaws::in_file_laws))]
+fn extension_in_file(
+    s: &[u8],
+    tag: u8,
+    item: Span,
+    message: &[u8],
+    number: u32,
+) -> Option<Declaration>
     requires { Lies item s.now }
     ensures { result ≡ declared (first (is_extension_of s.now message.now number)
         (every_extension (file_at s.now tag item.from item.to))) }
@@ -173,11 +219,15 @@ fn extension_in_file(s: &[u8], tag: u8, item: Span, message: &[u8], number: u32)
     }
     let end = item.to;
     let package = field::leaf_at(s, item.from, end, table::PACKAGE)?;
-    let inside = Span { from: package.to, to: end };
+    let inside = Span {
+        from: package.to,
+        to: end,
+    };
     extension_in_items(s, inside, MOST_MESSAGES, message, number)
 }
 
 // The first extension of that message and number, wherever the sheet declares it.
+#[tactic(auto, using(crate::proofs::NumberLaws::extension_numbered_laws))]
 fn extension_numbered(s: &[u8], message: &[u8], number: u32) -> Option<Declaration>
     ensures { result ≡ declared (extension_numbered s.now message.now number) }
 {
@@ -185,7 +235,10 @@ fn extension_numbered(s: &[u8], message: &[u8], number: u32) -> Option<Declarati
     let mut at = 0;
     while at < end {
         let field = field::field_at(s, at, end)?;
-        let item = Span { from: field.from, to: field.to };
+        let item = Span {
+            from: field.from,
+            to: field.to,
+        };
         if let Some(d) = extension_in_file(s, field.tag, item, message, number) {
             return Some(d);
         }
@@ -195,7 +248,13 @@ fn extension_numbered(s: &[u8], message: &[u8], number: u32) -> Option<Declarati
 }
 
 // What declares the number at the message that the scope is and whose full name is `message`.
-pub fn declaration_of(s: &[u8], scope: LookupScope, message: &[u8], number: u32) -> Option<Declaration>
+#[tactic(auto, using(crate::proofs::NumberLaws::declaration_of_laws))]
+pub fn declaration_of(
+    s: &[u8],
+    scope: LookupScope,
+    message: &[u8],
+    number: u32,
+) -> Option<Declaration>
     requires { InSheet s.now scope }
     ensures { result ≡ declared (declaration_of s.now (holding s.now scope) message.now number) }
 {

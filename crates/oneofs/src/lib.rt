@@ -34,10 +34,8 @@ fn count_reals(words: &[u32]) -> u32
     ensures { result ≡ real_count words.now }
 {
     let mut count: u32 = 0;
-    let mut i = 0;
-    while i < words.len() {
+    for i in 0..words.len() {
         let w = words[i];
-        i += 1;
         if w == OPENS {
             count += 1;
         }
@@ -74,10 +72,8 @@ fn put_fields(numbering: u32, reals: u32, words: &[u32], out: &mut [u32]) -> Res
     let mut synthetic = first_synthetic(numbering, reals);
     let mut member: u32 = 0;
     let mut n = 0;
-    let mut i = 0;
-    while i < words.len() {
+    for i in 0..words.len() {
         let w = words[i];
-        i += 1;
         if w == PLAIN {
             put_word(out, n, 0);
             member = 0;

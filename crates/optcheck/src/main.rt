@@ -8,6 +8,7 @@ use console::input::MOST_BYTES;
 use console::output::{number, text};
 use counts::declarations::count;
 use counts::options::{count_options, count_parts};
+use reply::Refusal;
 use sheet::table;
 
 const SHEET: u8 = 0x40;
@@ -40,11 +41,11 @@ fn tell_request(request: &[u8]) {
 
 // Whether a verdict is fine; a refusal is printed.
 fn told(verdict: Result<(), Refusal>) -> bool {
-    let Err(why) = verdict else {
-        return true;
-    };
-    console::output::answer(reply::refused(why));
-    false
+    if let Err(why) = verdict {
+        console::output::answer(reply::refused(why));
+        return false;
+    }
+    true
 }
 
 // A sheet alone.
@@ -76,20 +77,23 @@ fn has_request(s: &[u8], at: usize) -> bool {
 }
 
 // One case, and where the next one starts; 0 where the input is no such fields.
+#[tactic(auto, using(crate::proofs::CaseLaws::case_laws))]
 fn check_case(s: &[u8], at: usize) -> usize
     requires { at ≤ length s.now }
     ensures { result ≤ length s.now }
 {
-    let Some(Span { from, to }) = console::input::field_of(s, at, SHEET) else {
+    let Some(sheet) = console::input::field_of(s, at, SHEET) else {
         return 0;
     };
-    if !has_request(s, to) {
-        check_sheet(&s[from..to]);
-        return to;
+    if !has_request(s, sheet.to) {
+        check_sheet(&s[sheet.from..sheet.to]);
+        return sheet.to;
     }
-    let Some(place) = console::input::field_of(s, to, REQUEST) else { return 0; };
-    check_both(&s[from..to], &s[place.from..place.to]);
-    place.to
+    let Some(request) = console::input::field_of(s, sheet.to, REQUEST) else {
+        return 0;
+    };
+    check_both(&s[sheet.from..sheet.to], &s[request.from..request.to]);
+    request.to
 }
 
 // All cases, of which there has to be one.
@@ -108,6 +112,7 @@ fn check_cases(s: &[u8]) {
 }
 
 // Standard input, read into a lent buffer.
+#[tactic(auto, using(crate::proofs::CaseLaws::case_laws))]
 fn run_over(buffer: &mut [u8]) {
     let Some(n) = console::input::read(buffer) else {
         return;

@@ -40,12 +40,12 @@ pub record PartsTo (s : List ℕ) (n x : ℕ) (ps : List Part) (y : ℕ) : Type 
   pub ends : x ≡ y
 
 module _ (s : List ℕ) (x : ℕ) where
-  no-parts : (n y : ℕ) → n ≤ most_parts → Ok y ≡ Ok x → PartsTo s n x [] y
+  no-parts : (n y : ℕ) → n ≤ most_parts → ◌≡◌ {A = Result ℕ Refusal} (Ok y) (Ok x) → PartsTo s n x [] y
   no-parts n y h p = record { good = refl; few = omega arith; ends = cc }
 
   part-more : (n : ℕ) (p : Part) (ps : List Part) (y : ℕ) (v : Result ℕ Refusal) → (n + 1 ≤ most_parts → v ≡ Ok x → PartsTo s (n + 1) x ps y)
       → (b : Bool) → ltb n most_parts ≡ b → (c : Bool) → good_part p.extension (text s p.name) ≡ c
-      → elim b [ true ↦ elim c [ true ↦ v | false ↦ Err BadRequest ] | false ↦ Err BeyondLimit ] ≡ Ok x
+      → ◌≡◌ {A = Result ℕ Refusal} (elim b [ true ↦ elim c [ true ↦ v | false ↦ Err BadRequest ] | false ↦ Err BeyondLimit ]) (Ok x)
       → PartsTo s n x (p ∷ ps) y
   part-more n p ps y v more true l true g q =
       let i = more (omega (arith, ltb-true n most_parts l)) q in
@@ -140,10 +140,10 @@ last-good s x e h l =
 
 last-alone : (s : List ℕ) (x e : ℕ) → LastConstant s x e → length (tags_in (walk s x e)) ≡ 1
 last-alone s x e l =
-    let b : Bounds x e l.from l.to = field-bounds s x e (field_at s x e) refl l.tag l.from l.to l.whole in
+    let b : Bounds x e l.from l.to = field-bounds s x e (field_at s x e) refl (field l.tag l.from l.to) l.whole in
     let h : x < e = omega (arith, b.starts, b.ordered, l.ends) in
     rw (
-      walk_step s x e h (field_at s x e) refl l.tag l.from l.to l.whole,
+      walk_step s x e h (field_at s x e) refl (field l.tag l.from l.to) l.whole,
       walk-done s l.to e (omega (arith, l.ends)),
     )
 

@@ -10,7 +10,7 @@ use Rattle.octets.specs.Octets.{part}
 use Rattle.reply.specs.declared.Refusal.{Refusal}
 use Rattle.reply.specs.declared.Refusal.TheVariants.{BadRequest, BeyondLimit}
 use Rattle.reply.specs.Verdicts.{judged, Verdict, fine}
-use Rattle.field.specs.Field.{field_at, field}
+use Rattle.field.specs.Field.{field_at}
 use Rattle.field.specs.Walk.{walk}
 use Rattle.field.proofs.FieldLaws.{field-reads, field-ordered}
 use Rattle.field.proofs.Rest.{Rest, rest-start, rest_end}

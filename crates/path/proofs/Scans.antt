@@ -24,7 +24,7 @@ pub ending-start : (s : List ℕ) (at : ℕ) → at ≤ length s → Ending s at
 ending-start s at h = record { within = h; rest = refl }
 
 module _ (s : List ℕ) (at i : ℕ) (k : Ending s at i) where
-  pub ending-over : length s ≤ i → i ≡ at + length (until_dot (drop at s))
+  pub ending-over : length s ≤ i → length s ≡ at + length (until_dot (drop at s))
   unfolding until_dot
   ending-over h = rw (k.rest, drop_of_length-le s h) (omega arith)
 

@@ -14,14 +14,12 @@ pub fn component_end(s: &[u8], at: usize) -> usize
     requires { at ≤ length s.now }
     ensures { result ≡ at + length (until_dot (drop at s.now)) }
 {
-    let mut i = at;
-    while i < s.len() {
+    for i in at..s.len() {
         if s[i] == b'.' {
             return i;
         }
-        i += 1;
     }
-    i
+    s.len()
 }
 
 // Whether each piece between two dots, from a place on, is an identifier.
@@ -90,12 +88,10 @@ pub fn count(s: &[u8]) -> usize
 pub fn last_at(s: &[u8]) -> usize
     ensures { LastStarts s.now result }
 {
-    let mut i = s.len();
-    while 0 < i {
-        if s[i - 1] == b'.' {
-            return i;
+    for i in (0..s.len()).rev() {
+        if s[i] == b'.' {
+            return i + 1;
         }
-        i -= 1;
     }
     0
 }

@@ -1,7 +1,8 @@
--- The laws of verdicts: the first fault is the answer, what `judge` returns, what a public call says, and what a verdict that is fine says
--- of its parts.
+-- The laws of verdicts: the first fault is the answer, what `judge` returns, what a public call says, what `?` hands on, and what a verdict
+-- that is fine says of its parts.
 -- Assumes nothing.
-use Rattle.std.specs.Prelude.{◌≡◌, refl, Bool, true, false, ℕ, Err, Ok}
+use Rattle.std.specs.Prelude.{◌≡◌, refl, Bool, true, false, ℕ, Result, Err, Ok}
+use Rattle.std.specs.Result.{IsErrAnd}
 use Rattle.basis.specs.Kit.{ap}
 use Rattle.basis.proofs.Never.{never}
 use Rattle.reply.specs.declared.Refusal.{Refusal}
@@ -22,6 +23,11 @@ module _ (w : Refusal) (b : Bool) where
 
   pub judged_false : b ≡ false → Err w ≡ judged w b
   judged_false g = rw g
+
+-- ---- what `?` hands on is v, where its error is what v is
+pub handed-on : {A E : Type 0} {r v : Result A E} {w : E} → IsErrAnd r (λ e. e ≡ w) → Err w ≡ v → r ≡ v
+handed-on {r = Ok x} h q = elim h [ ]
+handed-on {r = Err e} h q = rw h q
 
 -- ---- an answer that is a verdict has its number and its second word
 pub says : (v r : Verdict) → r ≡ v → Says v r

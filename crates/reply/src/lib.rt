@@ -82,7 +82,7 @@ impl Refusal {
     }
 }
 
-// Fine where the test holds.
+// Ok where the test holds.
 #[tactic(auto, using(crate::proofs::VerdictLaws::judged_false, crate::proofs::VerdictLaws::judged_true))]
 pub fn judge(holds: bool, why: Refusal) -> Result<(), Refusal>
     ensures { result ≡ judged why holds }
@@ -224,15 +224,9 @@ fn spelled(text: &[u8]) -> Name
     ensures within { result.length ≤ most_name }
 {
     let mut bytes = [0u8; MOST_NAME];
-    let mut i = 0;
-    while i < text.len() {
-        bytes[i] = text[i];
-        i += 1;
-    }
-    Name {
-        bytes: bytes,
-        length: i,
-    }
+    let length = text.len();
+    bytes[..length].copy_from_slice(text);
+    Name { bytes, length }
 }
 
 // The name that a table has for this number and this second word, empty where it has none.

@@ -66,8 +66,8 @@ p1 =
     ∷ []
 
 -- P1; no options; `.x` in 1B; a bool inside 15 lists; 16 parts; pairs by field, extension path and type URL
-abbrev fine : List (List ℕ)
-fine =
+abbrev sound : List (List ℕ)
+sound =
     p1
     ∷ request []
     ∷ option (field extension_part_tag rooted) yes
@@ -94,7 +94,7 @@ bad =
 abbrev large : List (List ℕ)
 large = option direct (in_lists 16 yes) ∷ option (times 17 direct) yes ∷ replicate 8193 0 ∷ []
 
-requests : map judge_request (fine ++ bad ++ large) ≡ replicate 6 fine ++ replicate 8 bad_request ++ replicate 3 beyond
+requests : map judge_request (sound ++ bad ++ large) ≡ replicate 6 fine ++ replicate 8 bad_request ++ replicate 3 beyond
 unfolding judge_request judge_options judge_option judge_last is_constant is_bool is_url good_scalar good_pair_name good_part
     leaf_at field_at big_at walk_by part_of
     is_rel_or_empty is_rel_path is_path rootless components split on_first all_ident is_ident is_letter is_digit all_word

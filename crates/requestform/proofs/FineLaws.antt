@@ -11,8 +11,8 @@ use Rattle.limits.specs.Figures.{most_request, most_options, most_parts}
 use Rattle.path.specs.Path.{is_rel_path, is_rel_or_empty}
 use Rattle.reply.specs.declared.Refusal.TheVariants.{BadRequest, BeyondLimit}
 use Rattle.reply.proofs.VerdictLaws.{refused-fine, first-fine-front, first-fine-rest, judged-fine}
-use Rattle.field.specs.Field.{field_at, field}
-use Rattle.field.specs.Leaf.{span, text, any_bytes, on_leaf, leaf_at}
+use Rattle.field.specs.Field.{field_at}
+use Rattle.field.specs.Leaf.{text, any_bytes, on_leaf, leaf_at}
 use Rattle.field.specs.Walk.{Walk, done, cut, step, walk, tags_in}
 use Rattle.form.specs.Each.{each_from}
 use Rattle.field.proofs.LeafLaws.{leaf-tested, leaf-untested, on-leaf-some}
@@ -83,20 +83,20 @@ module _ (s : List ℕ) where
       → FineRequest s
   unfolding judge_options
   typed-fine u l p =
-      on-leaf-some bad_request fine (leaf_at options_type_tag is_rel_path s u.to (length s)) (λ m options. judge_options s options (length s))
+      on-leaf-some bad_request fine (leaf_at options_type_tag is_rel_path s u.to (length s)) (λ p. judge_options s p.to (length s))
       (FineRequest s)
       (λ q. refused-fine BadRequest (sym q))
       (λ w k q. record {
-        heading = record { scope = u; options_type = span w.from w.to; w.to = w.to };
+        heading = record { scope = u; options_type = w; options = w.to };
         heads =
-            sym (heading-is s (leaf_at scope_tag any_bytes s 0 (length s)) refl u.from u.to
-            (leaf-untested scope_tag is_rel_or_empty s 0 (length s) u.from u.to l)
-            (leaf_at options_type_tag any_bytes s u.to (length s)) refl w.from w.to
-            (leaf-untested options_type_tag is_rel_path s u.to (length s) w.from w.to k));
-        scope = leaf-tested scope_tag is_rel_or_empty s 0 (length s) u.from u.to l;
-        options_type = leaf-tested options_type_tag is_rel_path s u.to (length s) w.from w.to k;
+            sym (heading-is s (leaf_at scope_tag any_bytes s 0 (length s)) refl u
+            (leaf-untested scope_tag is_rel_or_empty s 0 (length s) u l)
+            (leaf_at options_type_tag any_bytes s u.to (length s)) refl w
+            (leaf-untested options_type_tag is_rel_path s u.to (length s) w k));
+        scope = leaf-tested scope_tag is_rel_or_empty s 0 (length s) u l;
+        options_type = leaf-tested options_type_tag is_rel_path s u.to (length s) w k;
         fine = sym q;
-        w.to = options-fine s 0 (walk s w.to (length s)) (walk-within s (length s) (omega arith) w.to) (sym q);
+        options = options-fine s 0 (walk s w.to (length s)) (walk-within s (length s) (omega arith) w.to) (sym q);
       })
       (sym p)
 
@@ -104,9 +104,8 @@ module _ (s : List ℕ) where
   unfolding judge_request
   request-fine = go (ltb most_request (length s))
     where
-      typed : ℕ → ℕ → Verdict
-      typed a types =
-          on_leaf bad_request (leaf_at options_type_tag is_rel_path s types (length s)) (λ l. judge_options s l.to (length s))
+      typed : Span → Verdict
+      typed u = on_leaf bad_request (leaf_at options_type_tag is_rel_path s u.to (length s)) (λ p. judge_options s p.to (length s))
 
       go : (b : Bool) → elim b [ true ↦ beyond | false ↦ on_leaf bad_request (leaf_at scope_tag is_rel_or_empty s 0 (length s)) typed ] ≡ fine
           → FineRequest s
@@ -114,7 +113,7 @@ module _ (s : List ℕ) where
       go false p =
           on-leaf-some bad_request fine (leaf_at scope_tag is_rel_or_empty s 0 (length s)) typed (FineRequest s)
           (λ q. refused-fine BadRequest (sym q))
-          (λ u l q. typed-fine u.from u.to l (sym q))
+          (λ u l q. typed-fine u l (sym q))
           (sym p)
 
 -- a heading r, fine options after it, and an option of the tree for every field there

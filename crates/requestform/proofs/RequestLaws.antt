@@ -1,7 +1,7 @@
 -- Requests, and what a call is given alone: the ways through `check_options`, `check_request`, `check_scope`, `check_options_type`,
 -- `check_path` and `check_name`.
 -- Assumes nothing.
-use Rattle.std.specs.Prelude.{◌≡◌, Bool, ◌&&◌, List, ℕ, ◌+◌, ◌-◌, ◌≤◌, ◌<◌, eqb, length, Err, None, Some, Ok, Option, Result}
+use Rattle.std.specs.Prelude.{◌≡◌, Bool, ◌&&◌, List, ℕ, ◌+◌, ◌≤◌, ◌<◌, eqb, length, Err, None, Some, Ok, Option, Result}
 use Rattle.basis.proofs.Kit.{arith, lt-ltb, le-ltb}
 use mathlib.Core.Bool.{not}
 use Rattle.limits.specs.Figures.{most_request}
@@ -10,9 +10,9 @@ use Rattle.reply.specs.declared.Refusal.TheVariants.{BadRequest}
 use Rattle.reply.specs.Verdicts.{judged, beyond, Verdict}
 use Rattle.reply.proofs.VerdictLaws.{says}
 use Rattle.reply.specs.declared.Refusal.{Refusal}
-use Rattle.field.specs.Leaf.{leaf_at, span}
+use Rattle.field.specs.Leaf.{leaf_at}
 use Rattle.field.proofs.LeafLaws.{leaf_inside}
-use Rattle.field.specs.Field.{field_at, field}
+use Rattle.field.specs.Field.{field_at}
 use Rattle.field.specs.Walk.{walk}
 use Rattle.field.proofs.FieldLaws.{field-bounds, field-ordered}
 use Rattle.field.proofs.Rest.{Rest, rest-start}
@@ -33,7 +33,7 @@ options-start s from to h k = rest-start (each_from BadRequest (judge_option s) 
 
 -- there are no more fields than bytes
 pub index-next : (s : List ℕ) (at end n : ℕ) (r : Option Field) → r ≡ field_at s at end → (f : Field) → r ≡ Some f → n ≤ at → n + 1 ≤ f.to
-index-next s at end n r q f g h = let b = field-bounds s at end r q f.tag f.from f.to g in omega (arith, b.starts, b.ordered)
+index-next s at end n r q f g h = let b = field-bounds s at end r q f g in omega (arith, b.starts, b.ordered)
 
 pub ruleset options_laws = (options-start, index-next, each_from_laws, field-ordered)
 

@@ -6,7 +6,6 @@ ghost use Rattle.std.specs.Prelude.{◌≡◌, ◌≤◌, length};
 ghost use Rattle.reply.specs.Verdicts.{Says};
 ghost use Rattle.requestform.specs.Form.{judge_options, judge_request, judge_scope, judge_options_type, judge_path, judge_name};
 
-use field::{Field, Span};
 use limits::MOST_REQUEST;
 use optionform::{check_option, check_parts};
 use path::protobuf_path::is_path;
@@ -15,6 +14,7 @@ use reply::Refusal;
 use request::table;
 
 // The options of a request, from a place on.
+#[tactic(auto, using(crate::proofs::RequestLaws::options_laws))]
 fn check_options(s: &[u8], from: usize, end: usize) -> Result<(), Refusal>
     requires { (from ≤ end) × (end ≤ length s.now) }
     ensures { result ≡ judge_options s.now from end }
@@ -22,7 +22,9 @@ fn check_options(s: &[u8], from: usize, end: usize) -> Result<(), Refusal>
     let mut at = from;
     let mut index = 0;
     while at < end {
-        let Some(field) = field::field_at(s, at, end) else { return Err(Refusal::BadRequest); };
+        let Some(field) = field::field_at(s, at, end) else {
+            return Err(Refusal::BadRequest);
+        };
         check_option(s, index, field.tag, field.from, field.to)?;
         index += 1;
         at = field.to;
@@ -31,6 +33,7 @@ fn check_options(s: &[u8], from: usize, end: usize) -> Result<(), Refusal>
 }
 
 // Whether a request is fine, or its first fault.
+#[tactic(auto, using(crate::proofs::RequestLaws::request_laws))]
 pub fn check_request(s: &[u8]) -> Result<(), Refusal>
     ensures { Says (judge_request s.now) result }
 {
@@ -38,12 +41,17 @@ pub fn check_request(s: &[u8]) -> Result<(), Refusal>
         return Err(Refusal::BeyondLimit);
     }
     let end = s.len();
-    let Some(scope) = form::rel_or_empty_at(s, 0, end, table::SCOPE) else { return Err(Refusal::BadRequest); };
-    let Some(options_type) = form::rel_path_at(s, scope.to, end, table::OPTIONS_TYPE) else { return Err(Refusal::BadRequest); };
+    let Some(scope) = form::rel_or_empty_at(s, 0, end, table::SCOPE) else {
+        return Err(Refusal::BadRequest);
+    };
+    let Some(options_type) = form::rel_path_at(s, scope.to, end, table::OPTIONS_TYPE) else {
+        return Err(Refusal::BadRequest);
+    };
     check_options(s, options_type.to, end)
 }
 
 // Whether a scope that a call is given alone is fine.
+#[tactic(auto, using(crate::proofs::RequestLaws::alone_laws))]
 pub fn check_scope(scope: &[u8]) -> Result<(), Refusal>
     ensures { Says (judge_scope scope.now) result }
 {
@@ -51,6 +59,7 @@ pub fn check_scope(scope: &[u8]) -> Result<(), Refusal>
 }
 
 // Whether the path of an options type that a call is given alone is fine.
+#[tactic(auto, using(crate::proofs::RequestLaws::alone_laws))]
 pub fn check_options_type(path: &[u8]) -> Result<(), Refusal>
     ensures { Says (judge_options_type path.now) result }
 {
@@ -58,6 +67,7 @@ pub fn check_options_type(path: &[u8]) -> Result<(), Refusal>
 }
 
 // Whether a path that a call is given alone, as an extension part is written, is fine.
+#[tactic(auto, using(crate::proofs::RequestLaws::alone_laws))]
 pub fn check_path(path: &[u8]) -> Result<(), Refusal>
     ensures { Says (judge_path path.now) result }
 {
@@ -65,11 +75,10 @@ pub fn check_path(path: &[u8]) -> Result<(), Refusal>
 }
 
 // Whether a name that a call is given alone, parts as an option has them, is fine.
+#[tactic(auto, using(crate::proofs::RequestLaws::name_laws))]
 pub fn check_name(s: &[u8]) -> Result<(), Refusal>
     ensures { Says (judge_name s.now) result }
 {
-    match check_parts(s, 0, s.len()) {
-        Err(why) => Err(why),
-        Ok(at) => reply::judge((at != 0) & (at == s.len()), Refusal::BadRequest),
-    }
+    let at = check_parts(s, 0, s.len())?;
+    reply::judge((at != 0) & (at == s.len()), Refusal::BadRequest)
 }

@@ -15,6 +15,7 @@ use Rattle.field.specs.Leaf.{span, is_text, any_bytes, on_leaf, leaf_at}
 use Rattle.field.specs.Walk.{Walk, done, cut, step, walk}
 use Rattle.field.proofs.LeafLaws.{leaf-ordered, leaf-within, leaf-none, leaf-bad, leaf-good}
 use Rattle.field.proofs.Seek.{seek, seek_is, seek_laws}
+use Rattle.field.proofs.InFields.{sought_laws}
 use Rattle.sheet.specs.Table.{message_tag, enum_tag, name_tag}
 use Rattle.sheet.specs.Tree.{Items, none, values_in, item_in, message_in, items_in}
 use Rattle.sheet.specs.Members.{Message, messages_of, enums_of}
@@ -78,7 +79,7 @@ pub body-named-is : (k : ℕ) (n s : List ℕ) (w : Walk) (r : Option Span) → 
 body-named-is k n s w r q =
     q ∙ sym (seek_is None (first_of tells_leaf) (body_at k n s) (body_named k n s) refl refl (λ t a e w. refl) w)
 
-pub ruleset body_named_laws = (body-named-is, seek_laws)
+pub ruleset body_named_laws = (body-named-is, sought_laws)
 
 -- it is the body of the first of that name among the members of one kind, whatever the kind: those that fields of one tag make
 module _ (d : ℕ) (s n : List ℕ) {A : Type 0} (k : ℕ) (all : Items → List A) (name body : A → Span) (made : Span → ℕ → A)

@@ -9,6 +9,7 @@ ghost use Rattle.scope.specs.inner.Answers.{InSheet, placed, bodied};
 ghost use Rattle.scope.specs.inner.Steps.{body_at, body_named};
 
 use field::Span;
+use field::fields::Fields;
 use sheet::table;
 
 // A file or a message of the sheet, protobuf-parse's LookupScope2.
@@ -59,14 +60,11 @@ fn body_named(s: &[u8], scope: LookupScope, want: u8, name: &[u8]) -> Option<Spa
     ensures { result ≡ body_named want name.now s.now
         (walk s.now scope.body.from scope.body.to) }
 {
-    let end = scope.body.to;
-    let mut at = scope.body.from;
-    while at < end {
-        let field = field::field_at(s, at, end)?;
+    for field in Fields::between(s, scope.body.from, scope.body.to) {
+        let field = field?;
         if let Some(body) = body_at(s, field.tag, field.from, field.to, want, name) {
             return Some(body);
         }
-        at = field.to;
     }
     None
 }

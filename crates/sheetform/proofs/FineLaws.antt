@@ -9,7 +9,7 @@ use Rattle.limits.specs.Figures.{most_files, most_messages}
 use Rattle.path.specs.Path.{is_rel_or_empty}
 use Rattle.reply.specs.declared.Refusal.TheVariants.{BadSheet, BeyondLimit}
 use Rattle.reply.proofs.VerdictLaws.{refused-fine, first-fine-front, first-fine-rest}
-use Rattle.field.specs.Field.{field_at, field}
+use Rattle.field.specs.Field.{field_at}
 use Rattle.field.specs.Leaf.{any_bytes, on_leaf, leaf_at}
 use Rattle.field.specs.Walk.{Walk, done, cut, step, walk, tags_in}
 use Rattle.form.specs.Each.{each_from}

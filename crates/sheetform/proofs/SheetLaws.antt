@@ -12,7 +12,7 @@ use Rattle.reply.specs.declared.Refusal.{Refusal}
 use Rattle.reply.specs.declared.Refusal.TheVariants.{BadSheet, BeyondLimit}
 use Rattle.reply.proofs.VerdictLaws.{says, first-fine-front}
 use Rattle.field.specs.Walk.{Walk}
-use Rattle.field.specs.Leaf.{leaf_at, span}
+use Rattle.field.specs.Leaf.{leaf_at}
 use Rattle.form.specs.Each.{each_from}
 use Rattle.field.proofs.FieldLaws.{field-ordered}
 use Rattle.field.proofs.LeafLaws.{leaf_inside}

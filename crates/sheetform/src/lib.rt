@@ -5,13 +5,13 @@ ghost use Rattle.std.specs.Prelude.{◌≡◌, ◌≤◌, length};
 ghost use Rattle.reply.specs.Verdicts.{Says};
 ghost use Rattle.sheetform.specs.Form.{judge_file, judge_files, judge_length, judge_sheet};
 
-use field::{Field, Span};
 use limits::{MOST_FILES, MOST_MESSAGES, MOST_SHEET};
 use messageform::check_items;
 use reply::Refusal;
 use sheet::table;
 
 // One field of a sheet, which has `index` before it.
+#[tactic(auto, using(crate::proofs::SheetLaws::file_laws))]
 fn check_file(s: &[u8], index: usize, tag: u8, from: usize, to: usize) -> Result<(), Refusal>
     requires { (from ≤ to) × (to ≤ length s.now) }
     ensures { result ≡ judge_file s.now index tag from to }
@@ -22,11 +22,14 @@ fn check_file(s: &[u8], index: usize, tag: u8, from: usize, to: usize) -> Result
     if MOST_FILES <= index {
         return Err(Refusal::BeyondLimit);
     }
-    let Some(package) = form::rel_or_empty_at(s, from, to, table::PACKAGE) else { return Err(Refusal::BadSheet); };
+    let Some(package) = form::rel_or_empty_at(s, from, to, table::PACKAGE) else {
+        return Err(Refusal::BadSheet);
+    };
     check_items(s, package.to, to, MOST_MESSAGES, false)
 }
 
 // The files of a sheet.
+#[tactic(auto, using(crate::proofs::SheetLaws::files_laws))]
 fn check_files(s: &[u8]) -> Result<(), Refusal>
     ensures { result ≡ judge_files s.now }
 {
@@ -34,7 +37,9 @@ fn check_files(s: &[u8]) -> Result<(), Refusal>
     let mut at = 0;
     let mut index = 0;
     while at < end {
-        let Some(field) = field::field_at(s, at, end) else { return Err(Refusal::BadSheet); };
+        let Some(field) = field::field_at(s, at, end) else {
+            return Err(Refusal::BadSheet);
+        };
         check_file(s, index, field.tag, field.from, field.to)?;
         index += 1;
         at = field.to;
@@ -43,6 +48,7 @@ fn check_files(s: &[u8]) -> Result<(), Refusal>
 }
 
 // Whether a sheet is short enough.
+#[tactic(auto, using(crate::proofs::SheetLaws::length_laws))]
 pub fn check_length(s: &[u8]) -> Result<(), Refusal>
     ensures { Says (judge_length s.now) result }
 {
@@ -50,6 +56,7 @@ pub fn check_length(s: &[u8]) -> Result<(), Refusal>
 }
 
 // Whether a sheet is fine, or its first fault.
+#[tactic(auto, using(crate::proofs::SheetLaws::sheet_laws))]
 pub fn check_sheet(s: &[u8]) -> Result<(), Refusal>
     ensures { Says (judge_sheet s.now) result }
 {

@@ -77,8 +77,7 @@ pub fn varint_at(s: &[u8], at: usize, end: usize) -> Option<Read>
     let mut value: u64 = 0;
     let mut scale: u64 = 1;
     let mut more = MOST_VARINT - 1;
-    let mut i = at;
-    while i < end {
+    for i in at..end {
         let b = octets::byte_at(s, i) as u64;
         if more == 0 {
             if b < 2 {
@@ -98,7 +97,6 @@ pub fn varint_at(s: &[u8], at: usize, end: usize) -> Option<Read>
         value += b % 128 * scale;
         scale *= 128;
         more -= 1;
-        i += 1;
     }
     None
 }

@@ -27,9 +27,9 @@ module _ (l : List ℕ) (at v width : ℕ) (m : List ℕ) (x i : ℕ) (f : Filli
       let next = halfway-next (x % 256) (little_of (width - (i + 1)) (x / 256)) (rw less at f.laid) e in
       record { within = omega arith; laid = rw (add_assoc at i 1) at next }
 
-  pub filling-end : width ≤ i → Laid l at (little_of width v) m (at + i)
+  pub filling-end : width ≤ i → Laid l at (little_of width v) m (at + width)
   unfolding little_of
-  filling-end h = halfway-end (rw (sub-eq-zero_of_le h) at f.laid)
+  filling-end h = let z : i ≡ width = omega (arith, f.within) in rw z at (halfway-end (rw (sub-eq-zero_of_le h) at f.laid))
 
   pub filling-length : length m ≡ length l
   filling-length = halfway-length f.laid

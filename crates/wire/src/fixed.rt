@@ -11,13 +11,11 @@ fn put_little(out: &mut [u8], at: usize, v: u64, width: usize) -> usize
     ensures { Laid out.old at (little_of width v) out.new result }
 {
     let mut x = v;
-    let mut i = 0;
-    while i < width {
+    for i in 0..width {
         octets::put(out, at + i, (x % 256) as u8);
         x /= 256;
-        i += 1;
     }
-    at + i
+    at + width
 }
 
 // The number of the `width` bytes at a place.
@@ -27,9 +25,7 @@ fn little_at(s: &[u8], at: usize, width: usize) -> u64
     ensures { (result ≡ little (part s.now at (at + width))) × (result < 256 ^ width) }
 {
     let mut n: u64 = 0;
-    let mut i = width;
-    while 0 < i {
-        i -= 1;
+    for i in (0..width).rev() {
         n = n * 256 + (octets::byte_at(s, at + i) as u64);
     }
     n

@@ -1,10 +1,7 @@
 -- `extensions::find_extension_by_path` meets its contract.
 -- Assumes nothing.
-use Rattle.extensions.proofs.ExtensionLaws.{extension_by_path_laws}
+use Rattle.extensions.proofs.ExtensionLaws.{extension_by_path_laws, handed-on}
 use Rattle.extensions.proofs.find_extension_by_path.Goals as goal
 
-pub returns-in-Refused : goal.returns-in-Refused
-returns-in-Refused c = search extension_by_path_laws
-
-pub returns-in-Answers : goal.returns-in-Answers
-returns-in-Answers c = search extension_by_path_laws
+pub returns-in_err-first : goal.returns-in_err-first
+returns-in_err-first c = handed-on c.from_residual.ensures.1 (search (extension_by_path_laws, c.in_err-first.was))

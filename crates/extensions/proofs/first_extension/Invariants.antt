@@ -6,8 +6,8 @@ use Rattle.cursor.proofs.Left.{Left}
 use Rattle.extensions.proofs.ExtensionLaws.{named_in}
 use Rattle.extensions.proofs.first_extension.Given as goal
 
-abbrev pub invariant-loop-scope : goal.invariant-loop-scope
-invariant-loop-scope l = Left (named_in l.s l.name (ahead l.s l.names l.initial.c)) (named_in l.s l.name) l.s l.names l.c
+abbrev pub invariant-loop-next : goal.invariant-loop-next
+invariant-loop-next l = Left (named_in l.s l.name (ahead l.s l.names l.initial.c)) (named_in l.s l.name) l.s l.names l.c
 
-abbrev pub decreases-loop-scope : goal.decreases-loop-scope
-decreases-loop-scope l = length (ahead l.s l.names l.c)
+abbrev pub decreases-loop-next : goal.decreases-loop-next
+decreases-loop-next l = length (ahead l.s l.names l.c)

@@ -1,19 +1,15 @@
 -- `fullname::only_enum` meets its contract.
 -- Assumes nothing.
+use Rattle.std.specs.Prelude.{◌≡◌, Some}
 use Rattle.fullname.proofs.FullNameLaws.{only_enum_laws}
 use Rattle.fullname.proofs.only_enum.Goals as goal
 
-pub returns-in_default : goal.returns-in_default
-returns-in_default c = search only_enum_laws
-
 pub next_enum-requires-2 : goal.next_enum-requires-2
-next_enum-requires-2 c = search only_enum_laws
-
-pub returns-in-At-next_enum : goal.returns-in-At-next_enum
-returns-in-At-next_enum c = search only_enum_laws
-
-pub enum_in-requires : goal.enum_in-requires
-enum_in-requires c = search only_enum_laws
+next_enum-requires-2 c =
+    let first : c.next_enum.result ≡ Some c.in_ok-first.first = rw c.in_ok-first.was at c.ok_or.ensures.ok_part in
+    search only_enum_laws
 
 pub returns : goal.returns
-returns c = search only_enum_laws
+returns c =
+    let first : c.next_enum.result ≡ Some c.in_ok-first.first = rw c.in_ok-first.was at c.ok_or.ensures.ok_part in
+    search only_enum_laws

@@ -1,13 +1,9 @@
 -- `oneofs::put_fields` meets its contract, by its loop's invariant and laws.
 -- Assumes nothing.
 -- the turn of an optional field is searched for by its own law alone: beside `numbering-plain`, which fits too, the search finds no way
-use Rattle.std.specs.Prelude.{◌-◌, length}
 use Rattle.oneofs.proofs.WritingLaws.{Numbering}
 use Rattle.oneofs.proofs.put_fields.Given as goal
 
 abbrev pub invariant-loop-i : goal.invariant-loop-i
 invariant-loop-i l =
     Numbering l.numbering l.reals l.words l.initial.out l.out l.real l.synthetic l.member l.n l.i
-
-abbrev pub decreases-loop-i : goal.decreases-loop-i
-decreases-loop-i l = length l.words - l.i

@@ -1,26 +1,12 @@
 -- `requestform::check_options` meets its contract.
 -- Assumes nothing.
 use Rattle.basis.proofs.Kit.{rules}
+use Rattle.reply.proofs.VerdictLaws.{handed-on}
 use Rattle.requestform.proofs.RequestLaws.{options_laws}
 use Rattle.requestform.proofs.check_options.Goals as goal
 
-pub loop-at-init : goal.loop-at-init
-loop-at-init c = search (rules, options_laws)
-
-pub returns-in_default : goal.returns-in_default
-returns-in_default c = search options_laws
-
-pub check_option-requires : goal.check_option-requires
-check_option-requires c = search options_laws
-
-pub returns-in-Refused : goal.returns-in-Refused
-returns-in-Refused c = search options_laws
-
-pub loop-at-smaller : goal.loop-at-smaller
-loop-at-smaller c = search options_laws
+pub returns-in_err-check_option : goal.returns-in_err-check_option
+returns-in_err-check_option c = handed-on c.from_residual.ensures.1 (search (rules, options_laws, c.in_err-check_option.was))
 
 pub loop-at-preserved : goal.loop-at-preserved
-loop-at-preserved c = search options_laws
-
-pub returns : goal.returns
-returns c = search options_laws
+loop-at-preserved c = search (rules, options_laws, c.in_ok-check_option.was)

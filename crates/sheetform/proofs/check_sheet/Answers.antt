@@ -1,10 +1,9 @@
 -- `sheetform::check_sheet` meets its contract.
 -- Assumes nothing.
+use Rattle.basis.proofs.Kit.{rules}
+use Rattle.reply.proofs.VerdictLaws.{handed-on, says}
 use Rattle.sheetform.proofs.SheetLaws.{sheet_laws}
 use Rattle.sheetform.proofs.check_sheet.Goals as goal
 
-pub returns-in-Refused : goal.returns-in-Refused
-returns-in-Refused c = search sheet_laws
-
-pub returns : goal.returns
-returns c = search sheet_laws
+pub returns-in_err-check_length : goal.returns-in_err-check_length
+returns-in_err-check_length c = says _ _ (handed-on c.from_residual.ensures.1 (search (rules, sheet_laws, c.in_err-check_length.was)))

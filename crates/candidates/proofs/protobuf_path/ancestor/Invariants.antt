@@ -1,11 +1,7 @@
 -- `candidates::protobuf_path::ancestor` meets its contract.
 -- Assumes nothing.
-use Rattle.std.specs.Prelude.{◌-◌}
 use Rattle.candidates.proofs.CandidateLaws.{Climbed}
 use Rattle.candidates.proofs.protobuf_path.ancestor.Given as goal
 
 abbrev pub invariant-loop-k : goal.invariant-loop-k
 invariant-loop-k l = Climbed l.s l.i l.end l.k
-
-abbrev pub decreases-loop-k : goal.decreases-loop-k
-decreases-loop-k l = l.i - l.k

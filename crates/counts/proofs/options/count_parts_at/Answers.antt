@@ -9,9 +9,6 @@ loop-at-init c = search parts_laws
 pub returns-in_default : goal.returns-in_default
 returns-in_default c = search parts_laws
 
-pub loop-at-smaller : goal.loop-at-smaller
-loop-at-smaller c = search parts_laws
-
 pub loop-at-preserved : goal.loop-at-preserved
 loop-at-preserved c = search parts_laws
 
