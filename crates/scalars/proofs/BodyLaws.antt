@@ -17,7 +17,7 @@ use Rattle.records.specs.declared.Body.{Body}
 use Rattle.records.specs.declared.Body.TheVariants.{Bits, Bytes}
 use Rattle.records.specs.inner.Emits.{InBody}
 use Rattle.lookups.specs.Lookups.{Lookups, value_in}
-use Rattle.scalars.specs.Scalars.{unsupported, is_integer, most_of, listed, among}
+use Rattle.scalars.specs.Scalars.{unsupported, fits, is_integer, most_of, listed, among}
 use Rattle.scalars.specs.Scalars.{integer_on, float_on, string_on, bool_on, ident_on, scalar_on}
 use Rattle.scalars.specs.inner.Inside.{Inside}
 
@@ -27,7 +27,7 @@ module _ (p : Span) where
   no-bytes-bool t b e = go (eqb t TYPE_BOOL) b e
     where
       go : (x b : Bool)
-          → elim x [ true ↦ elim b [ true ↦ Ok (Bits 1) | false ↦ Ok (Bits 0) ] | false ↦ unsupported ] ≡ Ok (Bytes p) → ⊥
+          → ◌≡◌ {A = Result Body Refusal} (elim x [ true ↦ elim b [ true ↦ fits 1 | false ↦ fits 0 ] | false ↦ unsupported ]) (Ok (Bytes p)) → ⊥
       go true true e = never cc
       go true false e = never cc
       go false b e = never cc
@@ -37,11 +37,10 @@ module _ (p : Span) where
   bytes-text r t q e = go (eqb t TYPE_STRING) (is_utf8 (text r q)) (eqb t TYPE_BYTES) _ e
     where
       go : (x y z : Bool) (w : Refusal)
-          → elim x [
+          → ◌≡◌ {A = Result Body Refusal} (elim x [
             | true ↦ elim y [ true ↦ Ok (Bytes q) | false ↦ Err w ]
             | false ↦ elim z [ true ↦ Ok (Bytes q) | false ↦ unsupported ]
-          ]
-          ≡ Ok (Bytes p) → q ≡ p
+          ]) (Ok (Bytes p)) → q ≡ p
       go true true z w e = cc
       go true false z w e = never cc
       go false y true w e = cc
@@ -52,11 +51,10 @@ module _ (p : Span) where
   no-bytes-integer t m n e = go (is_integer t) (leb n (most_of m t)) (eqb t TYPE_FLOAT) (eqb t TYPE_DOUBLE) _ _ _ _ e
     where
       go : (x y z u : Bool) (a b c : ℕ) (w : Refusal)
-          → elim x [
-            | true ↦ elim y [ true ↦ Ok (Bits a) | false ↦ Err w ]
-            | false ↦ elim z [ true ↦ Ok (Bits b) | false ↦ elim u [ true ↦ Ok (Bits c) | false ↦ unsupported ] ]
-          ]
-          ≡ Ok (Bytes p) → ⊥
+          → ◌≡◌ {A = Result Body Refusal} (elim x [
+            | true ↦ elim y [ true ↦ fits a | false ↦ Err w ]
+            | false ↦ elim z [ true ↦ fits b | false ↦ elim u [ true ↦ fits c | false ↦ unsupported ] ]
+          ]) (Ok (Bytes p)) → ⊥
       go true true z u a b c w e = never cc
       go true false z u a b c w e = never cc
       go false y true u a b c w e = never cc
@@ -68,7 +66,7 @@ module _ (p : Span) where
   no-bytes-float t b e = go (eqb t TYPE_DOUBLE) (eqb t TYPE_FLOAT) _ _ e
     where
       go : (x y : Bool) (a b : ℕ)
-          → elim x [ true ↦ Ok (Bits a) | false ↦ elim y [ true ↦ Ok (Bits b) | false ↦ unsupported ] ] ≡ Ok (Bytes p) → ⊥
+          → ◌≡◌ {A = Result Body Refusal} (elim x [ true ↦ fits a | false ↦ elim y [ true ↦ fits b | false ↦ unsupported ] ]) (Ok (Bytes p)) → ⊥
       go true y a b e = never cc
       go false true a b e = never cc
       go false false a b e = never cc
@@ -87,7 +85,7 @@ module _ (p : Span) where
     no-bytes-ident q e = go (eqb h.typ TYPE_ENUM) e
       where
         go : (x : Bool)
-            → elim x [ true ↦ among u s (text r q) (L.enumeration (text s h.path)) | false ↦ unsupported ] ≡ Ok (Bytes p) → ⊥
+            → ◌≡◌ {A = Result Body Refusal} (elim x [ true ↦ among u s (text r q) (L.enumeration (text s h.path)) | false ↦ unsupported ]) (Ok (Bytes p)) → ⊥
         go true e = no-bytes-among u s (text r q) (L.enumeration (text s h.path)) e
         go false e = never cc
 

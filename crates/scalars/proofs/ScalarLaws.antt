@@ -1,35 +1,18 @@
 -- Scalar constants on types: the ways through the functions of one constant each.
 -- Assumes nothing.
-use Rattle.std.specs.Prelude.{◌≡◌, refl, Bool, true, false, ◌||◌, List, ℕ, ◌+◌, ◌-◌, ◌≤◌, ◌<◌, eqb, Err, Ok}
-use Rattle.basis.proofs.Kit.{arith, eq-eqb, ne_eqb, w64, Ok as FitsIn}
+use Rattle.std.specs.Prelude.{◌≡◌, refl, Bool, true, false, List, ℕ, ◌+◌, ◌-◌, ◌≤◌, ◌<◌, Err, Ok}
+use Rattle.basis.proofs.Kit.{arith, eq-eqb, ne_eqb, w64, Fits as FitsIn}
 use borrow.Author.Tests.{le-leb, lt-leb}
 use lib.Ieee.{binary32, binary64}
 use Rattle.reply.specs.declared.Refusal.TheVariants.{UnsupportedExtensionType, ValueRange, StrLitDecodeError}
 use Rattle.field.specs.declared.Span.{Span}
 use Rattle.field.specs.Leaf.{text}
 use Rattle.utf8.specs.Utf8.{is_utf8}
-use Rattle.types.specs.Types.{TYPE_DOUBLE, TYPE_FLOAT, TYPE_INT64, TYPE_UINT64, TYPE_INT32, TYPE_FIXED64}
-use Rattle.types.specs.Types.{TYPE_FIXED32, TYPE_BOOL, TYPE_STRING, TYPE_BYTES, TYPE_UINT32, TYPE_SFIXED32}
-use Rattle.types.specs.Types.{TYPE_SFIXED64, TYPE_SINT32, TYPE_SINT64}
+use Rattle.types.specs.Types.{TYPE_DOUBLE, TYPE_FLOAT}
+use Rattle.types.specs.Types.{TYPE_BOOL, TYPE_STRING, TYPE_BYTES}
 use Rattle.round.specs.Rounding.{signed_of, int_bits, narrow_bits}
 use Rattle.records.specs.declared.Body.TheVariants.{Bits, Bytes}
 use Rattle.scalars.specs.Scalars.{is_small, is_signed, is_integer, width, most_of, pattern_of, integer_on, float_on, string_on, bool_on}
-
--- ---- the integer types
-pub is_small : (t : ℕ)
-    → (eqb t TYPE_INT32 || eqb t TYPE_SINT32 || eqb t TYPE_SFIXED32 || eqb t TYPE_UINT32 || eqb t TYPE_FIXED32) ≡ is_small t
-unfolding is_small
-is_small t = refl
-
-pub is_signed : (t : ℕ)
-    → (eqb t TYPE_INT32 || eqb t TYPE_SINT32 || eqb t TYPE_SFIXED32 || eqb t TYPE_INT64 || eqb t TYPE_SINT64 || eqb t TYPE_SFIXED64)
-    ≡ is_signed t
-unfolding is_signed
-is_signed t = refl
-
-pub is_integer : (t : ℕ) (a b : Bool) → a ≡ is_small t → b ≡ is_signed t → (a || b || eqb t TYPE_UINT64 || eqb t TYPE_FIXED64) ≡ is_integer t
-unfolding is_integer
-is_integer t a b p q = rw (p, q) refl
 
 -- ---- most_of
 module _ (t : ℕ) (a b : Bool) (p : a ≡ is_signed t) (q : b ≡ is_small t) where

@@ -20,6 +20,7 @@ use types::{
 };
 
 // Whether the type is an integer of 32 bits.
+#[tactic(auto, unfolding(crate::specs::Scalars::is_small))]
 fn is_small(typ: usize) -> bool
     ensures { result ≡ is_small typ }
 {
@@ -31,6 +32,7 @@ fn is_small(typ: usize) -> bool
 }
 
 // Whether the type is an integer that may be negative.
+#[tactic(auto, unfolding(crate::specs::Scalars::is_signed))]
 fn is_signed(typ: usize) -> bool
     ensures { result ≡ is_signed typ }
 {
@@ -43,6 +45,7 @@ fn is_signed(typ: usize) -> bool
 }
 
 // Whether the type is an integer.
+#[tactic(auto, unfolding(crate::specs::Scalars::is_integer))]
 fn is_integer(typ: usize) -> bool
     ensures { result ≡ is_integer typ }
 {
@@ -50,6 +53,7 @@ fn is_integer(typ: usize) -> bool
 }
 
 // The largest size of an integer on an integer type.
+#[tactic(auto, using(crate::proofs::ScalarLaws::most_laws))]
 fn most_of(minus: bool, typ: usize) -> u64
     ensures { result ≡ most_of minus typ }
 {
@@ -77,6 +81,7 @@ fn most_of(minus: bool, typ: usize) -> u64
 }
 
 // The 64 bits of an integer.
+#[tactic(auto, using(crate::proofs::ScalarLaws::pattern_laws), unfolding(crate::specs::Scalars::pattern_of))]
 fn pattern_of(minus: bool, size: u64) -> u64
     ensures { result ≡ pattern_of minus size }
 {
@@ -90,6 +95,7 @@ fn pattern_of(minus: bool, size: u64) -> u64
 }
 
 // An integer: on an integer type that holds it, or rounded.
+#[tactic(auto, using(crate::proofs::ScalarLaws::integer_laws))]
 fn integer_on(typ: usize, minus: bool, size: u64) -> Result<Body, Refusal>
     ensures { result ≡ integer_on typ minus size }
 {
@@ -109,6 +115,7 @@ fn integer_on(typ: usize, minus: bool, size: u64) -> Result<Body, Refusal>
 }
 
 // A float constant, by its bits.
+#[tactic(auto, using(crate::proofs::ScalarLaws::float_laws))]
 fn float_on(typ: usize, bits: u64) -> Result<Body, Refusal>
     ensures { result ≡ float_on typ bits }
 {
@@ -122,6 +129,7 @@ fn float_on(typ: usize, bits: u64) -> Result<Body, Refusal>
 }
 
 // A string of the request.
+#[tactic(auto, using(crate::proofs::ScalarLaws::string_laws))]
 fn string_on(request: &[u8], typ: usize, place: Span) -> Result<Body, Refusal>
     requires { Lies place request.now }
     ensures { result ≡ string_on request.now typ place }
@@ -141,6 +149,7 @@ fn string_on(request: &[u8], typ: usize, place: Span) -> Result<Body, Refusal>
 }
 
 // A bool.
+#[tactic(auto, using(crate::proofs::ScalarLaws::bool_laws))]
 fn bool_on(typ: usize, b: bool) -> Result<Body, Refusal>
     ensures { result ≡ bool_on typ b }
 {
@@ -154,7 +163,14 @@ fn bool_on(typ: usize, b: bool) -> Result<Body, Refusal>
 }
 
 // An identifier of the request: on an enum, the number of that value.
-fn ident_on(sheet: &[u8], request: &[u8], unlisted: Refusal, shape: Shape, place: Span) -> Result<Body, Refusal>
+#[tactic(auto, using(crate::proofs::ConstantLaws::ident_laws))]
+fn ident_on(
+    sheet: &[u8],
+    request: &[u8],
+    unlisted: Refusal,
+    shape: Shape,
+    place: Span,
+) -> Result<Body, Refusal>
     requires lies { Lies place request.now }
     requires lies_2 { Lies shape.path sheet.now }
     ensures { result ≡ ident_on (walking sheet.now) sheet.now request.now unlisted shape place }
@@ -164,16 +180,15 @@ fn ident_on(sheet: &[u8], request: &[u8], unlisted: Refusal, shape: Shape, place
     }
     let from = place.from;
     let to = place.to;
-    match lookups::enum_at(sheet, shape.path) {
-        Err(why) => Err(why),
-        Ok(values) => {
-            let Some(v) = lookups::value_named(sheet, values, &request[from..to]) else { return Err(unlisted); };
-            Ok(Body::Bits(wire::numbers::widen32(v.number as u64)))
-        }
-    }
+    let values = lookups::enum_at(sheet, shape.path)?;
+    let Some(v) = lookups::value_named(sheet, values, &request[from..to]) else {
+        return Err(unlisted);
+    };
+    Ok(Body::Bits(wire::numbers::widen32(v.number as u64)))
 }
 
 // A scalar constant on a field of that shape.
+#[tactic(auto, using(crate::proofs::ConstantLaws::scalar_laws))]
 pub fn scalar_on(
     sheet: &[u8],
     request: &[u8],
