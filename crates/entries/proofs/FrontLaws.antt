@@ -1,7 +1,7 @@
 -- The record at a place, as the code answers it, is the item of the definition.
 -- Assumes nothing.
 use Rattle.std.specs.Prelude.{◌≡◌, refl, Bool, true, false, List, [], ◌∷◌, ℕ, ◌+◌, eqb, take, drop, Option, None, Err, Some, Ok, Result}
-use Rattle.basis.specs.Kit.{sym, ap, ◌∙◌, some as is}
+use Rattle.basis.specs.Kit.{sym, ap, ◌∙◌}
 use Rattle.basis.proofs.Kit.{arith}
 use Rattle.basis.proofs.Never.{never}
 use mathlib.Core.Path.{subst}
@@ -71,14 +71,14 @@ module _ (L : Lookups) (s : List ℕ) (m : Message) (at : ℕ) (bs : List ℕ) (
       → Shows s at (plain L s m at bs d t n x)
       (known_front L s d (number_of t) w (plain_taken d.shape.typ (placed w (drop n bs) (at + n) x)))
   shows-plain d None = wrongly
-  shows-plain d (is x) = shows-either s at (λ f. f) (eqb d.shape.typ TYPE_MESSAGE) _ _ _ _ (shows-inside d x) (shows-leaf d x)
+  shows-plain d (Some x) = shows-either s at (λ f. f) (eqb d.shape.typ TYPE_MESSAGE) _ _ _ _ (shows-inside d x) (shows-leaf d x)
 
   shows-declared : (d : Option Declaration) (x : Option Extent)
       → Shows s at (by_declaration L s m at bs d t n x) (by_declared L s d (number_of t) w (placed w (drop n bs) (at + n) x))
   unfolding unknown_of unknown_taken known_of known_taken
   shows-declared None None = wrongly
-  shows-declared None (is x) = simp add_assoc leaf
-  shows-declared (is d) x =
+  shows-declared None (Some x) = simp add_assoc leaf
+  shows-declared (Some d) x =
       shows-either s at (known_front L s d (number_of t) w) (eqb (wire_of d.shape.typ) w) _ _ _ _ (shows-plain d x) wrongly
 
 -- ---- the item by its tag
@@ -108,7 +108,9 @@ record ReadAs (bs : List ℕ) (at t next : ℕ) : Type 0 where
   pub place : next ≡ at + size
 
 placed-read : (bs : List ℕ) (at : ℕ) (x : Read) (r : Option Read) → read_varint bs ≡ r → Some x ≡ at_place at r → ReadAs bs at x.value x.next
-placed-read bs at x (Some it1) e q = record { size = it1.next; read = cc; place = cc }
+placed-read bs at x (Some y) e q =
+    let is : x ≡ read y.value (at + y.next) = cc in
+    rw is (record { size = y.next; read = e; place = refl })
 placed-read bs at x None e q = never cc
 
 module _ (L : Lookups) (s : List ℕ) (m : Message) (bs : List ℕ) (at end : ℕ) where
@@ -119,7 +121,7 @@ module _ (L : Lookups) (s : List ℕ) (m : Message) (bs : List ℕ) (at end : �
       → Shows s at (item L s m at left) (behind_tag L s m bs x.value (at + x.next) end)
   unfolding behind_tag payload_in
   shows-behind x e g =
-      rw (item-good L s m at left x.value x.next e g, ← (part-behind bs at x.next end))
+      rw (item-good L s m at left x e g, ← (part-behind bs at x.next end))
       (shows-declared L s m at left x.value x.next (declared s m (number_of x.value)) (payload_at (wire_type_of x.value) (drop x.next left)))
 
   module _ (v : Option Read) (p : v ≡ varint_at bs at end) where
@@ -130,15 +132,15 @@ module _ (L : Lookups) (s : List ℕ) (m : Message) (bs : List ℕ) (at end : �
     module _ (y : Read) (q : v ≡ Some y) (b : Bool) (g : b ≡ tag_good y.value) where
       tag_read : ReadAs left at y.value y.next
       unfolding varint_at
-      tag_read = placed-read left at y.value y.next (read_varint left) refl (sym q ∙ p)
+      tag_read = placed-read left at y (read_varint left) refl (sym q ∙ p)
 
       pub front-bad-tag : b ≡ false → Shows s at (item L s m at left) (Wrong BadBytes)
-      front-bad-tag h = rw (item-bad-tag L s m at left y.value tag_read.size tag_read.read (sym g ∙ h)) wrongly
+      front-bad-tag h = rw (item-bad-tag L s m at left (read y.value tag_read.size) tag_read.read (sym g ∙ h)) wrongly
 
       pub front-good : b ≡ true → (r : Front) → r ≡ behind_tag L s m bs y.value y.next end → Shows s at (item L s m at left) r
       front-good h r e =
           subst (Shows s at (item L s m at left)) (sym (e ∙ ap (λ (x : ℕ). behind_tag L s m bs y.value x end) tag_read.place))
-          (shows-behind y.value tag_read.size tag_read.read (sym g ∙ h))
+          (shows-behind (read y.value tag_read.size) tag_read.read (sym g ∙ h))
 
 pub tag-good : (t : ℕ) (b : Bool) → b ≡ tag_good t → b ≡ true → tag_good t ≡ true
 tag-good t b g h = sym g ∙ h

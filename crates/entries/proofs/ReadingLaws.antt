@@ -1,7 +1,7 @@
 -- The records of a level, one after the other: the first is the item at the front, and the others are read where it ends.
 -- Assumes nothing.
 use Rattle.std.specs.Prelude.{◌≡◌, refl, List, [], ◌∷◌, ℕ, zero, suc, ◌+◌, ◌-◌, ◌≤◌, ◌<◌, eqb, length, drop, Option, None, Err, Some, Ok, Result}
-use Rattle.basis.specs.Kit.{sym, ap, ◌∙◌, some as is}
+use Rattle.basis.specs.Kit.{sym, ap, ◌∙◌}
 use Rattle.basis.proofs.Kit.{arith}
 use mathlib.Core.Path.{subst}
 use native.Mathlib.Nat.{add-zero}
@@ -37,7 +37,7 @@ module _ (L : Lookups) (s : List ℕ) (m : Message) (place : ℕ) (bs : List ℕ
   module _ (t n : ℕ) (h : 1 ≤ n) where
     plain-takes : (d : Declaration) (x : Option Extent) → Takes (plain L s m place bs d t n x)
     plain-takes d None = tt
-    plain-takes d (is x) =
+    plain-takes d (Some x) =
         let e = entry L s m place bs d t n x in
         let name = text s d.shape.path in
         either Takes (eqb d.shape.typ TYPE_MESSAGE) (entered e name (n + x.before) x.size (L.message name))
@@ -47,15 +47,15 @@ module _ (L : Lookups) (s : List ℕ) (m : Message) (place : ℕ) (bs : List ℕ
 
     declared-takes : (d : Option Declaration) (x : Option Extent) → Takes (by_declaration L s m place bs d t n x)
     declared-takes None None = tt
-    declared-takes None (is x) = omega arith
-    declared-takes (is d) x =
+    declared-takes None (Some x) = omega arith
+    declared-takes (Some d) x =
         either Takes (eqb (wire_of d.shape.typ) (wire_type_of t)) (plain L s m place bs d t n x) _ (plain-takes d x) tt
 
   tag-takes : (r : Option Read) → read_varint bs ≡ r → Takes (by_tag L s m place bs r)
   tag-takes None e = tt
   tag-takes (Some it) e =
       either Takes (tag_good it.value) (by_declaration L s m place bs (declared s m (number_of it.value)) it.value it.next (payload_at (wire_type_of it.value) (drop it.next bs))) _
-      (declared-takes it.value it.next (read_some bs it.value it.next e) (declared s m (number_of it.value)) (payload_at (wire_type_of it.value) (drop it.next bs)))
+      (declared-takes it.value it.next (read_some bs it e) (declared s m (number_of it.value)) (payload_at (wire_type_of it.value) (drop it.next bs)))
       tt
 
   pub item-takes : Takes (item L s m place bs)

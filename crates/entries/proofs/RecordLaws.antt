@@ -1,7 +1,7 @@
 -- The laws of the record behind a tag, one for each way through the code: of a number that nothing declares, and of a known one.
 -- Assumes nothing.
 use Rattle.std.specs.Prelude.{◌≡◌, refl, true, List, ℕ, Option, None, Err, Some, Ok, Result}
-use Rattle.basis.specs.Kit.{sym, ◌∙◌, some as is}
+use Rattle.basis.specs.Kit.{sym, ◌∙◌}
 use Rattle.basis.proofs.Kit.{arith, eq-eqb, ne_eqb, Fits}
 use Rattle.basis.proofs.Never.{never}
 use mir.Syntax.{w32}
@@ -88,7 +88,7 @@ module _ (t : ℕ) (g : tag_good t ≡ true) where
 
 none-declared : (o : Option Declaration) → declared o ≡ None → o ≡ None
 none-declared None e = refl
-none-declared (is d) e = never cc
+none-declared (Some d) e = never cc
 
 module _ (s name : List ℕ) (place : LookupScope) (bs : List ℕ) (t at end k : ℕ) (i : k ≡ number_of t) (w : ℕ) (j : w ≡ wire_type_of t)
     (p : Option Payload) (q : p ≡ payload_in w bs at end) (a : Option Declaration) (c : a ≡ declared (declaration_of s (holding s place) name k)) where
@@ -103,6 +103,6 @@ module _ (s name : List ℕ) (place : LookupScope) (bs : List ℕ) (t at end k :
 
   pub behind-known : (d : Declaration) → a ≡ Some d → (r : Front) → r ≡ known_of (walking s) s d k w p
       → r ≡ behind_tag (walking s) s (message name place) bs t at end
-  behind-known d g r e = e ∙ sym (by-declared (is d) (declared-some a (declaration_of s (holding s place) name k) c d g))
+  behind-known d g r e = e ∙ sym (by-declared (Some d) (declared-some a (declaration_of s (holding s place) name k) c d g))
 
 pub ruleset behind_tag_laws = (number_fits, wire-read, behind-unknown, behind-known, payload_in_laws)

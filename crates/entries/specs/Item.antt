@@ -13,7 +13,6 @@
 --
 -- Assumes nothing.
 use Rattle.std.specs.Prelude.{true, false, List, [], ◌∷◌, ℕ, ◌+◌, eqb, take, drop, Option, None, Err, Some, Ok, Result}
-use Rattle.basis.specs.Kit.{some as is}
 use Rattle.reply.specs.declared.Refusal.{Refusal}
 use Rattle.reply.specs.declared.Refusal.TheVariants.{BadBytes, WireMismatch}
 use Rattle.field.specs.Leaf.{text}
@@ -48,7 +47,7 @@ module _ (L : Lookups) (s : List ℕ) (m : Message) (place : ℕ) (bs : List ℕ
   -- "unknown ones are not entered"; "Length-delimited and unknown records have value 0" [LIST-2, LIST-7]
   abbrev pub unknown : (tag size : ℕ) → Option Extent → Item
   unknown t n None = wrong BadBytes
-  unknown t n (is x) = some (record {
+  unknown t n (Some x) = some (record {
     number = number_of t;
     typ = 0;
     wire = wire_type_of t;
@@ -72,7 +71,7 @@ module _ (L : Lookups) (s : List ℕ) (m : Message) (place : ℕ) (bs : List ℕ
 
   abbrev pub plain : Declaration → (tag size : ℕ) → Option Extent → Item
   plain d t n None = wrong BadBytes
-  plain d t n (is x) = elim (eqb d.shape.typ TYPE_MESSAGE) [
+  plain d t n (Some x) = elim (eqb d.shape.typ TYPE_MESSAGE) [
     | true ↦ entered (entry d t n x) (text s d.shape.path) (n + x.before) x.size (L.message (text s d.shape.path))
     | false ↦ some (entry d t n x ∷ []) (n + x.before + x.size)
   ]
@@ -87,7 +86,7 @@ module _ (L : Lookups) (s : List ℕ) (m : Message) (place : ℕ) (bs : List ℕ
 
   abbrev pub by_declaration : Option Declaration → (tag size : ℕ) → Option Extent → Item
   by_declaration None t n x = unknown t n x
-  by_declaration (is d) t n x = known d t n x
+  by_declaration (Some d) t n x = known d t n x
 
   -- "Wire types 3, 4, 6, 7, a number outside the range above, a longer varint or a cut record are 18" [WIRE-5, LIST-4, LIST-9]
   abbrev pub by_tag : Option Read → Item

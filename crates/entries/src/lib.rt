@@ -60,6 +60,7 @@ pub enum Front {
 }
 
 // A record of a number that nothing declares.
+#[tactic(auto, using(crate::proofs::RecordLaws::unknown_laws))]
 fn unknown(number: u32, wire: u8, payload: Option<Payload>) -> Front
     requires { PayloadIn most_option_bytes payload }
     ensures { result ≡ unknown_of number wire payload }
@@ -87,6 +88,7 @@ fn unknown(number: u32, wire: u8, payload: Option<Payload>) -> Front
 }
 
 // A known message, where its type path names one.
+#[tactic(auto, using(crate::proofs::RecordLaws::entered_laws), unfolding(crate::specs::inner::Fronts::entered_of))]
 fn entered(sheet: &[u8], entry: Entry, path: Span) -> Front
     requires { Lies path sheet.now }
     ensures { result ≡ entered_of (walking sheet.now) sheet.now entry path }
@@ -102,6 +104,7 @@ fn entered(sheet: &[u8], entry: Entry, path: Span) -> Front
 }
 
 // A record that this declares.
+#[tactic(auto, using(crate::proofs::RecordLaws::known_laws), unfolding(crate::specs::inner::Fronts::known_of))]
 fn known(sheet: &[u8], d: Declaration, number: u32, wire: u8, payload: Option<Payload>) -> Front
     requires payload_in { PayloadIn most_option_bytes payload }
     requires lies { Lies d.shape.path sheet.now }
@@ -137,6 +140,7 @@ fn known(sheet: &[u8], d: Declaration, number: u32, wire: u8, payload: Option<Pa
 }
 
 // The record behind a good tag that ends at `at`.
+#[tactic(auto, using(crate::proofs::RecordLaws::behind_tag_laws))]
 fn behind_tag(
     sheet: &[u8],
     message: &[u8],
@@ -163,6 +167,7 @@ fn behind_tag(
 }
 
 // The record at a place of the option bytes, in the message of that name and place whose bytes end at `end`.
+#[tactic(auto, using(crate::proofs::LiesLaws::front_at_laws))]
 pub fn front_at(
     sheet: &[u8],
     message: &[u8],
@@ -178,7 +183,9 @@ pub fn front_at(
         (message_of message.now place) at (part bytes.now at end)) result }
     ensures lies { FrontLies sheet.now at end result }
 {
-    let Some(read) = varint_at(bytes, at, end) else { return Front::Wrong(Refusal::BadBytes); };
+    let Some(read) = varint_at(bytes, at, end) else {
+        return Front::Wrong(Refusal::BadBytes);
+    };
     if !tag_good(read.value) {
         return Front::Wrong(Refusal::BadBytes);
     }

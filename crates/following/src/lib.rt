@@ -5,7 +5,7 @@ ghost use Rattle.std.specs.Prelude.{◌≡◌, ◌*◌, ◌≤◌, length};
 ghost use Rattle.following.specs.inner.Keys.{key_words};
 ghost use Rattle.following.specs.inner.Following.{is_at, step_of};
 
-use entries::Row;
+use sheet::declaration::Declaration;
 
 // After a row: how far the open messages are the name's parts, whether the row that was taken last counts, and whether this one is taken.
 #[derive(Clone, Copy)]
@@ -16,6 +16,7 @@ pub struct Step {
 }
 
 // Whether a record is listed by the declaration at that place of the sheet.
+#[tactic(auto, using(crate::proofs::FollowLaws::follow_laws))]
 fn is_at(place: usize, by: Option<Declaration>) -> bool
     ensures { result ≡ is_at place by }
 {
@@ -26,6 +27,7 @@ fn is_at(place: usize, by: Option<Declaration>) -> bool
 }
 
 // What is followed after a row of that level, which `by` lists.
+#[tactic(auto, using(crate::proofs::FollowLaws::follow_laws))]
 pub fn follow(
     keys: &[usize],
     count: usize,
@@ -33,7 +35,7 @@ pub fn follow(
     counts: bool,
     level: usize,
     by: Option<Declaration>,
-) -> Result<Declaration, Lack>
+) -> Step
     requires { count * key_words ≤ length keys.now }
     ensures { result ≡ step_of keys.now count matched counts level by }
 {

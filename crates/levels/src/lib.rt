@@ -51,6 +51,7 @@ pub enum Event {
 }
 
 // Words of the stack, from a place on.
+#[tactic(auto, using(crate::proofs::StackLaws::words_laws))]
 fn put_words(stack: &mut [usize], at: usize, words: &[usize])
     requires { at + length words.now ≤ length stack.old }
     ensures { stack.new ≡ sets stack.old at words.now }
@@ -63,6 +64,7 @@ fn put_words(stack: &mut [usize], at: usize, words: &[usize])
 }
 
 // A level, written.
+#[tactic(auto, using(crate::proofs::StackLaws::level_written))]
 fn put_level(stack: &mut [usize], index: usize, level: Level)
     requires index_lt_most_levels { index < most_levels }
     requires stack_len { length stack.old ≡ stack_words }
@@ -82,6 +84,7 @@ fn put_level(stack: &mut [usize], index: usize, level: Level)
 }
 
 // A level, read.
+#[tactic(auto, using(crate::proofs::StackLaws::level_said))]
 fn level_at(stack: &[usize], index: usize) -> Level
     requires index_lt_most_levels { index < most_levels }
     requires stack_len { length stack.now ≡ stack_words }
@@ -107,6 +110,7 @@ fn level_at(stack: &[usize], index: usize) -> Level
 }
 
 // The start of option bytes in the message at that place: the outermost level is open.
+#[tactic(auto, using(crate::proofs::StartLaws::start_laws))]
 pub fn start(bytes: &[u8], stack: &mut [usize], place: LookupScope) -> Cursor
     requires { length stack.old ≡ stack_words }
     ensures { Starts place bytes.now stack.new result }
@@ -121,6 +125,7 @@ pub fn start(bytes: &[u8], stack: &mut [usize], place: LookupScope) -> Cursor
 }
 
 // How many levels are still open at a place: those that end there are closed, from the innermost out.
+#[tactic(auto, using(crate::proofs::OpenLaws::closing_laws))]
 fn still_open(stack: &[usize], cursor: Cursor) -> usize
     requires depth_le_most_levels { cursor.depth ≤ most_levels }
     requires stack_len { length stack.now ≡ stack_words }
@@ -138,6 +143,7 @@ fn still_open(stack: &[usize], cursor: Cursor) -> usize
 }
 
 // The record at a place of an open level.
+#[tactic(auto, using(crate::proofs::NextLaws::front_laws))]
 fn front_in(
     sheet: &[u8],
     options_type: &[u8],
@@ -163,6 +169,7 @@ fn front_in(
 }
 
 // The record at a place of the level of that index, which is open there.
+#[tactic(auto, using(crate::proofs::NextLaws::front_laws))]
 fn front_of(
     sheet: &[u8],
     options_type: &[u8],
@@ -185,6 +192,7 @@ fn front_of(
 }
 
 // A known message's record, at the level below so many: its inside is the next level.
+#[tactic(auto, using(crate::proofs::NextLaws::step_laws))]
 fn step_in(stack: &mut [usize], depth: usize, entry: Entry, path: Span, place: LookupScope) -> Event
     requires depth_nonzero { (0 < depth) × (depth ≤ most_levels) }
     requires stack_len { length stack.old ≡ stack_words }
@@ -214,6 +222,7 @@ fn step_in(stack: &mut [usize], depth: usize, entry: Entry, path: Span, place: L
 }
 
 // The next record.
+#[tactic(auto, using(crate::proofs::NextLaws::next_laws))]
 pub fn next(
     sheet: &[u8],
     options_type: &[u8],

@@ -15,7 +15,6 @@
 --
 -- Assumes nothing.
 use Rattle.std.specs.Prelude.{◌≡◌, true, false, List, [], ◌∷◌, ℕ, ◌+◌, ◌≤◌, ◌<◌, eqb, Option, None, Err, Some, Ok, Result}
-use Rattle.basis.specs.Kit.{some as is}
 use Rattle.reply.specs.declared.Refusal.{Refusal}
 use Rattle.field.specs.declared.Span.{Span}
 use Rattle.field.specs.Leaf.{text, Lies}
@@ -83,7 +82,7 @@ known_of L s d k w p = known_front L s d k w (known_taken d.shape.typ w p)
 
 abbrev pub by_declared : Lookups → (s : List ℕ) → Option Declaration → (number wire : ℕ) → Option Payload → Front
 by_declared L s None k w p = unknown_of k w p
-by_declared L s (is d) k w p = known_of L s d k w p
+by_declared L s (Some d) k w p = known_of L s d k w p
 
 unfoldable pub behind_tag : Lookups → (s : List ℕ) → Message → (bs : List ℕ) (tag at end : ℕ) → Front
 behind_tag L s m bs t at end =

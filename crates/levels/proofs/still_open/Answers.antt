@@ -3,11 +3,5 @@
 use Rattle.levels.proofs.OpenLaws.{closing_laws}
 use Rattle.levels.proofs.still_open.Goals as goal
 
-pub returns-then-at-stack : goal.returns-then-at-stack
-returns-then-at-stack c = search closing_laws
-
 pub loop-depth-preserved : goal.loop-depth-preserved
 loop-depth-preserved c = search closing_laws
-
-pub returns : goal.returns
-returns c = search closing_laws
