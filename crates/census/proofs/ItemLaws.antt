@@ -14,7 +14,7 @@ use borrow.Author.Tests.{ltb-true, ltb-false, eqb-true}
 use mir.Facts.{Fits-le}
 use Rattle.limits.specs.Figures.{most_messages}
 use Rattle.octets.specs.Octets.{part}
-use Rattle.field.specs.Leaf.{any_bytes, leaf_at, span}
+use Rattle.field.specs.Leaf.{any_bytes, leaf_at}
 use Rattle.field.specs.Walk.{Walk, done, cut, step, walk}
 use Rattle.field.proofs.LeafLaws.{leaf-bounds, leaf_inside, leaf-ordered, leaf-within}
 use Rattle.field.proofs.Tally.{Tally, total, tally-start, tally_laws}
@@ -73,7 +73,7 @@ module _ (m : List ℕ) (x : Asked) (o s : List ℕ) where
       → items_asked m x o s w (item_in (message_in d s) s t a e rest) ≡ item_asked m x o s w d t a e + items_asked m x o s w rest
   item-adds w d t a e rest =
       item-cases (λ f. items_asked m x o s w (f rest) ≡ items_asked m x o s w (f none) + items_asked m x o s w rest) s a e (omega arith) d t
-      (λ _ _ n b _. omega arith) (λ _ y _. omega arith) (λ _ n b _. omega arith) (λ _ y _. omega arith)
+      (λ _ _ n _. omega arith) (λ _ y _. omega arith) (λ _ n _. omega arith) (λ _ y _. omega arith)
 
   items-total : (w : Way) (d : ℕ) (k : Walk) → items_asked m x o s w (items_in d s k) ≡ total (item_asked m x o s w d) k
   unfolding items_in
@@ -86,7 +86,7 @@ module _ (m : List ℕ) (x : Asked) (o s : List ℕ) where
       → files_asked m x o s (file_in s t a e rest) ≡ file_asked m x o s t a e + files_asked m x o s rest
   file-adds t a e rest =
       file-cases (λ f. files_asked m x o s (f rest) ≡ files_asked m x o s (f []) + files_asked m x o s rest) s t a e (omega arith)
-      λ n b _. omega arith
+      λ n _. omega arith
 
   files-total : (k : Walk) → files_asked m x o s (files_in s k) ≡ total (file_asked m x o s) k
   files-total done = refl
@@ -151,7 +151,7 @@ module _ (m : List ℕ) (x : Asked) (o s : List ℕ) (w : Way) (d t a e : ℕ) w
         → y + u ≡ items_asked m x o s w (item_at d s t a e)
     in-item-named l g v k y p u p' =
         let z : d ≡ 0 → ⊥ = λ z. omega (arith, level-left d t (rw h)) in
-        rw (item-message (message_in d s) s t a e none is-message, message-named d s a e none z r q l.from l.to g, p, p', k) (omega arith)
+        rw (item-message (message_in d s) s t a e none is-message, message-named d s a e none z r q l g, p, p', k) (omega arith)
 
 -- a message itself, and what it holds
 module _ (s : List ℕ) (a e : ℕ) (r : Option Span) (q : r ≡ leaf_at name_tag any_bytes s a e) (p : Span) (g : r ≡ Some p) (y u : ℕ) (h : y ≤ 1)
@@ -194,7 +194,7 @@ pub ruleset in_items_laws = (items-start, open-counts, open-few, tally_laws)
 pub file-few : (s : List ℕ) (a e : ℕ) (r : Option Span) → r ≡ leaf_at package_tag any_bytes s a e → (p : Span) → r ≡ Some p
     → (y : ℕ) → y ≤ e - p.to → y ≤ e - a + 1
 file-few s a e r q p g y h =
-    let x = leaf-bounds package_tag any_bytes s a e r q p.from p.to g in omega (arith, x.starts, x.ordered, x.inside)
+    let x = leaf-bounds package_tag any_bytes s a e r q p g in omega (arith, x.starts, x.ordered, x.inside)
 
 module _ (m : List ℕ) (x : Asked) (o s : List ℕ) (t a e : ℕ) where
   pub in-file-other : (t ≡ file_tag → ⊥) → 0 ≡ files_asked m x o s (file_at s t a e)
@@ -206,7 +206,7 @@ module _ (m : List ℕ) (x : Asked) (o s : List ℕ) (t a e : ℕ) where
 
     pub in-file-named : (l : Span) → r ≡ Some l → (v : Way) → v ≡ file_way m (part s l.from l.to)
         → (y : ℕ) → y ≡ items_asked m x o s v (items_in most_messages s (walk s l.to e)) → y ≡ files_asked m x o s (file_at s t a e)
-    in-file-named l g v u y p = rw (file-named s t a e [] h r q l.from l.to g, p, u) (omega arith)
+    in-file-named l g v u y p = rw (file-named s t a e [] h r q l g, p, u) (omega arith)
 
 pub ruleset in_file_laws = (in-file-other, in-file-unnamed, in-file-named, none-few, file-few, leaf_inside, leaf-ordered, leaf-within)
 

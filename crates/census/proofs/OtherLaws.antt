@@ -4,7 +4,7 @@ use Rattle.std.specs.Prelude.{◌≡◌, refl, true, false, List, ℕ, ◌≤◌
 use Rattle.basis.specs.Kit.{sym, ◌∙◌}
 use Rattle.basis.proofs.Kit.{arith, not-true, not-false}
 use Rattle.basis.proofs.Never.{never}
-use Rattle.field.specs.Leaf.{span, text, any_bytes, on_leaf, leaf_at}
+use Rattle.field.specs.Leaf.{text, any_bytes, on_leaf, leaf_at}
 use Rattle.field.proofs.LeafLaws.{leaf-bounds}
 use Rattle.sheet.specs.declared.declaration.Declaration.{Declaration}
 use Rattle.sheet.specs.Table.{extension_tag, enum_tag, field_tag, name_tag}
@@ -65,18 +65,18 @@ module _ (s : List ℕ) (t a e : ℕ) where
     where
       go : (r : Option Span) → r ≡ leaf_at name_tag any_bytes s a e → r ≡ named (enum_in s a e none)
       go None q = rw (enum-unnamed s a e none None q refl)
-      go (Some place) q = rw (enum-named s a e none (Some (span place.from place.to)) q place refl)
+      go (Some place) q = rw (enum-named s a e none (Some place) q place refl)
 
   pub name-other : (t ≡ enum_tag → ⊥) → (t ≡ extension_tag → ⊥) → None ≡ named (item_at 0 s t a e)
   name-other h g =
       item-cases (λ f. None ≡ named (f none)) s a e refl 0 t
-      (λ _ _ _ _ _. refl) (λ y. absurd (g y)) (λ y. absurd (h y)) (λ _ _ _. refl)
+      (λ _ _ _ _. refl) (λ y. absurd (g y)) (λ y. absurd (h y)) (λ _ _ _. refl)
 
   module _ (h : t ≡ extension_tag) (r : Option Declaration) (q : r ≡ extension_at s a e) where
     pub name-none : r ≡ None → None ≡ named (item_at 0 s t a e)
     name-none g = rw (item-no-extension (message_in 0 s) s t a e none h r q g)
 
-    pub name-extension : (y : Declaration) → r ≡ Some y → Some (span y.name.from y.name.to) ≡ named (item_at 0 s t a e)
+    pub name-extension : (y : Declaration) → r ≡ Some y → Some y.name ≡ named (item_at 0 s t a e)
     name-extension y g = rw (item-extension (message_in 0 s) s t a e none h r q y g)
 
 pub ruleset name_laws = (name-enum, name-other, name-none, name-extension)
@@ -87,23 +87,23 @@ module _ (s : List ℕ) (t a e : ℕ) (r : Option Span) (q : r ≡ named (item_a
   name-lies l g =
       item-cases (λ f. named (f none) ≡ Some l → Lying e l.from l.to) s a e (λ u. never cc) 0 t
       (λ _ z. absurd (z refl))
-      (λ _ y p u. let v : y.name.from ≡ l.from = cc in let v' : y.name.to ≡ l.to = cc in rw (v, v') at (extension-places s a e y (sym p)).name)
-      (λ _ n' b' p u.
+      (λ _ y p u. let v : y.name ≡ l = cc in rw v at (extension-places s a e y (sym p)).name)
+      (λ _ n p u.
       let v : leaf_at name_tag any_bytes s a e ≡ Some l = cc in
-      let x = leaf-bounds name_tag any_bytes s a e _ refl l.from l.to v in record { ordered = x.ordered; inside = x.inside })
+      let x = leaf-bounds name_tag any_bytes s a e _ refl l v in record { ordered = x.ordered; inside = x.inside })
       (λ _ _ _ u. never cc)
       (sym q ∙ g)
 
   pub name-ordered : (p : Span) → r ≡ Some p → p.from ≤ p.to
-  name-ordered p g = (name-lies p.from p.to g).ordered
+  name-ordered p g = (name-lies p g).ordered
 
   pub name-within : (p : Span) → r ≡ Some p → e ≤ length s → p.to ≤ length s
-  name-within p g h = let z = name-lies p.from p.to g in omega (arith, z.inside)
+  name-within p g h = let z = name-lies p g in omega (arith, z.inside)
 
-  pub bears-none : (f : ℕ → ℕ → ℕ) → r ≡ None → 0 ≡ on_leaf 0 (named (item_at 0 s t a e)) f
+  pub bears-none : (f : Span → ℕ) → r ≡ None → 0 ≡ on_leaf 0 (named (item_at 0 s t a e)) f
   bears-none f g = rw (← q, g)
 
-  pub bears-some : (u : Span) → r ≡ Some u → (f : ℕ → ℕ → ℕ) (y : ℕ) → y ≡ f u.from u.to → y ≡ on_leaf 0 (named (item_at 0 s t a e)) f
+  pub bears-some : (u : Span) → r ≡ Some u → (f : Span → ℕ) (y : ℕ) → y ≡ f u → y ≡ on_leaf 0 (named (item_at 0 s t a e)) f
   bears-some u g f y p = rw (← q, g) p
 
 pub bears-own : (x : Asked) (g : ℕ) (m : List ℕ) (w : Way) (n : List ℕ) (v : Way) → v ≡ onward m w n → (y : ℕ) → y ≡ own x g v
@@ -128,7 +128,7 @@ module _ (m : List ℕ) (x : Asked) (o s : List ℕ) (w : Way) (t a e : ℕ) whe
       ∙ rw h
       (item-cases
       (λ f. on_leaf 0 (named (f none)) (λ q. own (Bearers k) t (onward m w (text s q))) ≡ items_asked m (Bearers k) o s w (f none))
-      s a e refl 0 t (λ _ z. absurd (z refl)) (λ g y _. rw g (omega arith)) (λ g n b _. rw g (omega arith)) (λ _ y _. refl))
+      s a e refl 0 t (λ _ z. absurd (z refl)) (λ g y _. rw g (omega arith)) (λ g n _. rw g (omega arith)) (λ _ y _. refl))
 
   module _ (l : Like) (h : x ≡ Numbers l) where
     pub in-other-extension : t ≡ extension_tag → (y : ℕ) → y ≡ declared_likes (extension_likes m l o s) (extension_at s a e)
@@ -154,6 +154,6 @@ module _ (m : List ℕ) (x : Asked) (o s : List ℕ) (w : Way) (t a e : ℕ) whe
     in-other-none f g =
         rw h
         (item-cases (λ f. 0 ≡ items_asked m (Numbers l) o s w (f none)) s a e refl 0 t
-        (λ _ z. absurd (z refl)) (λ y. absurd (f y)) (λ _ n b _. refl) (λ y. absurd (g y)))
+        (λ _ z. absurd (z refl)) (λ y. absurd (f y)) (λ _ n _. refl) (λ y. absurd (g y)))
 
 pub ruleset in_other_laws = (in-other-bears, in-other-extension, in-other-field, in-other-none, asked-placed, none-few)

@@ -12,7 +12,7 @@ ghost use Rattle.likeness.specs.inner.Likes.{Placed};
 ghost use Rattle.census.specs.inner.Census.{bearing, numbered as numbered_of, AskedOf, Reaches, onward as onward_of, file_way};
 ghost use Rattle.census.specs.inner.Census.{own as own_of, open_to, named, items_asked, files_asked};
 
-use field::{Field, Span, field_at, leaf_at};
+use field::{Span, field_at, leaf_at};
 use likeness::{Like, Way, in_extension, in_field};
 use limits::MOST_MESSAGES;
 use names::leads;
@@ -32,6 +32,7 @@ enum Asked {
 }
 
 // How a declaration of this name stands to the full name, in a scope that stands so.
+#[tactic(auto, using(crate::proofs::OnwardLaws::onward_laws))]
 fn onward(text: &[u8], way: Way, name: &[u8]) -> Way
     requires { Reaches text.now way }
     ensures is { result ≡ onward_of text.now way name.now }
@@ -53,6 +54,7 @@ fn onward(text: &[u8], way: Way, name: &[u8]) -> Way
 }
 
 // 1 where declarations by this tag are asked for and one that stands so bears the full name.
+#[tactic(auto, using(crate::proofs::OtherLaws::own_laws))]
 fn own(asked: Asked, tag: u8, way: Way) -> usize
     ensures { (result ≡ own_of asked tag way) × (result ≤ 1) }
 {
@@ -71,6 +73,7 @@ fn own(asked: Asked, tag: u8, way: Way) -> usize
 
 // Up to where what a scope that stands so holds may count: from its start on nothing does, where declarations that bear the full name are
 // asked for and that does not go on in it.
+#[tactic(auto, using(crate::proofs::ItemLaws::open_laws))]
 fn open_to(asked: Asked, way: Way, body: Span) -> usize
     ensures { result ≡ open_to asked way body.from body.to }
 {
@@ -85,6 +88,7 @@ fn open_to(asked: Asked, way: Way, body: Span) -> usize
 }
 
 // Where the name of an enum or an extension stands.
+#[tactic(auto, using(crate::proofs::OtherLaws::name_laws))]
 fn name_at(s: &[u8], tag: u8, item: Span) -> Option<Span>
     requires { Lies item s.now }
     ensures { result ≡ named (item_at 0 s.now tag item.from item.to) }
@@ -95,26 +99,27 @@ fn name_at(s: &[u8], tag: u8, item: Span) -> Option<Span>
     if tag != table::EXTENSION {
         return None;
     }
-    let d = extension_at(s, item.from, item.to)?;
-    Some(Span {
-        from: d.name.from,
-        to: d.name.to,
-    })
+    let extension = extension_at(s, item.from, item.to)?;
+    Some(extension.name)
 }
 
 // 1 where an enum or an extension in a scope that stands so bears the full name, and such ones are asked for.
+#[tactic(auto, using(crate::proofs::OtherLaws::bears_laws))]
 fn bears(s: &[u8], tag: u8, item: Span, text: &[u8], way: Way, asked: Asked) -> usize
     requires lies { Lies item s.now }
     requires reaches { Reaches text.now way }
     ensures { (result ≡ on_leaf 0 (named (item_at 0 s.now tag item.from item.to))
         λ p. own_of asked tag (onward_of text.now way (text_of s.now p))) × (result ≤ 1) }
 {
-    let Some(place) = name_at(s, tag, item) else { return 0; };
-    let next = onward(text, way, &s[place.from..place.to]);
+    let Some(name) = name_at(s, tag, item) else {
+        return 0;
+    };
+    let next = onward(text, way, &s[name.from..name.to]);
     own(asked, tag, next)
 }
 
 // How many count in a field of a scope that stands so, where it is no message that is looked into.
+#[tactic(auto, using(crate::proofs::OtherLaws::in_other_laws))]
 fn in_other(s: &[u8], tag: u8, item: Span, text: &[u8], way: Way, o: &[u8], asked: Asked) -> usize
     requires lies { Lies item s.now }
     requires reaches { Reaches text.now way }
@@ -155,8 +160,13 @@ fn in_item(
     if !((tag == table::MESSAGE) & (0 < left)) {
         return in_other(s, tag, item, text, way, o, asked);
     }
-    let Some(name) = leaf_at(s, item.from, item.to, table::NAME) else { return 0; };
-    let inside = Span { from: name.to, to: item.to };
+    let Some(name) = leaf_at(s, item.from, item.to, table::NAME) else {
+        return 0;
+    };
+    let inside = Span {
+        from: name.to,
+        to: item.to,
+    };
     let next = onward(text, way, &s[name.from..name.to]);
     own(asked, table::MESSAGE, next) + in_items(s, inside, left - 1, text, next, o, asked)
 }
@@ -182,8 +192,13 @@ fn in_items(
     let mut n = 0;
     let mut p = body.from;
     while p < end {
-        let Some(field) = field_at(s, p, end) else { return n; };
-        let item = Span { from: field.from, to: field.to };
+        let Some(field) = field_at(s, p, end) else {
+            return n;
+        };
+        let item = Span {
+            from: field.from,
+            to: field.to,
+        };
         n += in_item(s, field.tag, item, left, text, way, o, asked);
         p = field.to;
     }
@@ -191,6 +206,7 @@ fn in_items(
 }
 
 // How a file of this package stands to the full name.
+#[tactic(auto, using(crate::proofs::OnwardLaws::file_way_laws))]
 fn file_way(text: &[u8], name: &[u8]) -> Way
     ensures is { result ≡ file_way text.now name.now }
     ensures reaches { Reaches text.now result }
@@ -205,6 +221,7 @@ fn file_way(text: &[u8], name: &[u8]) -> Way
 }
 
 // How many count in a field of a sheet.
+#[tactic(auto, using(crate::proofs::ItemLaws::in_file_laws))]
 fn in_file(s: &[u8], tag: u8, item: Span, text: &[u8], o: &[u8], asked: Asked) -> usize
     requires lies { Lies item s.now }
     requires asked_of { AskedOf o.now asked }
@@ -214,8 +231,13 @@ fn in_file(s: &[u8], tag: u8, item: Span, text: &[u8], o: &[u8], asked: Asked) -
     if tag != table::FILE {
         return 0;
     }
-    let Some(package) = leaf_at(s, item.from, item.to, table::PACKAGE) else { return 0; };
-    let inside = Span { from: package.to, to: item.to };
+    let Some(package) = leaf_at(s, item.from, item.to, table::PACKAGE) else {
+        return 0;
+    };
+    let inside = Span {
+        from: package.to,
+        to: item.to,
+    };
     let way = file_way(text, &s[package.from..package.to]);
     in_items(s, inside, MOST_MESSAGES, text, way, o, asked)
 }
@@ -229,8 +251,13 @@ fn in_files(s: &[u8], text: &[u8], o: &[u8], asked: Asked) -> usize
     let mut n = 0;
     let mut p = 0;
     while p < end {
-        let Some(field) = field_at(s, p, end) else { return n; };
-        let item = Span { from: field.from, to: field.to };
+        let Some(field) = field_at(s, p, end) else {
+            return n;
+        };
+        let item = Span {
+            from: field.from,
+            to: field.to,
+        };
         n += in_file(s, field.tag, item, text, o, asked);
         p = field.to;
     }
@@ -238,6 +265,7 @@ fn in_files(s: &[u8], text: &[u8], o: &[u8], asked: Asked) -> usize
 }
 
 // How many messages, enums and extensions of the sheet, or how many of the kind of that tag, bear the full name.
+#[tactic(auto, using(crate::proofs::ItemLaws::bearers_laws))]
 pub fn bearers(s: &[u8], text: &[u8], kind: u8) -> usize
     ensures { result ≡ bearing kind text.now (every_declared s.now) }
 {
@@ -245,6 +273,7 @@ pub fn bearers(s: &[u8], text: &[u8], kind: u8) -> usize
 }
 
 // How many numbers that the sheet s declares for the message of this full name are like that of the sheet o.
+#[tactic(auto, using(crate::proofs::ItemLaws::numbered_laws))]
 pub fn numbered(s: &[u8], message: &[u8], o: &[u8], like: Like) -> usize
     requires { Placed o.now like }
     ensures { result ≡ numbered_of message.now like o.now s.now }

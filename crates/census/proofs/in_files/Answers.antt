@@ -9,15 +9,6 @@ loop-p-init c = search in_files_laws
 pub returns-in_default : goal.returns-in_default
 returns-in_default c = search in_files_laws
 
-pub in_file-n-requires : goal.in_file-n-requires
-in_file-n-requires c = search in_files_laws
-
-pub overflow_add-n : goal.overflow_add-n
-overflow_add-n c = search in_files_laws
-
-pub loop-p-smaller : goal.loop-p-smaller
-loop-p-smaller c = search in_files_laws
-
 pub loop-p-preserved : goal.loop-p-preserved
 loop-p-preserved c = search in_files_laws
 

@@ -21,7 +21,7 @@ use Rattle.std.specs.Prelude.{Bool, ◌&&◌, ◌||◌, List, [], ◌∷◌, ℕ
 use Rattle.basis.specs.First.{only_if}
 use Rattle.basis.specs.Count.{count}
 use Rattle.octets.specs.Octets.{same_bytes}
-use Rattle.field.specs.Leaf.{text, span}
+use Rattle.field.specs.Leaf.{text}
 use Rattle.sheet.specs.declared.declaration.Declaration.{Declaration}
 use Rattle.sheet.specs.Table.{message_tag, extension_tag, enum_tag}
 use Rattle.sheet.specs.Tree as tree
@@ -78,8 +78,8 @@ own (Numbers l) g w = 0
 abbrev pub named : Items → Option Span
 named tree.none = None
 named (tree.message n b i r) = None
-named (tree.extension d r) = Some (span d.name.from d.name.to)
-named (tree.enumeration n b vs r) = Some (span n.from n.to)
+named (tree.extension d r) = Some d.name
+named (tree.enumeration n b vs r) = Some n
 named (tree.field d r) = None
 
 -- what a message holds bears no name that does not go on in it
