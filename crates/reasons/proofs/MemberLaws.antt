@@ -12,8 +12,11 @@ use Rattle.octets.specs.Octets.{same_bytes}
 use Rattle.field.specs.declared.Span.{Span}
 use Rattle.field.specs.Leaf.{span, text, is_text}
 use Rattle.field.specs.Walk.{Walk, done, cut, step, walk}
-use Rattle.field.proofs.Seek.{seek, seek_is, seek_laws}
-use Rattle.field.proofs.Tally.{Tally, total, tally-start, tally_laws}
+use Rattle.field.proofs.Seek.{seek, seek_is}
+use Rattle.field.proofs.InFields.{sought_laws}
+use Rattle.field.proofs.Tally.{total}
+use Rattle.field.specs.declared.fields.Fields.{Fields}
+use Rattle.field.proofs.InFields.{TallyIn, tally-in-start, tally-in-next, tally_in_laws}
 use Rattle.sheet.specs.declared.declaration.Declaration.{Declaration}
 use Rattle.sheet.specs.declared.declaration.Value.{Value}
 use Rattle.sheet.specs.Table.{field_tag, value_tag}
@@ -129,13 +132,14 @@ named-total k s x (step t a e w) =
     ∙ ap (λ n. one_named k s x t a e + n) (named-total k s x w)
 
 module _ (k : ℕ) (s x : List ℕ) (from to : ℕ) (h : from ≤ to) (g : to ≤ length s) where
-  pub named_start : Tally (count (is_text s x) (members_in k s (walk s from to))) (total (one_named k s x)) s from to 0 from
-  named_start = tally-start _ (total (one_named k s x)) s from to (named-total k s x (walk s from to)) h g
+  pub named_start : (it : Fields) → it.bytes.now ≡ s → it.at ≡ from → it.end ≡ to
+      → TallyIn (count (is_text s x) (members_in k s (walk s from to))) (total (one_named k s x)) s from to 0 it
+  named_start it b i n = tally-in-start _ (total (one_named k s x)) s from to it (named-total k s x (walk s from to)) b i n h g
 
 pub few-one : (u a e : ℕ) → u ≤ 1 → u ≤ e - a + 1
 few-one u a e h = omega arith
 
-pub ruleset count_named_laws = (named_start, few-one, tally_laws)
+pub ruleset count_named_laws = (named_start, few-one, tally_in_laws, tally-in-next)
 
 -- ---- flaw_of_member
 module _ (k : ℕ) (s : List ℕ) (w : Why) (i : ℕ) (ns : List Span) (t a e : ℕ) (r : Option Span) (q : r ≡ member_at k s t a e) where
@@ -169,7 +173,7 @@ member-flaws-is s w i k from to r q =
     q ∙ sym (seek_is Yes also (flaw_at s w i all k) (λ x. reasons (λ n. or_no (once (is_text s (text s n)) all) w i n) (members_in k s x))
     refl refl (λ t a e x. onto-flaw s w i all (member_at k s t a e) (members_in k s x)) (walk s from to))
 
-pub ruleset member_flaws_laws = (member-flaws-is, also-no, seek_laws)
+pub ruleset member_flaws_laws = (member-flaws-is, also-no, sought_laws)
 
 -- ==== the statements: the members are the fields of a message,
 pub members-fields : (d : ℕ) (s : List ℕ) (w : Walk) → members_in field_tag s w ≡ map (λ x. x.name) (fields_of (items_in d s w))

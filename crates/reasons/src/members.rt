@@ -7,7 +7,8 @@ ghost use Rattle.reasons.specs.Reasons.{member_flaws};
 ghost use Rattle.reasons.specs.inner.Members.{member_at, leaf_onto, members_in, member_flaw};
 
 use crate::{Reason, Why, or_no};
-use field::{Span, field_at};
+use field::Span;
+use field::fields::Fields;
 use octets::same;
 use sheet::declaration::{message_field_at, value_at};
 use sheet::table;
@@ -53,11 +54,9 @@ fn count_named(s: &[u8], body: Span, want: u8, name: &[u8]) -> usize
     ensures { result ≡ count (is_text s.now name.now)
         (members_in want s.now (walk s.now body.from body.to)) }
 {
-    let end = body.to;
     let mut n = 0;
-    let mut p = body.from;
-    while p < end {
-        let Some(field) = field_at(s, p, end) else {
+    for field in Fields::between(s, body.from, body.to) {
+        let Some(field) = field else {
             return n;
         };
         let item = Span {
@@ -65,7 +64,6 @@ fn count_named(s: &[u8], body: Span, want: u8, name: &[u8]) -> usize
             to: field.to,
         };
         n += one_named(s, field.tag, item, want, name);
-        p = field.to;
     }
     n
 }
@@ -100,10 +98,8 @@ pub fn flaw_of_members(s: &[u8], body: Span, want: u8, why: Why, index: usize) -
     ensures { result ≡ member_flaws s.now why index
         (members_in want s.now (walk s.now body.from body.to)) }
 {
-    let end = body.to;
-    let mut p = body.from;
-    while p < end {
-        let Some(field) = field_at(s, p, end) else {
+    for field in Fields::between(s, body.from, body.to) {
+        let Some(field) = field else {
             return Reason::Yes;
         };
         let item = Span {
@@ -122,7 +118,6 @@ pub fn flaw_of_members(s: &[u8], body: Span, want: u8, why: Why, index: usize) -
                 about: about,
             };
         }
-        p = field.to;
     }
     Reason::Yes
 }
