@@ -3,7 +3,7 @@
 #![tactic(auto)]
 
 ghost use Rattle.std.specs.Prelude.{◌≡◌, ◌+◌, ◌-◌, ◌≤◌};
-ghost use Rattle.field.specs.Leaf.{Lies, on_leaf, span, text as text_of};
+ghost use Rattle.field.specs.Leaf.{Lies, on_leaf, text as text_of};
 ghost use Rattle.field.specs.Walk.{walk};
 ghost use Rattle.sheet.specs.Tree.{items_in, tree_of};
 ghost use Rattle.scope.specs.inner.Steps.{item_at, file_at};

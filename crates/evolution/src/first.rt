@@ -9,7 +9,7 @@ ghost use Rattle.evolution.specs.inner.Bearers.{number_reason, own_reason, numbe
 
 use crate::flaws::{flaw_of_number, own_flaw};
 use crate::losses::{loss_of_number, own_loss};
-use field::{Field, Span, field_at};
+use field::{Span, field_at};
 use named::declaration_at;
 use reasons::Reason;
 use roster::{Bearer, Nth, nth_declared};
@@ -24,6 +24,7 @@ pub enum Question {
 }
 
 // The reason that a number gives, which is declared for the message of this full name.
+#[tactic(auto, using(crate::proofs::EitherLaws::number_reason_laws))]
 fn number_reason(
     s: &[u8],
     message: &[u8],
@@ -42,6 +43,7 @@ fn number_reason(
 }
 
 // That of the field that a field of a message is, if it is one.
+#[tactic(auto, using(crate::proofs::EitherLaws::field_reason_laws))]
 fn field_reason(
     s: &[u8],
     tag: u8,
@@ -56,11 +58,14 @@ fn field_reason(
         (λ d. number_reason question s.now newer.now index (number_for message.now d))
         (declaration_at field_tag s.now tag item.from item.to) }
 {
-    let Some(d) = declaration_at(s, tag, item.from, item.to, table::FIELD) else { return Reason::Yes; };
+    let Some(d) = declaration_at(s, tag, item.from, item.to, table::FIELD) else {
+        return Reason::Yes;
+    };
     number_reason(s, message, d, newer, question, index)
 }
 
 // The first reason that the fields of a message give.
+#[tactic(auto, using(crate::proofs::FieldLaws::fields_laws))]
 fn fields_reason(
     s: &[u8],
     body: Span,
@@ -77,8 +82,13 @@ fn fields_reason(
     let end = body.to;
     let mut p = body.from;
     while p < end {
-        let Some(field) = field_at(s, p, end) else { return Reason::Yes; };
-        let item = Span { from: field.from, to: field.to };
+        let Some(field) = field_at(s, p, end) else {
+            return Reason::Yes;
+        };
+        let item = Span {
+            from: field.from,
+            to: field.to,
+        };
         let found = field_reason(s, field.tag, item, message, newer, question, index);
         let Reason::Yes = found else {
             return found;
@@ -89,6 +99,7 @@ fn fields_reason(
 }
 
 // The first reason that the numbers give which it declares: a message's fields, or the one of an extension.
+#[tactic(auto, using(crate::proofs::EitherLaws::numbers_reason_laws))]
 fn numbers_reason(
     s: &[u8],
     bearer: Bearer,
@@ -112,6 +123,7 @@ fn numbers_reason(
 }
 
 // The reason that it gives itself, its numbers aside.
+#[tactic(auto, using(crate::proofs::EitherLaws::own_reason_laws))]
 fn own_reason(
     s: &[u8],
     bearer: Bearer,
@@ -130,6 +142,7 @@ fn own_reason(
 }
 
 // The first reason of what bears this full name.
+#[tactic(auto, using(crate::proofs::EitherLaws::reason_of_laws))]
 fn reason_of(
     s: &[u8],
     bearer: Bearer,
@@ -149,6 +162,7 @@ fn reason_of(
 }
 
 // The first reason of all, with room for a full name.
+#[tactic(auto, using(crate::proofs::RosterLaws::first_reason_laws))]
 pub fn first_reason(s: &[u8], newer: &[u8], question: Question, room: &mut [u8]) -> Reason
     requires { length s.now ≤ length room.old }
     ensures { result ≡ first_reason question s.now newer.now }

@@ -26,6 +26,7 @@ fn reason_in_room(sheet: &[u8], newer: &[u8], question: Question) -> Reason
 }
 
 // The first reason. Of a sheet that is too long there is nothing to say: the calls refuse it.
+#[tactic(auto, using(crate::proofs::CallLaws::why_not_laws))]
 fn why_not(sheet: &[u8], newer: &[u8], question: Question) -> Reason
     ensures { result ≡ why_not question sheet.now newer.now }
 {
@@ -36,6 +37,7 @@ fn why_not(sheet: &[u8], newer: &[u8], question: Question) -> Reason
 }
 
 // Why a sheet is not clean.
+#[tactic(auto, using(crate::proofs::CallLaws::unclean_is))]
 pub fn why_unclean(sheet: &[u8]) -> Reason
     ensures { result ≡ why_unclean sheet.now }
 {
@@ -43,6 +45,7 @@ pub fn why_unclean(sheet: &[u8]) -> Reason
 }
 
 // Why the older sheet is not contained in the newer one.
+#[tactic(auto, using(crate::proofs::CallLaws::uncontained_is))]
 pub fn why_uncontained(older: &[u8], newer: &[u8]) -> Reason
     ensures { result ≡ why_uncontained older.now newer.now }
 {
@@ -50,6 +53,7 @@ pub fn why_uncontained(older: &[u8], newer: &[u8]) -> Reason
 }
 
 // Whether the sheet is clean.
+#[tactic(auto, using(crate::proofs::CallLaws::clean_laws))]
 pub fn clean(sheet: &[u8]) -> Answer
     ensures { result ≡ clean_answer sheet.now }
 {
@@ -60,6 +64,7 @@ pub fn clean(sheet: &[u8]) -> Answer
 }
 
 // Whether the older sheet is contained in the newer one.
+#[tactic(auto, using(crate::proofs::CallLaws::contained_laws))]
 pub fn contained(older: &[u8], newer: &[u8]) -> Answer
     ensures { result ≡ contained_answer older.now newer.now }
 {

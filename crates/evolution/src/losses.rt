@@ -12,6 +12,7 @@ use sheet::declaration::Declaration;
 use sheet::table;
 
 // The loss of a number that is declared for the message of this full name.
+#[tactic(auto, using(crate::proofs::LossLaws::number_loss_laws))]
 pub fn loss_of_number(
     s: &[u8],
     message: &[u8],
@@ -31,6 +32,7 @@ pub fn loss_of_number(
 }
 
 // The loss of a message or an enum of this full name, by its kind.
+#[tactic(auto, using(crate::proofs::LossLaws::name_loss_is))]
 fn loss_of_name(name: &[u8], newer: &[u8], kind: u8, why: Why, index: usize) -> Reason
     ensures { result ≡ name_loss newer.now name.now kind why index }
 {
@@ -39,6 +41,7 @@ fn loss_of_name(name: &[u8], newer: &[u8], kind: u8, why: Why, index: usize) -> 
 }
 
 // The loss of what bears this full name, its numbers aside.
+#[tactic(auto, using(crate::proofs::LossLaws::own_loss_laws))]
 pub fn own_loss(bearer: Bearer, name: &[u8], newer: &[u8], index: usize) -> Reason
     ensures { result ≡ own_loss newer.now name.now index bearer }
 {

@@ -3,17 +3,8 @@
 use Rattle.evolution.proofs.RosterLaws.{first_reason_laws}
 use Rattle.evolution.proofs.first.first_reason.Goals as goal
 
-pub returns-in_default : goal.returns-in_default
-returns-in_default c = search first_reason_laws
-
-pub slice_bounds-reason_of-end : goal.slice_bounds-reason_of-end
-slice_bounds-reason_of-end c = search first_reason_laws
-
 pub slice_bounds-reason_of-end-in-loop-bearer : goal.slice_bounds-reason_of-end-in-loop-bearer
 slice_bounds-reason_of-end-in-loop-bearer c = search first_reason_laws
-
-pub reason_of-found-requires : goal.reason_of-found-requires
-reason_of-found-requires c = search first_reason_laws
 
 pub returns-in_default-found : goal.returns-in_default-found
 returns-in_default-found c = search first_reason_laws
