@@ -10,7 +10,7 @@ use Rattle.field.specs.Walk.{walk}
 use Rattle.field.proofs.FieldLaws.{field-bounds}
 use Rattle.request.specs.declared.name.Part.{Part}
 use Rattle.request.specs.Name.{parts_in, after_parts}
-use Rattle.request.specs.Tree.{Constants, None as no_constant, unnamed, constant_in}
+use Rattle.request.specs.Tree.{Constants, none as no_constant, unnamed, constant_in}
 use Rattle.request.specs.Request.{constant_of_field, option_of}
 use Rattle.request.proofs.RequestLaws.{after-from}
 use Rattle.optionform.specs.inner.Parts.{OptionParts}

@@ -10,7 +10,7 @@ use Rattle.field.proofs.FieldLaws.{field-ordered, field-within}
 use Rattle.request.specs.declared.name.Part.{Part}
 use Rattle.request.specs.Name.{part_at, parts_in}
 use Rattle.request.specs.Request.{constant_of_field}
-use Rattle.request.specs.Tree.{Constants, unnamed, None as no_constant, constant_in}
+use Rattle.request.specs.Tree.{Constants, unnamed, none as no_constant, constant_in}
 use Rattle.request.proofs.PartLaws.{parts-nil, parts-cons, part_places}
 use Rattle.optionform.specs.inner.Parts.{LastConstant}
 use Rattle.lookups.specs.Lookups.{Lookups, Message}
