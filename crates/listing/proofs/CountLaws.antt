@@ -15,7 +15,6 @@ use Rattle.reply.specs.Outcome.{Outcome, refused, nothing, give, Answered}
 use Rattle.reply.proofs.Outcomes.{answered-refused, answered-no-room, answered-done}
 use Rattle.emit.specs.inner.Puts.{Puts}
 use Rattle.emit.proofs.WriteLaws.{put-wrote, put_refused, put-left, sets-front}
-use Rattle.levels.specs.inner.Left.{left}
 use Rattle.listing.specs.inner.Worded.{WroteAtMost}
 use Rattle.listing.specs.inner.Admitted.{counted}
 

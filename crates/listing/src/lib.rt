@@ -19,12 +19,13 @@ ghost use Rattle.listing.specs.inner.Admitted.{counted, admitted};
 
 use levels::{Event, STACK_WORDS, next, start};
 use payload::check_bytes;
-use reply::{Answer, Refusal};
+use reply::{Answer, Cause, Refusal};
 use requestform::check_options_type;
 use rows::put_row;
 use scope::lookup::LookupScope;
 
 // The rows of option bytes in the message at that place, from the front of the lent memory on, as far as there is room.
+#[tactic(auto, using(crate::proofs::RowLaws::rowing_laws))]
 fn put_rows(
     sheet: &[u8],
     options_type: &[u8],
@@ -55,6 +56,7 @@ fn put_rows(
 }
 
 // How many words these rows have, or the first fault: they are written in no room to speak of.
+#[tactic(auto, using(crate::proofs::CountLaws::words_counted))]
 fn count_words(
     sheet: &[u8],
     options_type: &[u8],
@@ -74,6 +76,7 @@ fn count_words(
 }
 
 // The answer of the call, with room for the levels.
+#[tactic(auto, using(crate::proofs::CountLaws::over_laws))]
 fn list_over(
     sheet: &[u8],
     options_type: &[u8],
@@ -94,7 +97,7 @@ fn list_over(
             if out.len() < n {
                 return reply::refused(Refusal::NoRoom);
             }
-            put_rows(sheet, options_type, place, bytes, stack, out);
+            let _ = put_rows(sheet, options_type, place, bytes, stack, out);
             reply::done(n as u32)
         }
     }
@@ -119,6 +122,7 @@ fn list_in(
 
 // The message that the options type is, or why there is none: that the sheet is too long, the first fault of the options type and the
 // length of the option bytes, or its look-up. The form of the sheet was tested before.
+#[tactic(auto, using(crate::proofs::ListingLaws::message_laws))]
 fn options_message(sheet: &[u8], options_type: &[u8], bytes: &[u8]) -> Result<LookupScope, Refusal>
     ensures { result ≡ admitted (judge_length sheet.now) sheet.now options_type.now bytes.now }
 {
@@ -129,6 +133,7 @@ fn options_message(sheet: &[u8], options_type: &[u8], bytes: &[u8]) -> Result<Lo
 }
 
 // As `list`, of a sheet whose form was tested before, for whoever asks many times of one sheet: of that its length alone is tested here.
+#[tactic(auto, using(crate::proofs::ListingLaws::list_tested_laws))]
 pub fn list_tested(sheet: &[u8], options_type: &[u8], bytes: &[u8], out: &mut [u32]) -> Answer
     ensures { Answered (listing_tested sheet.now options_type.now bytes.now)
         out.old out.new result }
@@ -141,6 +146,7 @@ pub fn list_tested(sheet: &[u8], options_type: &[u8], bytes: &[u8], out: &mut [u
 
 // The records of option bytes under a sheet, eight words a record: level, number, type, wire type, place and length of the payload, value
 // low, value high.
+#[tactic(auto, using(crate::proofs::ListingLaws::list_laws))]
 pub fn list(sheet: &[u8], options_type: &[u8], bytes: &[u8], out: &mut [u32]) -> Answer
     ensures { Answered (listing sheet.now options_type.now bytes.now)
         out.old out.new result }

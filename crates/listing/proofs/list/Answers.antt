@@ -3,8 +3,8 @@
 use Rattle.listing.proofs.ListingLaws.{list_laws}
 use Rattle.listing.proofs.list.Goals as goal
 
-pub returns-in-Refused : goal.returns-in-Refused
-returns-in-Refused c = search list_laws
+pub returns-in-Err : goal.returns-in-Err
+returns-in-Err c = search list_laws
 
 pub returns : goal.returns
 returns c = search list_laws

@@ -3,11 +3,8 @@
 use Rattle.listing.proofs.ListingLaws.{list_tested_laws}
 use Rattle.listing.proofs.list_tested.Goals as goal
 
-pub list_in-requires : goal.list_in-requires
-list_in-requires c = search list_tested_laws
+pub returns-in-Err : goal.returns-in-Err
+returns-in-Err c = search list_tested_laws
 
-pub returns-in-NoMessage : goal.returns-in-NoMessage
-returns-in-NoMessage c = search list_tested_laws
-
-pub returns-in-Message : goal.returns-in-Message
-returns-in-Message c = search list_tested_laws
+pub returns-in-Ok : goal.returns-in-Ok
+returns-in-Ok c = search list_tested_laws
