@@ -35,7 +35,7 @@ pub enum Built {
 const REPEATED: u8 = 3;
 
 // Whether the name is skipped on that options type.
-#[tactic(auto, using(crate::proofs::BuiltinLaws::skipped_is), unfolding(crate::specs::Builtins::is_skipped))]
+#[tactic(auto, unfolding(crate::specs::Builtins::is_skipped))]
 fn is_skipped(message: &[u8], name: &[u8]) -> bool
     ensures { result ≡ is_skipped message.now name.now }
 {
@@ -53,13 +53,20 @@ fn is_plain(typ: usize) -> bool
 
 // The constant of this tag whose payload is from..to, on a builtin of that shape.
 #[tactic(auto, using(crate::proofs::BuiltinLaws::on_laws))]
-fn builtin_on(sheet: &[u8], request: &[u8], shape: Shape, tag: u8, from: usize, to: usize) -> Result<Body, Refusal>
+fn builtin_on(
+    sheet: &[u8],
+    request: &[u8],
+    shape: Shape,
+    tag: u8,
+    from: usize,
+    to: usize,
+) -> Result<Body, Refusal>
     requires lies { Lies shape.path sheet.now }
     requires from_le_to { (from ≤ to) × (to ≤ length request.now) }
     ensures { result ≡ builtin_on (walking sheet.now) sheet.now request.now shape
         (constant_in most_constants request.now unnamed tag from to no_constant) }
 {
-    let Some(constant) = constant_of(request, tag, from, to) else { return Err(Refusal::UnsupportedExtensionType); };
+    let constant = constant_of(request, tag, from, to).ok_or(Refusal::UnsupportedExtensionType)?;
     if is_plain(octets::wide(shape.typ)) {
         return scalar_on(
             sheet,
@@ -121,7 +128,9 @@ pub fn builtin_of(
     if is_skipped(message, &request[a..e]) {
         return Built::Skipped;
     }
-    let Some(found) = lookups::field_named(sheet, place, &request[a..e]) else { return Built::Wrong(Refusal::BuiltinOptionNotFound); };
+    let Some(found) = lookups::field_named(sheet, place, &request[a..e]) else {
+        return Built::Wrong(Refusal::BuiltinOptionNotFound);
+    };
     builtin_field(sheet, request, found, tag, from, to)
 }
 
