@@ -16,10 +16,10 @@ ghost use Rattle.following.specs.inner.Keys.{key_words};
 ghost use Rattle.naming.specs.inner.Naming.{Declares, Namable, behind_part, step_part};
 
 use reply::{Cause, Where};
-use request::name::{part_at, Part};
+use request::name::{Part, part_at};
 use scope::lookup::LookupScope;
 use sheet::declaration::Declaration;
-use steps::{Reach, behind, step_of, why_of, Lack};
+use steps::{Lack, Reach, behind, step_of, why_of};
 
 // What a name comes to: so many parts, whose keys were noted; that parts are left on a group; or why not, and at which part.
 #[derive(Clone, Copy)]
@@ -37,6 +37,7 @@ fn joins(d: Declaration) -> bool
 }
 
 // The key of a part, noted.
+#[tactic(auto, using(crate::proofs::KeyLaws::note_laws))]
 fn note_key(keys: &mut [usize], index: usize, d: Declaration)
     requires { index * key_words + key_words ≤ length keys.old }
     ensures { keys.new ≡ sets keys.old (index * key_words) (d.name.from ∷ only_if (never d) 1 0 ∷ []) }
@@ -47,6 +48,7 @@ fn note_key(keys: &mut [usize], index: usize, d: Declaration)
 
 // What the parts behind the one at `index` come to, which came to this declaration and ends at `from`.
 #[cycle(declare_declare_behind_declare_step)]
+#[tactic(auto, using(crate::proofs::NameLaws::declare_behind_laws))]
 fn declare_behind(
     sheet: &[u8],
     name: &[u8],
@@ -83,6 +85,7 @@ fn declare_behind(
 
 // What the part at `index`, which came to `step` and ends at `from`, comes to with the parts behind it.
 #[cycle(declare_declare_behind_declare_step)]
+#[tactic(auto, using(crate::proofs::NameLaws::declare_step_laws))]
 fn declare_step(
     sheet: &[u8],
     name: &[u8],
@@ -111,6 +114,7 @@ fn declare_step(
 
 // The parts of a name from a place on, the one at `index` first, in the message of that name and place.
 #[cycle(declare_declare_behind_declare_step)]
+#[tactic(auto, using(crate::proofs::NameLaws::declare_laws))]
 pub fn declare(
     sheet: &[u8],
     name: &[u8],
@@ -127,7 +131,9 @@ pub fn declare(
         (message_of message.now place) (parts_in (walk name.now from (length name.now)))) index
         keys.old keys.new result }
 {
-    let Some(part) = part_at(name, from, name.len()) else { return Naming::Parts(index as usize); };
+    let Some(part) = part_at(name, from, name.len()) else {
+        return Naming::Parts(index as usize);
+    };
     let step = step_of(sheet, name, scope, message, place, part);
     declare_step(sheet, name, scope, step, part.name.to, index, keys)
 }
