@@ -7,6 +7,7 @@ ghost use Rattle.display.specs.inner.Waits.{Waits};
 use levels::{Event, next, start};
 
 // The first record under a sheet; none where the options type is not found.
+#[tactic(auto, using(crate::proofs::WaitsLaws::first_laws))]
 pub fn first_of(sheet: &[u8], options_type: &[u8], bytes: &[u8], stack: &mut [usize]) -> Event
     requires stack_len { length stack.old ≡ stack_words }
     requires bytes_len_bound { length bytes.now ≤ most_option_bytes }

@@ -35,6 +35,7 @@ pub fn records(words: &[u32], n: usize) {
 }
 
 // As `rows`, with room for the levels.
+#[tactic(auto, using(crate::proofs::WaitsLaws::waits_laws))]
 fn rows_over(sheet: &[u8], options_type: &[u8], bytes: &[u8], stack: &mut [usize])
     requires { length stack.old ≡ stack_words }
 {

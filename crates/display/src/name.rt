@@ -7,6 +7,7 @@ use sheet::table;
 
 // The package of the file and the names of the messages that a place of the sheet lies in, each with a dot behind it where it is not empty.
 // The way goes into each file and message that the place lies in, and over all that stands before it, as their names do.
+#[tactic(auto, using(crate::proofs::PlaceLaws::place_laws))]
 fn around(s: &[u8], place: usize) {
     let end = s.len();
     let mut at = 0;

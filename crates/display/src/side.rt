@@ -25,6 +25,7 @@ fn show_alone(sheet: &[u8], bytes: &[u8], row: Row) {
 }
 
 // The lines of those that the older alone has before a place, from a record on; and the first that does not lie before it.
+#[tactic(auto, using(crate::proofs::WaitsLaws::waits_laws))]
 fn show_before(
     sheet: &[u8],
     options_type: &[u8],
@@ -53,6 +54,7 @@ fn show_before(
 }
 
 // What waits of the older behind a place: the record there has been shown.
+#[tactic(auto, using(crate::proofs::WaitsLaws::waits_laws))]
 fn behind(
     sheet: &[u8],
     options_type: &[u8],
@@ -122,6 +124,7 @@ fn show_line(
 
 // The lines of the records of the newer from the first on, and of the older likewise; at the end of the newer's, of all that the older has
 // besides.
+#[tactic(auto, using(crate::proofs::WaitsLaws::waits_laws))]
 fn show_from(
     newer: &[u8],
     older: &[u8],

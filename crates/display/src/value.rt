@@ -26,10 +26,8 @@ fn show_byte(b: u8) {
 
 fn show_string(payload: &[u8]) {
     show_word(QUOTE);
-    let mut i = 0;
-    while i < payload.len() {
+    for i in 0..payload.len() {
         show_byte(payload[i]);
-        i += 1;
     }
     show_word(QUOTE);
 }
@@ -37,9 +35,7 @@ fn show_string(payload: &[u8]) {
 // The bits of a float or a double, whose bytes stand with the lowest first.
 fn show_bits(payload: &[u8]) {
     show_word(BITS);
-    let mut i = payload.len();
-    while 0 < i {
-        i -= 1;
+    for i in (0..payload.len()).rev() {
         hex_byte(payload[i]);
     }
 }
