@@ -26,17 +26,27 @@ fn answer_over(sheet: &[u8], options_type: &[u8], bytes: &[u8], words: &mut [u32
 }
 
 // The case at a place, and where the next one starts; 0 where the input is no such fields.
+#[tactic(auto, using(crate::proofs::CaseLaws::case_laws))]
 fn list_case(s: &[u8], at: usize, words: &mut [u32]) -> usize
     requires { at ≤ length s.now }
     ensures { result ≤ length s.now }
 {
-    let Some(Span { from, to }) = field_of(s, at, SHEET) else {
+    let Some(sheet) = field_of(s, at, SHEET) else {
         return 0;
     };
-    let Some(options_type) = field_of(s, to, OPTIONS_TYPE) else { return 0; };
-    let Some(place) = field_of(s, options_type.to, OPTION_BYTES) else { return 0; };
-    answer_over(&s[from..to], &s[options_type.from..options_type.to], &s[place.from..place.to], words);
-    place.to
+    let Some(options_type) = field_of(s, sheet.to, OPTIONS_TYPE) else {
+        return 0;
+    };
+    let Some(bytes) = field_of(s, options_type.to, OPTION_BYTES) else {
+        return 0;
+    };
+    answer_over(
+        &s[sheet.from..sheet.to],
+        &s[options_type.from..options_type.to],
+        &s[bytes.from..bytes.to],
+        words,
+    );
+    bytes.to
 }
 
 // All cases, of which there has to be one.
@@ -55,6 +65,7 @@ fn list_cases(s: &[u8], words: &mut [u32]) {
 }
 
 // Standard input, read into a lent buffer.
+#[tactic(auto, using(crate::proofs::CaseLaws::case_laws))]
 fn run_over(buffer: &mut [u8], words: &mut [u32]) {
     let Some(n) = console::input::read(buffer) else {
         return;

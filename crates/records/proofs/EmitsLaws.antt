@@ -7,7 +7,6 @@ use Rattle.basis.proofs.Kit.{arith}
 use native.Mathlib.Nat.{add-zero, le_trans}
 use Rattle.basis.proofs.Never.{never}
 use Rattle.octets.specs.inner.Laid.{Laid}
-use Rattle.reply.specs.declared.Refusal.{Refusal}
 use Rattle.records.specs.Records.{Recs, nil, encode}
 use Rattle.records.specs.Made.{Made, made, wrong}
 use Rattle.records.specs.inner.Emits.{wrote_of, Emits}
@@ -73,8 +72,8 @@ pub emits-more : {W A : Type 0} {answers : ℕ → Made W → A} {m : Made W} {j
 emits-more k u h = record { answer = u.answer; left = u.left; few = λ x g. le_trans (u.few x g) h }
 
 -- what `?` hands on
-pub hands-on : {m : Made Refusal} {k : ℕ} {l : List ℕ} {at : ℕ} {l' : List ℕ} {y : Result ℕ Refusal} {w : Refusal} → IsErrAnd y (λ e. e ≡ w)
-    → Emits wrote_of m k l at l' (Err w) → Emits wrote_of m k l at l' y
+pub hands-on : {W E : Type 0} {answers : ℕ → Made W → Result ℕ E} {m : Made W} {k : ℕ} {l : List ℕ} {at : ℕ} {l' : List ℕ} {y : Result ℕ E}
+    {w : E} → IsErrAnd y (λ e. e ≡ w) → Emits answers m k l at l' (Err w) → Emits answers m k l at l' y
 hands-on {y = Ok x} h u = elim h [ ]
 hands-on {y = Err e} h u = rw h u
 
