@@ -17,7 +17,7 @@ use Rattle.sheet.specs.declared.declaration.Shape.{Shape}
 use Rattle.sheet.specs.declared.declaration.Declaration.{Declaration}
 use Rattle.request.specs.declared.constant.Constant.{Constant}
 use Rattle.request.specs.Constant.{constant_of}
-use Rattle.request.specs.Tree.{unnamed, Constants, None as no_constant, ConstantReader, grown, if_held, constant_in}
+use Rattle.request.specs.Tree.{unnamed, Constants, none as no_constant, ConstantReader, grown, if_held, constant_in}
 use Rattle.request.proofs.ConstantLaws.{text-span, span-place}
 use Rattle.records.specs.declared.Body.{Body}
 use Rattle.records.specs.declared.Body.TheVariants.{Bits, Bytes}

@@ -17,7 +17,7 @@ use Rattle.sheet.specs.Tree.{value_in, items_in}
 use Rattle.scope.proofs.Sample.{value}
 use Rattle.request.specs.declared.constant.Constant.{Constant}
 use Rattle.request.specs.declared.constant.Constant.TheVariants.{Bool as BoolOf, Integer, Text, Ident}
-use Rattle.request.specs.Tree.{unnamed, Constants, None as no_constant, scalar, message, list}
+use Rattle.request.specs.Tree.{unnamed, Constants, none as no_constant, scalar, message, list}
 use Rattle.records.specs.declared.Body.TheVariants.{Bits, Bytes}
 use Rattle.lookups.specs.Lookups.{Lookups, walking}
 use Rattle.scalars.specs.Scalars.{is_small, is_signed, is_integer, most_of, pattern_of}

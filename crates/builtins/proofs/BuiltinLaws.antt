@@ -1,10 +1,8 @@
 -- Builtins, over any look-ups: the ways through the functions that say what a constant on one comes to.
 -- Assumes nothing.
-use Rattle.std.specs.Prelude.{◌≡◌, refl, Bool, true, false, ◌&&◌, ◌||◌, List, [], ◌∷◌, ℕ, ◌-◌, eqb, Some, Err, None, Ok, Option, Result}
+use Rattle.std.specs.Prelude.{◌≡◌, refl, Bool, true, false, ◌||◌, List, [], ◌∷◌, ℕ, ◌-◌, eqb, Some, Err, None, Ok, Option, Result}
 use Rattle.basis.specs.Kit.{sym, ap, ◌∙◌}
 use Rattle.basis.proofs.Kit.{eq-eqb, ne_eqb}
-use Rattle.octets.specs.Octets.{same_bytes}
-use Rattle.octets.specs.Ascii.{ascii}
 use Rattle.limits.specs.Figures.{most_constants}
 use Rattle.reply.specs.declared.Refusal.{Refusal}
 use Rattle.reply.specs.declared.Refusal.TheVariants.{BuiltinOptionNotFound, BuiltinOptionPointsToNonSingularField}
@@ -27,14 +25,9 @@ use Rattle.scalars.specs.Scalars.{unsupported, scalar_on}
 use Rattle.scalars.proofs.ReadLaws.{read-inside}
 use Rattle.builtins.specs.declared.Built.{Built}
 use Rattle.builtins.specs.declared.Built.TheVariants.{Skipped, Sets, Wrong}
-use Rattle.builtins.specs.Builtins.{repeated, field_options, is_skipped, built_of, builtin_on, builtin_field, builtin_of}
+use Rattle.builtins.specs.Builtins.{repeated, is_skipped, built_of, builtin_on, builtin_field, builtin_of}
 
--- ---- is_skipped and is_plain
-pub skipped_is : (m n : List ℕ) (a b c : Bool) → a ≡ same_bytes m field_options → b ≡ same_bytes n (ascii "default")
-    → c ≡ same_bytes n (ascii "json_name") → (a && (b || c)) ≡ is_skipped m n
-unfolding is_skipped
-skipped_is m n a b c p q r = rw (p, q, r)
-
+-- ---- is_plain
 -- the types that a builtin may have
 abbrev pub plain : List ℕ
 plain = TYPE_BOOL ∷ TYPE_ENUM ∷ TYPE_STRING ∷ []

@@ -16,7 +16,7 @@ use Rattle.reply.specs.declared.Refusal.TheVariants.{UnsupportedExtensionType}
 use Rattle.types.specs.Types.{is_any, TYPE_BOOL, TYPE_STRING, TYPE_ENUM}
 use Rattle.sheet.specs.declared.declaration.Shape.{Shape}
 use Rattle.sheet.specs.declared.declaration.Declaration.{Declaration}
-use Rattle.request.specs.Tree.{Constants, None as no_constant, scalar, message, list}
+use Rattle.request.specs.Tree.{Constants, none as no_constant, scalar, message, list}
 use Rattle.records.specs.Records.{Recs, nil, record_of}
 use Rattle.lookups.specs.Lookups.{Lookups, Message, field_named}
 use Rattle.scalars.specs.Scalars.{scalar_on, unsupported}

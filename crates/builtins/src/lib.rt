@@ -35,6 +35,7 @@ pub enum Built {
 const REPEATED: u8 = 3;
 
 // Whether the name is skipped on that options type.
+#[tactic(auto, unfolding(crate::specs::Builtins::is_skipped))]
 fn is_skipped(message: &[u8], name: &[u8]) -> bool
     ensures { result ≡ is_skipped message.now name.now }
 {
@@ -43,6 +44,7 @@ fn is_skipped(message: &[u8], name: &[u8]) -> bool
 }
 
 // Whether a builtin may be of the type.
+#[tactic(auto, using(crate::proofs::BuiltinLaws::plain_is))]
 fn is_plain(typ: usize) -> bool
     ensures { result ≡ is_any typ (TYPE_BOOL ∷ TYPE_ENUM ∷ TYPE_STRING ∷ []) }
 {
@@ -50,13 +52,21 @@ fn is_plain(typ: usize) -> bool
 }
 
 // The constant of this tag whose payload is from..to, on a builtin of that shape.
-fn builtin_on(sheet: &[u8], request: &[u8], shape: Shape, tag: u8, from: usize, to: usize) -> Result<Body, Refusal>
+#[tactic(auto, using(crate::proofs::BuiltinLaws::on_laws))]
+fn builtin_on(
+    sheet: &[u8],
+    request: &[u8],
+    shape: Shape,
+    tag: u8,
+    from: usize,
+    to: usize,
+) -> Result<Body, Refusal>
     requires lies { Lies shape.path sheet.now }
     requires from_le_to { (from ≤ to) × (to ≤ length request.now) }
     ensures { result ≡ builtin_on (walking sheet.now) sheet.now request.now shape
         (constant_in most_constants request.now unnamed tag from to no_constant) }
 {
-    let Some(constant) = constant_of(request, tag, from, to) else { return Err(Refusal::UnsupportedExtensionType); };
+    let constant = constant_of(request, tag, from, to).ok_or(Refusal::UnsupportedExtensionType)?;
     if is_plain(octets::wide(shape.typ)) {
         return scalar_on(
             sheet,
@@ -70,6 +80,7 @@ fn builtin_on(sheet: &[u8], request: &[u8], shape: Shape, tag: u8, from: usize, 
 }
 
 // The same on the field that was found.
+#[tactic(auto, using(crate::proofs::BuiltinLaws::field_laws))]
 fn builtin_field(
     sheet: &[u8],
     request: &[u8],
@@ -94,6 +105,7 @@ fn builtin_field(
 }
 
 // What the constant comes to on the builtin of that name: the message is the options type, and stands at the place.
+#[tactic(auto, using(crate::proofs::BuiltinLaws::of_laws))]
 pub fn builtin_of(
     sheet: &[u8],
     request: &[u8],
@@ -116,11 +128,14 @@ pub fn builtin_of(
     if is_skipped(message, &request[a..e]) {
         return Built::Skipped;
     }
-    let Some(found) = lookups::field_named(sheet, place, &request[a..e]) else { return Built::Wrong(Refusal::BuiltinOptionNotFound); };
+    let Some(found) = lookups::field_named(sheet, place, &request[a..e]) else {
+        return Built::Wrong(Refusal::BuiltinOptionNotFound);
+    };
     builtin_field(sheet, request, found, tag, from, to)
 }
 
 // The record of a builtin that is set.
+#[tactic(auto, using(crate::proofs::BuiltLaws::put_laws), unfolding(records::specs::Records::encode))]
 pub fn put_builtin(request: &[u8], built: Built, out: &mut [u8], at: usize) -> usize
     requires in_built { InBuilt built request.now }
     requires request_bound { at + length request.now < 2 ^ 62 }

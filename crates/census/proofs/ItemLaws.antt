@@ -17,7 +17,9 @@ use Rattle.octets.specs.Octets.{part}
 use Rattle.field.specs.Leaf.{any_bytes, leaf_at}
 use Rattle.field.specs.Walk.{Walk, done, cut, step, walk}
 use Rattle.field.proofs.LeafLaws.{leaf-bounds, leaf_inside, leaf-ordered, leaf-within}
-use Rattle.field.proofs.Tally.{Tally, total, tally-start, tally_laws}
+use Rattle.field.proofs.Tally.{total}
+use Rattle.field.specs.declared.fields.Fields.{Fields}
+use Rattle.field.proofs.InFields.{TallyIn, tally-in-start, tally-in-next, tally_in_laws}
 use Rattle.sheet.specs.Table.{file_tag, message_tag, package_tag, name_tag}
 use Rattle.sheet.specs.Tree.{Items, none, File, item_in, message_in, items_in, file_in, files_in, tree_of}
 use Rattle.sheet.proofs.TreeLaws.{item-message, message-unnamed, message-named}
@@ -95,16 +97,18 @@ module _ (m : List ℕ) (x : Asked) (o s : List ℕ) where
 
   -- ---- how the loops start
   pub items-start : (w : Way) (d a e u : ℕ) → u ≡ open_to x w a e → a ≤ e → e ≤ length s
-      → Tally (items_asked m x o s w (items_in d s (walk s a u))) (total (item_asked m x o s w d)) s a u 0 a
-  items-start w d a e u q h k =
+      → (it : Fields) → it.bytes.now ≡ s → it.at ≡ a → it.end ≡ u
+      → TallyIn (items_asked m x o s w (items_in d s (walk s a u))) (total (item_asked m x o s w d)) s a u 0 it
+  items-start w d a e u q h k it b i n =
       let z = open-bounds x w a e h in
-      tally-start _ (total (item_asked m x o s w d)) s a u (items-total w d (walk s a u)) (omega (arith, z.ordered)) (omega (arith, z.inside))
+      tally-in-start _ (total (item_asked m x o s w d)) s a u it (items-total w d (walk s a u)) b i n
+      (omega (arith, z.ordered)) (omega (arith, z.inside))
 
-  pub files-start : (to : ℕ) → to ≡ length s → Tally (files_asked m x o s (tree_of s)) (total (file_asked m x o s)) s 0 to 0 0
-  files-start to q =
-      rw q
-      (tally-start _ (total (file_asked m x o s)) s 0 (length s)
-      (ap (files_asked m x o s) (tree-files s) ∙ files-total (walk s 0 (length s))) (omega arith) (omega arith))
+  pub files-start : (it : Fields) → it.bytes.now ≡ s → it.at ≡ 0 → it.end ≡ length s
+      → TallyIn (files_asked m x o s (tree_of s)) (total (file_asked m x o s)) s 0 (length s) 0 it
+  files-start it b i n =
+      tally-in-start _ (total (file_asked m x o s)) s 0 (length s) it
+      (ap (files_asked m x o s) (tree-files s) ∙ files-total (walk s 0 (length s))) b i n (omega arith) (omega arith)
 
 -- ---- in_item
 pub few-one : (y k : ℕ) → y ≤ 1 → y ≤ k + 1
@@ -187,7 +191,7 @@ open-counts m x o s w d a e u q y p = rw q at p ∙ open-whole m x o s w d a e
 pub open-few : (x : Asked) (w : Way) (a e u : ℕ) → u ≡ open_to x w a e → a ≤ e → (y : ℕ) → y ≤ u - a → y ≤ e - a
 open-few x w a e u q h y p = let z = open-bounds x w a e h in omega (arith, z.inside, q)
 
-pub ruleset in_items_laws = (items-start, open-counts, open-few, tally_laws)
+pub ruleset in_items_laws = (items-start, open-counts, open-few, tally_in_laws, tally-in-next)
 
 -- ---- in_file
 -- what stands after a package counts for no more than its bytes
@@ -211,7 +215,7 @@ module _ (m : List ℕ) (x : Asked) (o s : List ℕ) (t a e : ℕ) where
 pub ruleset in_file_laws = (in-file-other, in-file-unnamed, in-file-named, none-few, file-few, leaf_inside, leaf-ordered, leaf-within)
 
 -- ---- in_files
-pub ruleset in_files_laws = (files-start, tally_laws)
+pub ruleset in_files_laws = (files-start, tally_in_laws, tally-in-next)
 
 -- ---- bearers and numbered
 pub bearers-counts : (k : ℕ) (m o s : List ℕ) (y : ℕ) → y ≡ files_asked m (Bearers k) o s (tree_of s) → y ≡ bearing k m (every_declared s)

@@ -3,7 +3,7 @@
 #![tactic(auto)]
 
 ghost use Rattle.std.specs.Prelude.{◌≡◌, ◌+◌, ◌-◌, ◌≤◌};
-ghost use Rattle.field.specs.Leaf.{Lies, on_leaf, span, text as text_of};
+ghost use Rattle.field.specs.Leaf.{Lies, on_leaf, text as text_of};
 ghost use Rattle.field.specs.Walk.{walk};
 ghost use Rattle.sheet.specs.Tree.{items_in, tree_of};
 ghost use Rattle.scope.specs.inner.Steps.{item_at, file_at};
@@ -12,7 +12,8 @@ ghost use Rattle.likeness.specs.inner.Likes.{Placed};
 ghost use Rattle.census.specs.inner.Census.{bearing, numbered as numbered_of, AskedOf, Reaches, onward as onward_of, file_way};
 ghost use Rattle.census.specs.inner.Census.{own as own_of, open_to, named, items_asked, files_asked};
 
-use field::{Span, field_at, leaf_at};
+use field::fields::Fields;
+use field::{Span, leaf_at};
 use likeness::{Like, Way, in_extension, in_field};
 use limits::MOST_MESSAGES;
 use names::leads;
@@ -190,9 +191,8 @@ fn in_items(
 {
     let end = open_to(asked, way, body);
     let mut n = 0;
-    let mut p = body.from;
-    while p < end {
-        let Some(field) = field_at(s, p, end) else {
+    for field in Fields::between(s, body.from, end) {
+        let Some(field) = field else {
             return n;
         };
         let item = Span {
@@ -200,7 +200,6 @@ fn in_items(
             to: field.to,
         };
         n += in_item(s, field.tag, item, left, text, way, o, asked);
-        p = field.to;
     }
     n
 }
@@ -247,11 +246,9 @@ fn in_files(s: &[u8], text: &[u8], o: &[u8], asked: Asked) -> usize
     requires { AskedOf o.now asked }
     ensures { result ≡ files_asked text.now asked o.now s.now (tree_of s.now) }
 {
-    let end = s.len();
     let mut n = 0;
-    let mut p = 0;
-    while p < end {
-        let Some(field) = field_at(s, p, end) else {
+    for field in Fields::between(s, 0, s.len()) {
+        let Some(field) = field else {
             return n;
         };
         let item = Span {
@@ -259,7 +256,6 @@ fn in_files(s: &[u8], text: &[u8], o: &[u8], asked: Asked) -> usize
             to: field.to,
         };
         n += in_file(s, field.tag, item, text, o, asked);
-        p = field.to;
     }
     n
 }

@@ -18,7 +18,9 @@ use Rattle.sheet.specs.Tree.{Items, none, message, enumeration, File, value_onto
 use Rattle.sheet.specs.Tree.{item_in, message_in, items_with, items_in, file_in, files_in, tree_of}
 use Rattle.counts.specs.Declarations.{one, items_hold, files_hold}
 use Rattle.counts.specs.inner.Fields.{declared_count, value_count, item_count, file_count}
-use Rattle.field.proofs.Tally.{Tally, total, tally-start, tally_laws}
+use Rattle.field.proofs.Tally.{total}
+use Rattle.field.specs.declared.fields.Fields.{Fields}
+use Rattle.field.proofs.InFields.{TallyIn, tally-in-start, tally-in-next, tally_in_laws}
 use Rattle.sheet.proofs.TreeLaws.{value-other, value_none, value-some, enum-unnamed, enum-named}
 use Rattle.sheet.proofs.TreeLaws.{message-beyond, message-unnamed, message-named}
 use Rattle.sheet.proofs.TreeLaws.{item-message, item-extension, item-no-extension, item-enum, item-field, item-no-field, item-other}
@@ -119,16 +121,18 @@ files-total k s (step t a e w) = file-adds s t a e k (files_in s w) ∙ ap (λ n
 
 -- ---- how the loops start
 module _ (s : List ℕ) (from to : ℕ) (h : from ≤ to) (g : to ≤ length s) where
-  pub values-start : Tally (length (values_in s (walk s from to))) (total (value_count s)) s from to 0 from
-  values-start = tally-start _ (total (value_count s)) s from to (values-total s (walk s from to)) h g
+  module _ (it : Fields) (b : it.bytes.now ≡ s) (i : it.at ≡ from) (n : it.end ≡ to) where
+    pub values-start : TallyIn (length (values_in s (walk s from to))) (total (value_count s)) s from to 0 it
+    values-start = tally-in-start _ (total (value_count s)) s from to it (values-total s (walk s from to)) b i n h g
 
-  pub items-start : (k d : ℕ) → Tally (items_hold k (items_in d s (walk s from to))) (total (item_count k d s)) s from to 0 from
-  items-start k d = tally-start _ (total (item_count k d s)) s from to (items-total k d s (walk s from to)) h g
+    pub items-start : (k d : ℕ) → TallyIn (items_hold k (items_in d s (walk s from to))) (total (item_count k d s)) s from to 0 it
+    items-start k d = tally-in-start _ (total (item_count k d s)) s from to it (items-total k d s (walk s from to)) b i n h g
 
-pub files-start : (k : ℕ) (s : List ℕ) (to : ℕ) → to ≡ length s → Tally (files_hold k (tree_of s)) (total (file_count k s)) s 0 to 0 0
-files-start k s to q =
-    rw (q, tree-files s)
-    (tally-start _ (total (file_count k s)) s 0 (length s) (files-total k s (walk s 0 (length s))) (omega arith) (omega arith))
+pub files-start : (k : ℕ) (s : List ℕ) (it : Fields) → it.bytes.now ≡ s → it.at ≡ 0 → it.end ≡ length s
+    → TallyIn (files_hold k (tree_of s)) (total (file_count k s)) s 0 (length s) 0 it
+files-start k s it b i n =
+    rw (tree-files s)
+    (tally-in-start _ (total (file_count k s)) s 0 (length s) it (files-total k s (walk s 0 (length s))) b i n (omega arith) (omega arith))
 
 -- ---- one tag, one declaration, one value
 module _ (k t : ℕ) where
@@ -165,7 +169,7 @@ pub ruleset value_count_laws = (value-count-other, value-count-none, value-count
 pub few-one : (n m : ℕ) → n ≤ 1 → n ≤ m + 1
 few-one n m h = omega arith
 
-pub ruleset values_count_laws = (values-start, few-one, tally_laws)
+pub ruleset values_count_laws = (values-start, few-one, tally_in_laws, tally-in-next)
 
 -- ---- what has a name or a package: itself, x, and what it holds, y
 module _ (k : ℕ) (s : List ℕ) (a e : ℕ) (r : Option Span) (q : r ≡ leaf_at k any_bytes s a e) (u : Span) (g : r ≡ Some u) (x y : ℕ) where
@@ -232,7 +236,7 @@ item-count-other k d s t a e x y z w = rw (item-other (message_in d s) s t a e n
 
 pub ruleset item_count_laws = (item-count-message, item-count-extension, item-count-enum, item-count-field, item-count-other)
 
-pub ruleset items_count_laws = (items-start, tally_laws)
+pub ruleset items_count_laws = (items-start, tally_in_laws, tally-in-next)
 
 -- ---- a field of a sheet
 module _ (k : ℕ) (s : List ℕ) (t a e : ℕ) where
@@ -249,4 +253,4 @@ module _ (k : ℕ) (s : List ℕ) (t a e : ℕ) where
 
 pub ruleset file_count_laws = (file-count-other, file-count-unnamed, file-count-named, holder_laws)
 
-pub ruleset files_count_laws = (files-start, tally_laws)
+pub ruleset files_count_laws = (files-start, tally_in_laws, tally-in-next)

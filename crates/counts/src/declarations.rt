@@ -5,6 +5,7 @@ ghost use Rattle.sheet.specs.Tree.{none, values_in, enum_in, message_in, items_i
 ghost use Rattle.counts.specs.Declarations.{one as one_of, items_hold, files_hold};
 ghost use Rattle.counts.specs.inner.Fields.{declared_count, value_count, item_count, file_count};
 
+use field::fields::Fields;
 use field::leaf_at;
 use limits::MOST_MESSAGES;
 use sheet::declaration::{Declaration, extension_at, value_at};
@@ -41,13 +42,11 @@ fn count_values(s: &[u8], from: usize, to: usize) -> usize
     ensures { (result ≡ length (values_in s.now (walk s.now from to))) × (result ≤ to - from) }
 {
     let mut n = 0;
-    let mut at = from;
-    while at < to {
-        let Some(field) = field::field_at(s, at, to) else {
+    for field in Fields::between(s, from, to) {
+        let Some(field) = field else {
             return n;
         };
         n += count_value(s, field.tag, field.from, field.to);
-        at = field.to;
     }
     n
 }
@@ -118,13 +117,11 @@ fn count_items(s: &[u8], from: usize, to: usize, left: usize, want: u8) -> usize
     ensures { (result ≡ items_hold want (items_in left s.now (walk s.now from to))) × (result ≤ to - from) }
 {
     let mut n = 0;
-    let mut at = from;
-    while at < to {
-        let Some(field) = field::field_at(s, at, to) else {
+    for field in Fields::between(s, from, to) {
+        let Some(field) = field else {
             return n;
         };
         n += count_item(s, field.tag, field.from, field.to, left, want);
-        at = field.to;
     }
     n
 }
@@ -149,15 +146,12 @@ fn count_file(s: &[u8], tag: u8, from: usize, to: usize, want: u8) -> usize
 pub fn count(s: &[u8], want: u8) -> usize
     ensures { result ≡ files_hold want (tree_of s.now) }
 {
-    let end = s.len();
     let mut n = 0;
-    let mut at = 0;
-    while at < end {
-        let Some(field) = field::field_at(s, at, end) else {
+    for field in Fields::between(s, 0, s.len()) {
+        let Some(field) = field else {
             return n;
         };
         n += count_file(s, field.tag, field.from, field.to, want);
-        at = field.to;
     }
     n
 }

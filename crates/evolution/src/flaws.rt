@@ -16,6 +16,7 @@ use sheet::table;
 use types::TYPE_ENUM;
 
 // Whether a span of the sheet is the full name of exactly one declaration of that kind.
+#[tactic(auto, using(crate::proofs::FlawLaws::names_one_is))]
 fn names_one(s: &[u8], path: Span, kind: u8) -> bool
     requires { Lies path s.now }
     ensures { result ≡ names_one s.now kind (text s.now path) }
@@ -26,6 +27,7 @@ fn names_one(s: &[u8], path: Span, kind: u8) -> bool
 }
 
 // Whether the type path of a declaration, where its type has one, names one declaration of its kind.
+#[tactic(auto, using(crate::proofs::FlawLaws::path_named_laws))]
 fn path_named(s: &[u8], d: Declaration) -> bool
     requires { DeclaredLies s.now d }
     ensures { result ≡ clean_path s.now d }
@@ -41,7 +43,8 @@ fn path_named(s: &[u8], d: Declaration) -> bool
 }
 
 // The flaw of a number that is declared for the message of this full name.
-pub fn flaw_of_number(s: &[u8], message: &[u8], d: Declaration, index: usize) -> Reason
+#[tactic(auto, using(crate::proofs::FlawLaws::number_flaw_laws))]
+pub fn flaw_of_number(s: &[u8], message: &[u8], d: Declaration, index: usize) -> Option<Reason>
     requires { DeclaredLies s.now d }
     ensures { result ≡ number_flaw s.now index (number_for message.now d) }
 {
@@ -50,27 +53,27 @@ pub fn flaw_of_number(s: &[u8], message: &[u8], d: Declaration, index: usize) ->
         whole: false,
     };
     if numbered(s, message, s, like) != 1 {
-        let name = d.name;
-        return Reason::No {
+        return Some(Reason {
             why: Why::NumberShared,
             index: index,
-            about: name,
-        };
+            about: d.name,
+        });
     }
     or_no(path_named(s, d), Why::TypeUnclear, index, d.shape.path)
 }
 
 // The flaw of what bears this full name, its numbers aside.
-pub fn own_flaw(s: &[u8], bearer: Bearer, name: &[u8], index: usize) -> Reason
+#[tactic(auto, using(crate::proofs::FlawLaws::own_flaw_laws))]
+pub fn own_flaw(s: &[u8], bearer: Bearer, name: &[u8], index: usize) -> Option<Reason>
     requires { BearerLies s.now bearer }
     ensures { result ≡ own_flaw s.now name.now index bearer }
 {
     if bearers(s, name, ANY_KIND) != 1 {
-        return Reason::No {
+        return Some(Reason {
             why: Why::NameShared,
             index: index,
             about: Span { from: 0, to: 0 },
-        };
+        });
     }
     match bearer {
         Bearer::Message(body) => flaw_of_members(s, body, table::FIELD, Why::FieldShared, index),

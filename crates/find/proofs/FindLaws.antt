@@ -26,7 +26,6 @@ use Rattle.find.specs.Find.{name_span, name_span_for}
 use Rattle.find.specs.inner.Small.{word_bound, SmallSpan, Small}
 use Rattle.find.proofs.FindingLaws.{finding-tested, words-tested}
 use Rattle.sheetform.proofs.SheetLaws.{fine-length}
-use Rattle.field.specs.Leaf.{span}
 use Rattle.reply.specs.Verdicts.{Verdict, fine}
 
 -- ---- what was found

@@ -7,13 +7,14 @@ ghost use Rattle.field.specs.Part.{PartOf};
 ghost use Rattle.find.specs.Find.{finding, finding_tested, words_of, find_words, find_tested, name_span, name_span_for};
 ghost use Rattle.find.specs.inner.Small.{SmallSpan, Small};
 
-use field::part::{none_of, span_in};
 use field::Span;
-use reply::Answer;
+use field::part::{none_of, span_in};
+use reply::{Answer, Refusal};
 use search::extension::Found;
 
 // The extension, or why there is none: that the sheet is too long, the first fault of the scope and the path, or that no scope declares it.
 // The form of the sheet was tested before.
+#[tactic(auto, using(crate::proofs::FindingLaws::finding_laws))]
 fn finding_tested(sheet: &[u8], scope: &[u8], path: &[u8]) -> Result<Found, Refusal>
     ensures { result ≡ finding_tested sheet.now scope.now path.now }
 {
@@ -40,6 +41,7 @@ fn size(p: Span) -> u32
 }
 
 // The ten words of an extension, where there is room for them.
+#[tactic(auto, using(crate::proofs::FindLaws::put_found_laws))]
 fn put_found(found: Found, out: &mut [u32]) -> Answer
     requires { Small found }
     ensures { Answered (give (words_of found)) out.old out.new result }
@@ -60,6 +62,7 @@ fn put_found(found: Found, out: &mut [u32]) -> Answer
 }
 
 // As `find`, of a sheet whose form was tested before, for whoever asks many times of one sheet: of that its length alone is tested here.
+#[tactic(auto, using(crate::proofs::FindLaws::find_tested_laws))]
 pub fn find_tested(sheet: &[u8], scope: &[u8], path: &[u8], out: &mut [u32]) -> Answer
     ensures { Answered (find_tested sheet.now scope.now path.now)
         out.old out.new result }
@@ -71,6 +74,7 @@ pub fn find_tested(sheet: &[u8], scope: &[u8], path: &[u8], out: &mut [u32]) -> 
 }
 
 // File index, place and length of the name, place and length of the extendee, number, type, label, place and length of the type path.
+#[tactic(auto, using(crate::proofs::FindLaws::find_laws))]
 pub fn find(sheet: &[u8], scope: &[u8], path: &[u8], out: &mut [u32]) -> Answer
     ensures { Answered (find_words sheet.now scope.now path.now)
         out.old out.new result }
@@ -82,6 +86,7 @@ pub fn find(sheet: &[u8], scope: &[u8], path: &[u8], out: &mut [u32]) -> Answer
 }
 
 // The found extension's name, as the sheet's own bytes; no bytes where there is none.
+#[tactic(auto, using(crate::proofs::FindLaws::name_in_laws))]
 fn name_in<'s, 'r>(sheet: &'s [u8], scope: &'r [u8], path: &'r [u8]) -> &'s [u8]
     ensures { PartOf (name_span (finding sheet.now scope.now path.now))
         sheet.now sheet.entry.ref_ptr.0 sheet.entry.ref_ptr.1 result.now result.ref_ptr.0 result.ref_ptr.1 }
@@ -92,18 +97,26 @@ fn name_in<'s, 'r>(sheet: &'s [u8], scope: &'r [u8], path: &'r [u8]) -> &'s [u8]
     let Ok(found) = finding_tested(sheet, scope, path) else {
         return none_of(sheet);
     };
-    let from = found.declaration.name.from;
-    let to = found.declaration.name.to;
-    &sheet[from..to]
+    let name = found.declaration.name;
+    &sheet[name.from..name.to]
 }
 
 // The name of the extension that a path of the request finds in a scope of the request, as the sheet's own bytes; no bytes where `find`
 // refuses, or a span is none of the request.
+#[tactic(auto, using(crate::proofs::FindLaws::found_name_laws))]
 pub fn found_name<'s, 'r>(sheet: &'s [u8], request: &'r [u8], scope: Span, path: Span) -> &'s [u8]
     ensures { PartOf (name_span_for sheet.now request.now scope path)
         sheet.now sheet.entry.ref_ptr.0 sheet.entry.ref_ptr.1 result.now result.ref_ptr.0 result.ref_ptr.1 }
 {
-    let Some(place) = span_in(request, scope) else { return none_of(sheet); };
-    let Some(held) = span_in(request, path) else { return none_of(sheet); };
-    name_in(sheet, &request[place.from..place.to], &request[held.from..held.to])
+    let Some(scope) = span_in(request, scope) else {
+        return none_of(sheet);
+    };
+    let Some(path) = span_in(request, path) else {
+        return none_of(sheet);
+    };
+    name_in(
+        sheet,
+        &request[scope.from..scope.to],
+        &request[path.from..path.to],
+    )
 }

@@ -14,12 +14,11 @@ use Rattle.basis.proofs.Never.{never}
 use Rattle.limits.specs.Figures.{most_options}
 use Rattle.octets.specs.inner.Laid.{Laid}
 use Rattle.octets.proofs.Overlay.{laid-append, laid-length}
-use Rattle.field.specs.Field.{field_at, field}
+use Rattle.field.specs.Field.{field_at}
 use Rattle.field.specs.Leaf.{text}
 use Rattle.field.proofs.FieldLaws.{field-ordered, field_place_laws}
 use Rattle.request.specs.Request.{RequestOption}
 use Rattle.records.specs.Records.{Recs, nil, append, encode}
-use Rattle.records.specs.Made.{made}
 use Rattle.records.specs.inner.Emits.{bytes_most, Emits, Roomy}
 use Rattle.records.proofs.RecsLaws.{append-nil-right, encode-append}
 use Rattle.lookups.specs.Lookups.{Lookups}

@@ -29,7 +29,7 @@ use Rattle.options.specs.inner.Settling.{Started}
 use Rattle.options.specs.Options.{Gathered, gathered, stopped}
 use Rattle.options.specs.inner.Gathering.{gathered_by, made_at, knowns_of, FineFrom, Gathers, gives, stops}
 use Rattle.options.specs.Steps.{Steps, absent, refused, steps_in, steps_of, resolving_by, resolving_tested}
-use Rattle.options.specs.inner.Measuring.{Open, Opens, at, none, lost, rest_of, Counted, Tallies, Measures, fine, refuses}
+use Rattle.options.specs.inner.Measuring.{Open, Opens, at, none, lost, rest_of, Counted, Tallies, Measures, fine as measured, refuses}
 use Rattle.options.specs.inner.Measuring as measuring
 use Rattle.options.specs.declared.measure.Measured.{Measured}
 use Rattle.reply.specs.Verdicts.{Verdict, fine}
@@ -127,7 +127,7 @@ module _ (s r ns : List ℕ) (h : Start) (y : Settling) (u : Tallies s r ns h y)
 
       pub tallied-fine : FineFrom r h
           → Measures s r (steps_in (gathered_by (walking s) s r h)) ns (Ok (Some (record { start = h; count = n; length = p + o })))
-      tallied-fine b = fine (record { counted = tallied-counted; started = g; fine = b; length-is = sum_is })
+      tallied-fine b = measured (record { counted = tallied-counted; started = g; fine = b; length-is = sum_is })
 
 pub ruleset measure_from_laws = (tallied-refused, tallied-counted, tallied-sum, tallied-length, tallied-fine)
 

@@ -9,7 +9,7 @@ use Rattle.limits.specs.Figures.{most_request}
 use Rattle.reply.specs.declared.Refusal.{Refusal}
 use Rattle.reply.specs.declared.Refusal.TheVariants.{BadRequest, BeyondLimit}
 use Rattle.reply.proofs.VerdictLaws.{refused-fine}
-use Rattle.field.specs.Field.{field_at, field}
+use Rattle.field.specs.Field.{field_at}
 use Rattle.field.specs.Leaf.{text}
 use Rattle.field.specs.Walk.{walk}
 use Rattle.field.proofs.WalkLaws.{walk-done, walk-cut, walk_step}
@@ -43,13 +43,13 @@ fine-short r f = elim (dec_lt most_request (length r)) [
 ]
 
 -- where something stands behind the heading of a fine request, that is an option
-pub record Some (os : List RequestOption) : Type 0 where
+pub record SomeOption (os : List RequestOption) : Type 0 where
   pub first : RequestOption
   pub rest : List RequestOption
   pub is : os ≡ first ∷ rest
 
 module _ (r : List ℕ) (i : ℕ) (f : each_from BadRequest (judge_option r) 0 (walk r i (length r)) ≡ fine) (h : i < length r) where
-  some_at : (v : Option Field) → v ≡ field_at r i (length r) → Some (options_in r (walk r i (length r)))
+  some_at : (v : Option Field) → v ≡ field_at r i (length r) → SomeOption (options_in r (walk r i (length r)))
   unfolding option_in
   some_at None q =
       absurd (refused-fine BadRequest (sym (ap (each_from BadRequest (judge_option r) 0) (walk-cut r i (length r) h None q refl)) ∙ f))

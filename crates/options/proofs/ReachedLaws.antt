@@ -7,12 +7,12 @@ use Rattle.std.specs.Prelude.{◌≡◌, refl, List, [], ◌∷◌, ℕ, zero, s
 use Rattle.basis.specs.Kit.{sym, ap, ◌∙◌}
 use Rattle.basis.proofs.Kit.{arith, add-one, w64, Fits}
 use lib.ListN.{get_elem?}
-use Rattle.basis.specs.First.{told}
 use Rattle.basis.proofs.Never.{never}
+use mathlib.Core.Option as option
 use Rattle.limits.specs.Figures.{most_options}
 use Rattle.reply.specs.declared.Refusal.TheVariants.{BadRequest}
 use Rattle.reply.proofs.VerdictLaws.{refused-fine}
-use Rattle.field.specs.Field.{field_at, field}
+use Rattle.field.specs.Field.{field_at}
 use Rattle.field.specs.Walk.{walk}
 use Rattle.field.proofs.FieldLaws.{field-bounds}
 use Rattle.field.proofs.WalkLaws.{walk-done, walk-cut, walk_step}
@@ -26,7 +26,7 @@ use Rattle.requestform.proofs.FineLaws.{fine-option-at, fine-option-next}
 use Rattle.lookups.specs.Lookups.{Lookups}
 use Rattle.options.specs.declared.settle.Start.{Start}
 use Rattle.options.specs.inner.Settling.{settled_at, set_recs}
-use Rattle.options.specs.inner.Gathering.{options_of, set_by, made_at, FineFrom}
+use Rattle.options.specs.inner.Gathering.{options_of, set_where, made_at, FineFrom}
 use Rattle.field.specs.declared.Field.{Field}
 use Rattle.reply.specs.Verdicts.{fine}
 
@@ -39,7 +39,7 @@ pub record Reached (r : List ℕ) (h : Start) (n i : ℕ) : Type 0 where
 
 -- ---- what a list has at a place, and what is left behind it
 module _ {A : Type 0} (x : A) (rest : List A) where
-  drop_here : (n : ℕ) (xs : List A) → drop n xs ≡ x ∷ rest → get_elem? xs n ≡ Some x
+  drop_here : (n : ℕ) (xs : List A) → drop n xs ≡ x ∷ rest → get_elem? xs n ≡ option.some x
   drop_here zero [] e = never cc
   drop_here zero (y ∷ xs) e = cc
   drop_here (suc n) [] e = never cc
@@ -93,7 +93,7 @@ module _ (r : List ℕ) (h : Start) (n i : ℕ) (u : Reached r h n i) where
       pub reached-made : (L : Lookups) (s : List ℕ) → made_at L s r h n ≡ set_recs (settled_at L s r h here.from here.to)
       unfolding made_at settled_at
       reached-made L s =
-          ap (told _ (set_by L s r h)) (drop_here (option_of r here.from here.to) (options_in r (walk r here.to (length r))) n (options_of r h) options-here)
+          ap (set_where L s r h) (drop_here (option_of r here.from here.to) (options_in r (walk r here.to (length r))) n (options_of r h) options-here)
 
       pub reached-next : Reached r h (n + 1) here.to
       reached-next =

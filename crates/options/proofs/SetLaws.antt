@@ -4,13 +4,13 @@ use Rattle.std.specs.Prelude.{◌≡◌, refl, List, ℕ, ◌-◌, ◌≤◌, le
 use Rattle.basis.proofs.Kit.{arith}
 use Rattle.basis.specs.First.{told}
 use Rattle.limits.specs.Figures.{most_constants}
-use Rattle.field.specs.Field.{field_at}
+use Rattle.field.specs.Field.{field_at, field}
 use Rattle.field.specs.Leaf.{text}
 use Rattle.field.specs.Walk.{walk}
 use Rattle.field.proofs.FieldLaws.{field-bounds}
 use Rattle.request.specs.declared.name.Part.{Part}
 use Rattle.request.specs.Name.{parts_in, after_parts}
-use Rattle.request.specs.Tree.{Constants, None as no_constant, unnamed, constant_in}
+use Rattle.request.specs.Tree.{Constants, none as no_constant, unnamed, constant_in}
 use Rattle.request.specs.Request.{constant_of_field, option_of}
 use Rattle.request.proofs.RequestLaws.{after-from}
 use Rattle.optionform.specs.inner.Parts.{OptionParts}
@@ -52,7 +52,7 @@ module _ (L : Lookups) (s r : List ℕ) (h : Start) (a e : ℕ) (o : a ≤ e) (k
   part-few p =
       let x = after_parts a (walk r a e) in
       let f = k.follows in
-      let b = field-bounds r x e (field_at r x e) refl f.tag f.from f.to f.whole in
+      let b = field-bounds r x e (field_at r x e) refl (field f.tag f.from f.to) f.whole in
       let c = constant_in most_constants r unnamed f.tag f.from f.to no_constant in
       let v = builtin_of L s r (message_of r h) (text r p.name) c in
       let few = built-few L s r (message_of r h) (text r p.name) f.tag f.from f.to v refl in

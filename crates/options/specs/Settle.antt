@@ -9,7 +9,7 @@ use Rattle.std.specs.Prelude.{List, [], ◌∷◌, ℕ, Option, None, Some}
 use Rattle.basis.specs.First.{only_if, told}
 use Rattle.field.specs.Leaf.{text}
 use Rattle.request.specs.declared.name.Part.{Part}
-use Rattle.request.specs.Request as tree
+use Rattle.request.specs.Request.{RequestOption}
 use Rattle.records.specs.Records.{Recs, nil, record_of}
 use Rattle.records.specs.Made.{Made, made, wrong}
 use Rattle.lookups.specs.Lookups.{Lookups, Message}
@@ -44,7 +44,7 @@ builtin_part (p ∷ q ∷ ps) = None
 
 module _ (L : Lookups) (s r scope : List ℕ) (m : Message) where
   -- "Other names resolve the first part in the options message" [STEP-5]
-  unfoldable pub settle : tree.Option → Settled
+  unfoldable pub settle : RequestOption → Settled
   settle o =
       told (settled (option_from L s r scope 0 m o.parts o.constant))
       (λ p. settled_built r (builtin_of L s r m (text r p.name) o.constant)) (builtin_part o.parts)

@@ -19,6 +19,7 @@ use steps::{Reach, reach_of};
 use values::put_value;
 
 // The constant at a place, which an option ends with, on a field of that shape; its refusal is one of this part.
+#[tactic(auto, using(crate::proofs::settle::PutLaws::constant_laws))]
 fn put_constant(
     sheet: &[u8],
     request: &[u8],
@@ -36,8 +37,20 @@ fn put_constant(
         (at_part part (constant_made (walking sheet.now) sheet.now request.now shape from to))
         (bytes_most (to - from)) out.old at out.new result }
 {
-    let Some(field) = field_at(request, from, to) else { return Ok(at); };
-    let wrote = put_value(sheet, request, shape, field.tag, field.from, field.to, MOST_CONSTANTS, out, at);
+    let Some(field) = field_at(request, from, to) else {
+        return Ok(at);
+    };
+    let wrote = put_value(
+        sheet,
+        request,
+        shape,
+        field.tag,
+        field.from,
+        field.to,
+        MOST_CONSTANTS,
+        out,
+        at,
+    );
     on_last(part, wrote)
 }
 
@@ -63,12 +76,9 @@ fn put_inside(
         out.old at out.new result }
 {
     let start = at + shortest_head(number);
-    let stepped = put_option(
+    let end = put_option(
         sheet, request, scope, message, place, from, to, part, out, start,
-    );
-    let Ok(end) = stepped else {
-        return stepped;
-    };
+    )?;
     Ok(enclose(out, at, number, end - start))
 }
 

@@ -27,11 +27,14 @@ pub struct Measured {
 }
 
 // What the options of a fine request start with.
+#[tactic(auto, using(crate::proofs::OpenLaws::open_laws))]
 fn open(sheet: &[u8], request: &[u8]) -> Result<Option<Start>, Cause>
     requires { judge_request request.now ≡ fine }
     ensures { Opens sheet.now request.now result }
 {
-    let Some(heading) = heading_of(request) else { return Ok(None); };
+    let Some(heading) = heading_of(request) else {
+        return Ok(None);
+    };
     if request.len() <= heading.options {
         return Ok(None);
     }
@@ -51,6 +54,7 @@ fn open(sheet: &[u8], request: &[u8]) -> Result<Option<Start>, Cause>
 }
 
 // What the options come to, and how many bytes the others have: they are gathered in no room to speak of.
+#[tactic(auto, using(crate::proofs::MeasureLaws::gather_length_laws))]
 fn gather_length(sheet: &[u8], request: &[u8], start: Start, notes: &mut [usize]) -> Settling
     requires started { Started sheet.now request.now start }
     requires fine_from { FineFrom request.now start }
@@ -62,6 +66,7 @@ fn gather_length(sheet: &[u8], request: &[u8], start: Start, notes: &mut [usize]
 }
 
 // How many bytes the known builtins have, likewise.
+#[tactic(auto, using(crate::proofs::MeasureLaws::known_length_laws))]
 fn known_length(sheet: &[u8], request: &[u8], start: Start, notes: &[usize], count: usize) -> usize
     requires counted { Counted sheet.now request.now notes.now start count }
     requires started { Started sheet.now request.now start }
@@ -75,7 +80,13 @@ fn known_length(sheet: &[u8], request: &[u8], start: Start, notes: &[usize], cou
 }
 
 // The options measured.
-fn measure_from(sheet: &[u8], request: &[u8], start: Start, notes: &mut [usize]) -> Result<Option<Measured>, Cause>
+#[tactic(auto, using(crate::proofs::MeasureLaws::measure_from_laws))]
+fn measure_from(
+    sheet: &[u8],
+    request: &[u8],
+    start: Start,
+    notes: &mut [usize],
+) -> Result<Option<Measured>, Cause>
     requires started { Started sheet.now request.now start }
     requires fine_from { FineFrom request.now start }
     requires most_options_in_bounds { most_options ≤ length notes.old }
@@ -99,21 +110,26 @@ fn measure_from(sheet: &[u8], request: &[u8], start: Start, notes: &mut [usize])
 }
 
 // The verdict on a fine request.
+#[tactic(auto, using(crate::proofs::MeasureLaws::measure_all_laws))]
 fn measure_all(sheet: &[u8], request: &[u8], notes: &mut [usize]) -> Result<Option<Measured>, Cause>
     requires request_value { judge_request request.now ≡ fine }
     requires most_options_in_bounds { most_options ≤ length notes.old }
     ensures { Measures sheet.now request.now
         (steps_of (walking sheet.now) sheet.now request.now) notes.new result }
 {
-    match open(sheet, request) {
-        Ok(None) => Ok(None),
-        Err(cause) => Err(cause),
-        Ok(Some(start)) => measure_from(sheet, request, start, notes),
-    }
+    let Some(start) = open(sheet, request)? else {
+        return Ok(None);
+    };
+    measure_from(sheet, request, start, notes)
 }
 
 // The verdict on a request under a sheet whose form was tested before: of that its length alone is tested here.
-pub fn measure_tested(sheet: &[u8], request: &[u8], notes: &mut [usize]) -> Result<Option<Measured>, Cause>
+#[tactic(auto, using(crate::proofs::MeasureLaws::measure_tested_laws))]
+pub fn measure_tested(
+    sheet: &[u8],
+    request: &[u8],
+    notes: &mut [usize],
+) -> Result<Option<Measured>, Cause>
     requires { most_options ≤ length notes.old }
     ensures { Measures sheet.now request.now (resolving_tested sheet.now request.now)
         notes.new result }
@@ -128,6 +144,7 @@ pub fn measure_tested(sheet: &[u8], request: &[u8], notes: &mut [usize]) -> Resu
 }
 
 // The records of what was measured: the known builtins first, then the others in order of writing.
+#[tactic(auto, using(crate::proofs::PutLaws::put_records_laws))]
 pub fn put_records(
     sheet: &[u8],
     request: &[u8],

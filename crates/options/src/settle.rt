@@ -42,6 +42,7 @@ pub enum Settling {
 }
 
 // The part that is the whole name of a builtin: a single direct one.
+#[tactic(auto, using(crate::proofs::settle::BuiltinPartLaws::builtin_part_laws))]
 fn builtin_part(request: &[u8], from: usize, to: usize) -> Option<Part>
     requires { (from ≤ to) × (to ≤ length request.now) }
     ensures { result ≡ parted (builtin_part (parts_in (walk request.now from to))) }
@@ -50,13 +51,14 @@ fn builtin_part(request: &[u8], from: usize, to: usize) -> Option<Part>
     if part.extension {
         return None;
     }
-    if let Some(_) = part_at(request, part.name.to, to) {
+    if part_at(request, part.name.to, to).is_some() {
         return None;
     }
     Some(part)
 }
 
 // What the constant behind a part comes to on the builtin of its name.
+#[tactic(auto, using(crate::proofs::settle::BuiltinPartLaws::built_at_laws))]
 fn built_at(sheet: &[u8], request: &[u8], start: Start, part: Part, to: usize) -> Built
     requires started { Started sheet.now request.now start }
     requires lies { Lies part.name request.now }
@@ -67,7 +69,9 @@ fn built_at(sheet: &[u8], request: &[u8], start: Start, part: Part, to: usize) -
         (constant_at request.now part.name.to to) }
     ensures inside { InBuilt result request.now }
 {
-    let Some(field) = field_at(request, part.name.to, to) else { return Built::Skipped; };
+    let Some(field) = field_at(request, part.name.to, to) else {
+        return Built::Skipped;
+    };
     let name = start.options_type.from;
     let end = start.options_type.to;
     builtin_of(
@@ -83,6 +87,7 @@ fn built_at(sheet: &[u8], request: &[u8], start: Start, part: Part, to: usize) -
 }
 
 // What is answered of a builtin: nothing is written yet.
+#[tactic(auto, using(crate::proofs::settle::SettleLaws::settled_built_laws))]
 fn settled_built(built: Built, option: usize, at: usize) -> Settling
     requires { option ≤ most_options }
     ensures { result ≡ settling_of option (note_in (settled_built [] built)) at (others_of (settled_built [] built)) }
@@ -98,6 +103,7 @@ fn settled_built(built: Built, option: usize, at: usize) -> Settling
 }
 
 // The steps of an option that is no builtin, and what they write.
+#[tactic(auto, using(crate::proofs::settle::SettleLaws::settle_named_laws))]
 fn settle_named(
     sheet: &[u8],
     request: &[u8],
@@ -138,6 +144,7 @@ fn settle_named(
 }
 
 // What the option from..to comes to, the one at that position, and what it writes: of a builtin nothing yet.
+#[tactic(auto, using(crate::proofs::settle::SettleLaws::settle_laws))]
 pub fn settle(
     sheet: &[u8],
     request: &[u8],
@@ -154,11 +161,14 @@ pub fn settle(
         (others_of (settled_at (walking sheet.now) sheet.now request.now start from to)) (bytes_most (to - from))
         out.old at out.new result }
 {
-    let Some(part) = builtin_part(request, from, to) else { return settle_named(sheet, request, start, option, from, to, out, at); };
+    let Some(part) = builtin_part(request, from, to) else {
+        return settle_named(sheet, request, start, option, from, to, out, at);
+    };
     settled_built(built_at(sheet, request, start, part, to), option, at)
 }
 
 // The record of the builtin that the option from..to sets; of any other option nothing.
+#[tactic(auto, using(crate::proofs::settle::SettleLaws::put_set_laws))]
 pub fn put_set(
     sheet: &[u8],
     request: &[u8],
@@ -176,6 +186,8 @@ pub fn put_set(
         (encode (set_recs (settled_at (walking sheet.now) sheet.now request.now start from to)))
         out.new result }
 {
-    let Some(part) = builtin_part(request, from, to) else { return at; };
+    let Some(part) = builtin_part(request, from, to) else {
+        return at;
+    };
     put_builtin(request, built_at(sheet, request, start, part, to), out, at)
 }

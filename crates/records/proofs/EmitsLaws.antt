@@ -1,6 +1,7 @@
 -- What a writer of records answers and leaves: one set of laws for every enum that a writer answers.
 -- Assumes nothing.
-use Rattle.std.specs.Prelude.{◌≡◌, refl, List, ℕ, ◌+◌, ◌≤◌, length, Err, Ok}
+use Rattle.std.specs.Prelude.{◌≡◌, refl, List, ℕ, ◌+◌, ◌≤◌, length, Err, Ok, Result}
+use Rattle.std.specs.Result.{IsErrAnd}
 use Rattle.basis.specs.Kit.{sym, ap, ◌∙◌}
 use Rattle.basis.proofs.Kit.{arith}
 use native.Mathlib.Nat.{add-zero, le_trans}
@@ -69,6 +70,12 @@ module _ {W A : Type 0} {answers : ℕ → Made W → A} {next : ℕ → A} {sto
 pub emits-more : {W A : Type 0} {answers : ℕ → Made W → A} {m : Made W} {j : ℕ} {l : List ℕ} {at : ℕ} {l' : List ℕ} {y : A} (k : ℕ)
     → Emits answers m k l at l' y → k ≤ j → Emits answers m j l at l' y
 emits-more k u h = record { answer = u.answer; left = u.left; few = λ x g. le_trans (u.few x g) h }
+
+-- what `?` hands on
+pub hands-on : {W E : Type 0} {answers : ℕ → Made W → Result ℕ E} {m : Made W} {k : ℕ} {l : List ℕ} {at : ℕ} {l' : List ℕ} {y : Result ℕ E}
+    {w : E} → IsErrAnd y (λ e. e ≡ w) → Emits answers m k l at l' (Err w) → Emits answers m k l at l' y
+hands-on {y = Ok x} h u = elim h [ ]
+hands-on {y = Err e} h u = rw h u
 
 -- a search over these wants the `Tells` of the writer's enum in its list too
 pub ruleset emits_laws = (emits-next, emits-refused, refuses, emits-laid, writes-none, emits-more)

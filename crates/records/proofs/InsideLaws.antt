@@ -25,8 +25,8 @@ message-laid n at k x size l m l' r laid closed = rw (append-nil, ← size) (rec
 
 module _ {W A : Type 0} {answers : ℕ → Made W → A} {next : ℕ → A} {stop : W → A} (T : Tells answers next stop) where
   module _ (n : ℕ) (b : Made W) (i j : ℕ) (l m : List ℕ) (at s : ℕ) (y : A) (u : Emits answers b i l s m y) where
-    pub inside-refused : (w : W) → y ≡ stop w → Emits answers (holding n b) j l at m y
-    inside-refused w g = refuses T w (ap (holding n) (emits-refused T b w u g)) g
+    pub inside-refused : (w : W) → y ≡ stop w → (z : A) → z ≡ stop w → Emits answers (holding n b) j l at m z
+    inside-refused w g z e = refuses T w (ap (holding n) (emits-refused T b w u g)) e
 
   module _ (n : ℕ) (b : Made W) (j : ℕ) (l m : List ℕ) (at f : ℕ) (y : A) (u : Emits answers b (bytes_most j) l (at + f) m y) (p : ℕ)
       (g : y ≡ next p) where

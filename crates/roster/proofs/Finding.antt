@@ -16,7 +16,7 @@
 --    finding-next  where it stands further on, the loop goes on from the field's end
 --
 -- Assumes nothing.
-use Rattle.std.specs.Prelude.{◌≡◌, refl, List, [], ◌++◌, ℕ, ◌≤◌, ◌<◌, length, take, None, Some, Option}
+use Rattle.std.specs.Prelude.{◌≡◌, refl, List, [], ◌++◌, ℕ, ◌≤◌, ◌<◌, length, take, None, Some, Option, Result, Ok, Err}
 use Rattle.basis.specs.Kit.{sym, ◌∙◌}
 use Rattle.basis.proofs.Kit.{arith}
 use mathlib.Core.List.{append_assoc, append-nil}
@@ -26,9 +26,7 @@ use Rattle.field.specs.Walk.{Walk, done, cut, step, walk}
 use Rattle.field.proofs.FieldLaws.{field-bounds}
 use Rattle.field.proofs.Rest.{Rest, rest-start, rest_end, rest-cut, rest-step, rest-next}
 use Rattle.names.specs.Names.{Named}
-use Rattle.roster.specs.declared.Bearer.{Bearer}
 use Rattle.roster.specs.declared.Nth.{Nth}
-use Rattle.roster.specs.declared.Nth.TheVariants.{Is, Beyond}
 use Rattle.roster.specs.inner.Nth.{nth, name_or, Finds}
 use Rattle.roster.proofs.NthLaws.{nth_past, nth-found, name-past, name-none, name-found, take-front}
 use Rattle.field.specs.declared.Field.{Field}
@@ -44,7 +42,7 @@ behind passed f w = passed ++ in_turn f w
 pub record Finding (f : (tag from to : ℕ) → List Named) (s : List ℕ) (from to i at : ℕ) (before room : List ℕ) (k p : ℕ) : Type 0 where
   pub passed : List Named
   pub left : Rest (in_turn f (walk s from to)) (behind passed f) s to p
-  pub beyond : nth passed i ≡ Beyond k
+  pub beyond : nth passed i ≡ Err k
   pub kept : take at room ≡ take at before
   pub sized : length room ≡ length before
   pub ahead : at ≤ p
@@ -63,7 +61,7 @@ module _ (f : ℕ → ℕ → ℕ → List Named) (s : List ℕ) (from to i at :
   }
 
   module _ (room : List ℕ) (k p : ℕ) (x : Finding f s from to i at before room k p) where
-    none_left : in_turn f (walk s from to) ≡ behind x.passed f done → Finds (in_turn f (walk s from to)) i at before room (Beyond k)
+    none_left : in_turn f (walk s from to) ≡ behind x.passed f done → Finds (in_turn f (walk s from to)) i at before room (Err k)
     none_left e =
         let u : in_turn f (walk s from to) ≡ x.passed = e ∙ append-nil x.passed in
         rw u (record {
@@ -75,35 +73,35 @@ module _ (f : ℕ → ℕ → ℕ → List Named) (s : List ℕ) (from to i at :
     pub finding-roomy : length s ≤ length room
     finding-roomy = omega (arith, x.roomy, x.sized)
 
-    pub finding-end : to ≤ p → Finds (in_turn f (walk s from to)) i at before room (Beyond k)
+    pub finding-end : to ≤ p → Finds (in_turn f (walk s from to)) i at before room (Err k)
     finding-end h = none_left (rest_end _ (behind x.passed f) s to p x.left h)
 
     module _ (h : p < to) (r : Option Field) (q : r ≡ field_at s p to) where
-      pub finding-cut : r ≡ None → Finds (in_turn f (walk s from to)) i at before room (Beyond k)
+      pub finding-cut : r ≡ None → Finds (in_turn f (walk s from to)) i at before room (Err k)
       finding-cut g = none_left (rest-cut _ (behind x.passed f) s to p x.left h r q g)
 
       pub finding-ahead : (here : Field) → r ≡ Some here → at ≤ here.from
       finding-ahead here g = let b = field-bounds s p to r q here g in omega (arith, x.ahead, b.starts)
 
-      module _ (here : Field) (g : r ≡ Some here) (after : List ℕ) (y : Nth) (z : Finds (f here.tag here.from here.to) k at room after y) where
-        pub finding-hit : (b : Bearer) (n : ℕ) → y ≡ Is b n → Finds (in_turn f (walk s from to)) i at before after (Is b n)
-        finding-hit b n v =
-            let is : nth (f here.tag here.from here.to) k ≡ Is b n = sym z.is ∙ v in
+      module _ (here : Field) (g : r ≡ Some here) (after : List ℕ) (y : Result Nth ℕ) (z : Finds (f here.tag here.from here.to) k at room after y) where
+        pub finding-hit : (n : Nth) → y ≡ Ok n → Finds (in_turn f (walk s from to)) i at before after (Ok n)
+        finding-hit n v =
+            let is : nth (f here.tag here.from here.to) k ≡ Ok n = sym z.is ∙ v in
             let rest = in_turn f (walk s here.to to) in
             let u = rest-step _ (behind x.passed f) s to p x.left h r q here g in
             let same : name_or (take at before) (x.passed ++ (f here.tag here.from here.to ++ rest)) i ≡ name_or (take at room) (f here.tag here.from here.to) k =
             name-past (take at before) x.passed (f here.tag here.from here.to ++ rest) i k x.beyond
-            ∙ name-found (take at before) (f here.tag here.from here.to) rest k b n is
+            ∙ name-found (take at before) (f here.tag here.from here.to) rest k n is
             ∙ rw x.kept in
             rw u (record {
-              is = sym (nth_past x.passed (f here.tag here.from here.to ++ rest) i k x.beyond ∙ nth-found (f here.tag here.from here.to) rest k b n is);
+              is = sym (nth_past x.passed (f here.tag here.from here.to ++ rest) i k x.beyond ∙ nth-found (f here.tag here.from here.to) rest k n is);
               sized = z.sized ∙ x.sized;
               name = rw same z.name;
             })
 
-        pub finding-next : (j : ℕ) → y ≡ Beyond j → Finding f s from to i at before after j here.to
+        pub finding-next : (j : ℕ) → y ≡ Err j → Finding f s from to i at before after j here.to
         finding-next j v =
-            let beyond : nth (f here.tag here.from here.to) k ≡ Beyond j = sym z.is ∙ v in
+            let beyond : nth (f here.tag here.from here.to) k ≡ Err j = sym z.is ∙ v in
             let b = field-bounds s p to r q here g in
             let l : length (take at room) ≡ at =
             length-take-le at room (omega (arith, x.ahead, x.sized, x.roomy, x.left.within, x.left.inside)) in

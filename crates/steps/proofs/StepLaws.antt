@@ -2,6 +2,7 @@
 -- lies.
 -- Assumes nothing.
 use Rattle.std.specs.Prelude.{◌≡◌, refl, Bool, true, false, List, ℕ, ◌≤◌, length, Option, None, Some, Err, Ok, Result}
+use Rattle.std.specs.Result.{result_ok}
 use Rattle.basis.specs.Kit.{sym, ap, ◌∙◌}
 use Rattle.basis.specs.First.{told}
 use mathlib.Core.Path.{subst}
@@ -85,9 +86,10 @@ module _ (s : List ℕ) where
           lies-found c.found.declaration
           (extension-path-ordered s scope m n (Extends c) q c refl, extension-path-within s scope m n (Extends c) q c refl)
 
-  pub lies-field : (c : LookupScope) → InSheet s c → (n : List ℕ) (v : Option Declaration) → v ≡ declared (field_named s n c) → (d : Declaration)
-      → v ≡ Some d → StepLies s (Ok d)
-  lies-field c l n v q d g = lies-found d (field-path-ordered s c l n v q d g, field-path-within s c l n v q d g)
+  pub lies-field : (c : LookupScope) → InSheet s c → (n : List ℕ) (v : Option Declaration) → v ≡ declared (field_named s n c)
+      → (u : Result Declaration Lack) → v ≡ result_ok u → StepLies s u
+  lies-field c l n v q (Err w) g = lies-lack w
+  lies-field c l n v q (Ok d) g = lies-found d (field-path-ordered s c l n v q d g, field-path-within s c l n v q d g)
 
   module _ (v : Result Declaration Lack) (l : StepLies s v) (d : Declaration) (g : v ≡ Ok d) where
     pub step-path-ordered : d.shape.path.from ≤ d.shape.path.to

@@ -46,6 +46,7 @@ pub enum Reach {
 }
 
 // What an extension part comes to, by what its search comes to.
+#[tactic(auto, using(crate::proofs::StepLaws::searched_laws))]
 fn step_extension(searched: Compared) -> Result<Declaration, Lack>
     ensures { result ≡ step_extension searched }
 {
@@ -60,6 +61,7 @@ fn step_extension(searched: Compared) -> Result<Declaration, Lack>
 }
 
 // What a part comes to in a message: a direct part as a field, an extension part by search from the request's scope.
+#[tactic(auto, using(crate::proofs::StepLaws::step_laws))]
 pub fn step_of(
     sheet: &[u8],
     request: &[u8],
@@ -81,11 +83,11 @@ pub fn step_of(
     if part.extension {
         return step_extension(lookups::extension(sheet, scope, message, &request[from..to]));
     }
-    let Some(field) = lookups::field_named(sheet, place, &request[from..to]) else { return Err(Lack::NoField); };
-    Ok(field)
+    lookups::field_named(sheet, place, &request[from..to]).ok_or(Lack::NoField)
 }
 
 // What parts left on a field of that shape lead to.
+#[tactic(auto, using(crate::proofs::ReachLaws::left_laws))]
 fn left_on(sheet: &[u8], shape: Shape, from: usize) -> Reach
     requires { Lies shape.path sheet.now }
     ensures { result ≡ left_on (walking sheet.now) sheet.now shape from }
@@ -108,19 +110,23 @@ fn left_on(sheet: &[u8], shape: Shape, from: usize) -> Reach
 }
 
 // What a declaration of that shape leads to, whose part ends at `from`: to more parts or to the constant.
+#[tactic(auto, using(crate::proofs::ReachLaws::behind_laws))]
 pub fn behind(sheet: &[u8], request: &[u8], shape: Shape, from: usize, to: usize) -> Reach
     requires from_le_to { (from ≤ to) × (to ≤ length request.now) }
     requires lies { Lies shape.path sheet.now }
     ensures { result ≡ behind_of (walking sheet.now) sheet.now request.now shape from to }
 {
-    let Some(_) = part_at(request, from, to) else { return Reach::Constant {
+    if part_at(request, from, to).is_none() {
+        return Reach::Constant {
             shape: shape,
             from: from,
-        }; };
+        };
+    }
     left_on(sheet, shape, from)
 }
 
 // The refusal of a part that comes to nothing.
+#[tactic(auto, using(crate::proofs::ReachLaws::why_laws))]
 pub fn why_of(lack: Lack) -> Refusal
     ensures { result ≡ why_of lack }
 {
@@ -132,7 +138,14 @@ pub fn why_of(lack: Lack) -> Refusal
 }
 
 // What a part that came to `step` and ends at `from` leads to.
-fn led(sheet: &[u8], request: &[u8], step: Result<Declaration, Lack>, from: usize, to: usize) -> Reach
+#[tactic(auto, using(crate::proofs::ReachLaws::led_laws))]
+fn led(
+    sheet: &[u8],
+    request: &[u8],
+    step: Result<Declaration, Lack>,
+    from: usize,
+    to: usize,
+) -> Reach
     requires from_le_to { (from ≤ to) × (to ≤ length request.now) }
     requires step_lies { StepLies sheet.now step }
     ensures { result ≡ stepped (walking sheet.now) sheet.now request.now from to step }
@@ -147,6 +160,7 @@ fn led(sheet: &[u8], request: &[u8], step: Result<Declaration, Lack>, from: usiz
 }
 
 // What the part at a place leads to in a message.
+#[tactic(auto, using(crate::proofs::ReachLaws::reach_laws))]
 pub fn reach_of(
     sheet: &[u8],
     request: &[u8],
@@ -164,7 +178,9 @@ pub fn reach_of(
         (message_of message.now place) from to }
     ensures lies { Led sheet.now request.now from to result }
 {
-    let Some(part) = part_at(request, from, to) else { return Reach::Nothing; };
+    let Some(part) = part_at(request, from, to) else {
+        return Reach::Nothing;
+    };
     let step = step_of(sheet, request, scope, message, place, part);
     led(sheet, request, step, part.name.to, to)
 }

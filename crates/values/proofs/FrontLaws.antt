@@ -61,11 +61,11 @@ module _ (v : Made Refusal) (F : Walk → Made Refusal) (s : List ℕ) (from to 
 
     module _ (x : Made Refusal) (m' : List ℕ) (y : Result ℕ Refusal) (u : Emits wrote_of x (bytes_most (3 + n)) m p m' y)
         (first : v ≡ after k.front (both x (F (walk s e to)))) where
-      pub front-refused : (w : Refusal) → y ≡ Err w → Emits wrote_of v (bytes_most (to - from)) l at m' y
+      pub front-refused : (w : Refusal) → y ≡ Err w → Emits wrote_of v (bytes_most (to - from)) l at m' (Err w)
       front-refused w z =
           let o : v ≡ wrong w =
           first ∙ ap (λ (b : Made Refusal). after k.front (both b (F (walk s e to)))) (emits-refused wrote-tells x w u z) in
-          refuses wrote-tells w o z
+          refuses wrote-tells w o refl
 
       pub front-next : (q : ℕ) → y ≡ Ok q → Front v F s from to e l m' at q
       front-next q z =

@@ -4,7 +4,7 @@ use Rattle.std.specs.Prelude.{◌≡◌, List, ℕ, ◌+◌, ◌-◌, ◌*◌, �
 use Rattle.basis.specs.Kit.{ap, ◌∙◌}
 use Rattle.basis.proofs.Kit.{arith}
 use Rattle.reply.specs.declared.Refusal.{Refusal}
-use Rattle.field.specs.Field.{field_at, field}
+use Rattle.field.specs.Field.{field_at}
 use Rattle.field.specs.Walk.{Walk, step, walk}
 use Rattle.field.proofs.FieldLaws.{field-bounds, field-inside, field_place_laws}
 use Rattle.field.proofs.Rest.{rest_end, rest-cut, rest-step}
@@ -64,7 +64,7 @@ module _ (L : Lookups) (s r : List ℕ) (h : Shape) (d from to : ℕ) where
               rest-step v (λ w. after k.front (list_of L s r h d w)) r to i k.rest j x q f g
               ∙ ap (after k.front) (elements-step f.tag f.from f.to (walk r f.to to))
 
-          pub list-refused : (w : Refusal) → y ≡ Err w → Emits wrote_of v (bytes_most (to - from)) l at m' y
+          pub list-refused : (w : Refusal) → y ≡ Err w → Emits wrote_of v (bytes_most (to - from)) l at m' (Err w)
           list-refused =
               front-refused v (list_of L s r h d) r from to i l m at p k (f.to - f.from) f.to element-size (field-inside r i to x q f g)
               (value_made L s r h d f.tag f.from f.to) m' y u list-first

@@ -6,7 +6,6 @@
 -- Assumes nothing.
 use Rattle.std.specs.Prelude.{◌≡◌, refl, Bool, true, false, List, ℕ, zero, suc, ◌+◌, ◌-◌, ◌*◌, ◌≤◌, ◌<◌, eqb, length, Option, Err, None, Some, Ok, Result}
 use Rattle.basis.specs.Kit.{sym, ap, ◌∙◌}
-use mathlib.Core.Option as option
 use Rattle.basis.proofs.Kit.{arith, eq-eqb, ne_eqb}
 use Rattle.basis.proofs.Never.{never}
 use mathlib.Core.Path.{subst}
@@ -43,7 +42,7 @@ use Rattle.values.specs.inner.Writers.{held_at, held_target, target_of, value_ma
 use Rattle.values.proofs.FrontLaws.{Front, front-start, front_length, front-after, front-whole, front-room, front_less}
 use Rattle.values.proofs.FrontLaws.{front-refused, front-next}
 use Rattle.values.proofs.ValueLaws.{constant-first}
-use Rattle.field.specs.Field.{field}
+use Rattle.field.specs.Field.{field as field_of}
 
 -- ---- target_of
 module _ (s r : List ℕ) (c : LookupScope) (d : ℕ) (x : Pair) (u : Option Constant)
@@ -73,16 +72,16 @@ module _ (s r : List ℕ) (c : LookupScope) (d : ℕ) (x : Pair) (u : Option Con
         where
           go : (y : Option Declaration) → v ≡ declared y
               → Err UnknownFieldName ≡ told (Err UnknownFieldName) (λ (d : Declaration). Ok (Some d.shape)) y
-          go option.none e = refl
-          go (option.some f) e = never cc
+          go None e = refl
+          go (Some f) e = never cc
 
       pub target_is : (f : Declaration) → v ≡ Some f → Ok (Some f.shape) ≡ target_of s r c d x
       target_is f z = go (field_named s (text r x.name) c) e ∙ target-with true (eq-eqb x.by pair_field_tag o)
         where
           go : (y : Option Declaration) → v ≡ declared y
               → Ok (Some f.shape) ≡ told (Err UnknownFieldName) (λ (d : Declaration). Ok (Some d.shape)) y
-          go option.none e = never cc
-          go (option.some f') e = let y : f ≡ f' = cc in rw y
+          go None e = never cc
+          go (Some f') e = let y : f ≡ f' = cc in rw y
 
 pub ruleset target_laws = (target_none, target-other, target-unknown, target_is)
 
@@ -124,8 +123,8 @@ module _ (L : Lookups) (s r : List ℕ) (c : LookupScope) where
             | true ↦ told (Err UnknownFieldName) (λ d. Ok (Some d.shape)) (field_named s (text r x.name) c)
             | false ↦ Ok None
           ]) f
-      go true b' option.none e = rw e
-      go true b' (option.some d) e = rw e
+      go true b' None e = rw e
+      go true b' (Some d) e = rw e
       go false true o e = refl
       go false false o e = refl
 
@@ -183,8 +182,8 @@ module _ (s r : List ℕ) (c : LookupScope) (l : InSheet s c) (x : Pair) where
             | false ↦ Ok None
           ])
       go false o e = tt
-      go true option.none e = rw e tt
-      go true (option.some f) e = rw e (field-named-lies s c l (text r x.name) f e)
+      go true None e = rw e tt
+      go true (Some f) e = rw e (field-named-lies s c l (text r x.name) f e)
 
   module _ (d : ℕ) (v : Result (Option Shape) Refusal) (q : v ≡ target_of s r c d x) (h : Shape) (g : v ≡ Ok (Some h)) where
     target-lies : Lies h.path s
@@ -204,9 +203,10 @@ pair_size : (r : List ℕ) (i to : ℕ) (x : Option Pair) → x ≡ pair_at r i 
     → i + 6 + (z.constant.to - z.constant.from) ≤ z.constant.to
 pair_size r i to x q z g =
     let f = pair-fields r i to x q z g in
-    let a = field-bounds r i to (Some (field z.by z.name.from z.name.to)) f.name z.by z.name.from z.name.to refl in
-    let b = field-bounds r z.name.to to (Some (field z.tag z.constant.from z.constant.to)) f.constant z.tag
-    z.constant.from z.constant.to refl in
+    let a = field-bounds r i to (Some (field_of z.by z.name.from z.name.to)) f.name
+    (field_of z.by z.name.from z.name.to) refl in
+    let b = field-bounds r z.name.to to (Some (field_of z.tag z.constant.from z.constant.to)) f.constant
+    (field_of z.tag z.constant.from z.constant.to) refl in
     omega (arith, a.starts, a.ordered, b.starts, b.ordered)
 
 abbrev pub pairs_of : Lookups → (s r : List ℕ) → LookupScope → (left : ℕ) → Walk → Made Refusal
@@ -280,7 +280,7 @@ module _ (L : Lookups) (s r : List ℕ) (c : LookupScope) (d from to : ℕ) wher
               rest-pair v (λ w. after k.front (pairs_of L s r c d w)) r to i k.rest x q z g
               ∙ ap (after k.front) (pairs-step z (pair-fields r i to x q z g).named (walk r z.constant.to to))
 
-          pub pairs-refused : (w : Refusal) → y ≡ Err w → Emits wrote_of v (bytes_most (to - from)) l at m' y
+          pub pairs-refused : (w : Refusal) → y ≡ Err w → Emits wrote_of v (bytes_most (to - from)) l at m' (Err w)
           pairs-refused =
               front-refused v (pairs_of L s r c d) r from to i l m at p k (z.constant.to - z.constant.from) z.constant.to pair-header
               (pair-constant-inside r i to x q z g) (pair_made L s r c d z) m' y u pairs_first

@@ -18,7 +18,7 @@ use records::{enclose, put_record, shortest_head};
 use reply::Refusal;
 use request::constant::Constant;
 use request::table;
-use scalars::{Scalar, scalar_on};
+use scalars::scalar_on;
 use scope::lookup::LookupScope;
 use sheet::declaration::Shape;
 use types::TYPE_MESSAGE;
@@ -47,6 +47,7 @@ fn kind_of(c: Constant) -> Kind
 }
 
 // The constant of a field, where a level is left for it.
+#[tactic(auto, using(crate::proofs::ValueLaws::held_laws))]
 fn held_at(request: &[u8], left: usize, tag: u8, from: usize, to: usize) -> Option<Constant>
     requires { (from ≤ to) × (to ≤ length request.now) }
     ensures { result ≡ held_at left request.now tag from to }
@@ -58,6 +59,7 @@ fn held_at(request: &[u8], left: usize, tag: u8, from: usize, to: usize) -> Opti
 }
 
 // The record of a scalar constant on a field of that shape.
+#[tactic(auto, using(crate::proofs::ScalarLaws::put_scalar_laws))]
 fn put_scalar(
     sheet: &[u8],
     request: &[u8],
@@ -72,10 +74,8 @@ fn put_scalar(
     ensures { Emits wrote_of (scalar_made (walking sheet.now) sheet.now request.now constant shape)
         (most_scalar constant) out.old at out.new result }
 {
-    match scalar_on(sheet, request, Refusal::UnknownEnumValue, shape, constant) {
-        Err(why) => Err(why),
-        Ok(body) => Ok(put_record(request, shape, body, out, at)),
-    }
+    let body = scalar_on(sheet, request, Refusal::UnknownEnumValue, shape, constant)?;
+    Ok(put_record(request, shape, body, out, at))
 }
 
 // A message constant on a field of that shape.
@@ -100,12 +100,8 @@ fn put_message(
     if octets::wide(shape.typ) != TYPE_MESSAGE {
         return Err(Refusal::MessageFieldRequiresMessageConstant);
     }
-    match lookups::message_at(sheet, shape.path) {
-        Err(why) => Err(why),
-        Ok(scope) => {
-            put_inside(sheet, request, shape.number, scope, from, to, left, out, at)
-        }
-    }
+    let scope = lookups::message_at(sheet, shape.path)?;
+    put_inside(sheet, request, shape.number, scope, from, to, left, out, at)
 }
 
 // The record of a message: its pairs are written behind the shortest head, and then enclosed.
@@ -129,10 +125,7 @@ fn put_inside(
         (bytes_most (3 + (to - from))) out.old at out.new result }
 {
     let start = at + shortest_head(number);
-    let r = put_pairs(sheet, request, scope, from, to, left, out, start);
-    let Ok(end) = r else {
-        return r;
-    };
+    let end = put_pairs(sheet, request, scope, from, to, left, out, start)?;
     Ok(enclose(out, at, number, end - start))
 }
 
@@ -157,39 +150,48 @@ fn put_pairs(
     let mut p = at;
     let mut i = from;
     while i < to {
-        let Some(pair) = pair_at(request, i, to) else { return Ok(p); };
-        let r = put_pair(sheet, request, scope, pair, left, out, p);
-        let Ok(q) = r else {
-            return r;
+        let Some(pair) = pair_at(request, i, to) else {
+            return Ok(p);
         };
-        p = q;
+        p = put_pair(sheet, request, scope, pair, left, out, p)?;
         i = pair.constant.to;
     }
     Ok(p)
 }
 
 // The field that a pair names, where it has a constant.
-fn target_of(sheet: &[u8], request: &[u8], scope: LookupScope, pair: Pair, left: usize) -> Result<Option<Shape>, Refusal>
+#[tactic(auto, using(crate::proofs::PairLaws::target_laws))]
+fn target_of(
+    sheet: &[u8],
+    request: &[u8],
+    scope: LookupScope,
+    pair: Pair,
+    left: usize,
+) -> Result<Option<Shape>, Refusal>
     requires lies { Lies pair.name request.now }
     requires lies_2 { Lies pair.constant request.now }
     requires in_sheet { InSheet sheet.now scope }
     ensures { result ≡ target_of sheet.now request.now scope left pair }
 {
-    let Some(_) = held_at(
+    let constant = held_at(
         request,
         left,
         pair.tag,
         pair.constant.from,
         pair.constant.to,
-    ) else { return Ok(None); };
+    );
+    if constant.is_none() {
+        return Ok(None);
+    }
     if pair.by != table::PAIR_FIELD {
         return Ok(None);
     }
     let a = pair.name.from;
     let e = pair.name.to;
-    let Some(d) = lookups::field_named(sheet, scope, &request[a..e]) else { return Err(Refusal::UnknownFieldName); };
-    let shape = d.shape;
-    Ok(Some(shape))
+    let field = lookups::field_named(sheet, scope, &request[a..e]).ok_or(
+        Refusal::UnknownFieldName,
+    )?;
+    Ok(Some(field.shape))
 }
 
 // One pair: a field by its name; a name of another kind writes nothing.
@@ -210,21 +212,20 @@ fn put_pair(
     ensures { Emits wrote_of (pair_made (walking sheet.now) sheet.now request.now scope left pair)
         (bytes_most (3 + (pair.constant.to - pair.constant.from))) out.old at out.new result }
 {
-    match target_of(sheet, request, scope, pair, left) {
-        Ok(Some(shape)) => put_value(
-            sheet,
-            request,
-            shape,
-            pair.tag,
-            pair.constant.from,
-            pair.constant.to,
-            left,
-            out,
-            at,
-        ),
-        Ok(None) => Ok(at),
-        Err(why) => Err(why),
-    }
+    let Some(shape) = target_of(sheet, request, scope, pair, left)? else {
+        return Ok(at);
+    };
+    put_value(
+        sheet,
+        request,
+        shape,
+        pair.tag,
+        pair.constant.from,
+        pair.constant.to,
+        left,
+        out,
+        at,
+    )
 }
 
 // The constant of this tag whose payload is from..to, on a field of that shape.
@@ -247,7 +248,9 @@ pub fn put_value(
         (value_made (walking sheet.now) sheet.now request.now shape left tag from to)
         (bytes_most (3 + (to - from))) out.old at out.new result }
 {
-    let Some(c) = held_at(request, left, tag, from, to) else { return Ok(at); };
+    let Some(c) = held_at(request, left, tag, from, to) else {
+        return Ok(at);
+    };
     match kind_of(c) {
         Kind::Scalar => put_scalar(sheet, request, shape, c, out, at),
         Kind::List => put_list(sheet, request, shape, from, to, left - 1, out, at),
@@ -276,12 +279,12 @@ fn put_list(
     let mut p = at;
     let mut i = from;
     while i < to {
-        let Some(field) = field::field_at(request, i, to) else { return Ok(p); };
-        let r = put_value(sheet, request, shape, field.tag, field.from, field.to, left, out, p);
-        let Ok(q) = r else {
-            return r;
+        let Some(field) = field::field_at(request, i, to) else {
+            return Ok(p);
         };
-        p = q;
+        p = put_value(
+            sheet, request, shape, field.tag, field.from, field.to, left, out, p,
+        )?;
         i = field.to;
     }
     Ok(p)

@@ -1,16 +1,11 @@
 -- `builtins::builtin_on` meets its contract.
 -- Assumes nothing.
+use Rattle.std.specs.Prelude.{◌≡◌, Some}
+use Rattle.basis.proofs.Kit.{rules}
 use Rattle.builtins.proofs.BuiltinLaws.{on_laws}
 use Rattle.builtins.proofs.builtin_on.Goals as goal
 
-pub returns-in_default : goal.returns-in_default
-returns-in_default c = search on_laws
-
-pub scalar_on-requires : goal.scalar_on-requires
-scalar_on-requires c = search on_laws
-
 pub returns-then-is_plain : goal.returns-then-is_plain
-returns-then-is_plain c = search on_laws
-
-pub returns : goal.returns
-returns c = search on_laws
+returns-then-is_plain c =
+    let held : c.constant_of.result ≡ Some c.in_ok-constant.constant = rw c.in_ok-constant.was at c.ok_or.ensures.ok_part in
+    search (rules, on_laws, held)

@@ -25,14 +25,14 @@ in_item-in_items-requires t c = search (rules, in_item_laws)
 pub in_item-returns : goal.in_item-returns
 in_item-returns t c = search (rules, in_item_laws)
 
-pub in_items-loop-p-init : goal.in_items-loop-p-init
-in_items-loop-p-init t c = search (rules, in_items_laws)
+pub in_items-loop-field-init : goal.in_items-loop-field-init
+in_items-loop-field-init t c = rw c.into_iter-field-iterator.ensures.into_iter_gives (search (rules, in_items_laws))
 
 pub in_items-returns-in_default : goal.in_items-returns-in_default
-in_items-returns-in_default t c = search (rules, in_items_laws)
+in_items-returns-in_default t c = search (rules, in_items_laws, c.in-Some.ensures.steps)
 
-pub in_items-loop-p-preserved : goal.in_items-loop-p-preserved
-in_items-loop-p-preserved t c = search (rules, in_items_laws)
+pub in_items-loop-field-preserved : goal.in_items-loop-field-preserved
+in_items-loop-field-preserved t c = search (rules, in_items_laws, c.in-Some.ensures.steps)
 
 pub in_items-returns : goal.in_items-returns
-in_items-returns t c = search (rules, in_items_laws)
+in_items-returns t c = search (rules, in_items_laws, c.in-None.ensures.steps)

@@ -1,16 +1,17 @@
 -- `census::in_files` meets its contract, by its loop's invariant and laws.
 -- Assumes nothing.
+use Rattle.basis.proofs.Kit.{rules}
 use Rattle.census.proofs.ItemLaws.{in_files_laws}
 use Rattle.census.proofs.in_files.Goals as goal
 
-pub loop-p-init : goal.loop-p-init
-loop-p-init c = search in_files_laws
+pub loop-field-init : goal.loop-field-init
+loop-field-init c = rw c.into_iter-field-iterator.ensures.into_iter_gives (search (rules, in_files_laws))
 
 pub returns-in_default : goal.returns-in_default
-returns-in_default c = search in_files_laws
+returns-in_default c = search (rules, in_files_laws, c.in-Some.ensures.steps)
 
-pub loop-p-preserved : goal.loop-p-preserved
-loop-p-preserved c = search in_files_laws
+pub loop-field-preserved : goal.loop-field-preserved
+loop-field-preserved c = search (rules, in_files_laws, c.in-Some.ensures.steps)
 
 pub returns : goal.returns
-returns c = search in_files_laws
+returns c = search (rules, in_files_laws, c.in-None.ensures.steps)

@@ -3,8 +3,8 @@
 use Rattle.find.proofs.FindLaws.{find_laws}
 use Rattle.find.proofs.find.Goals as goal
 
-pub returns-in-Refused : goal.returns-in-Refused
-returns-in-Refused c = search find_laws
+pub returns-in-Err : goal.returns-in-Err
+returns-in-Err c = search find_laws
 
 pub returns : goal.returns
 returns c = search find_laws

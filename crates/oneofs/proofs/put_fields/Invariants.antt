@@ -1,6 +1,5 @@
 -- `oneofs::put_fields` meets its contract, by its loop's invariant and laws.
 -- Assumes nothing.
--- the turn of an optional field is searched for by its own law alone: beside `numbering-plain`, which fits too, the search finds no way
 use Rattle.oneofs.proofs.WritingLaws.{Numbering}
 use Rattle.oneofs.proofs.put_fields.Given as goal
 

@@ -1,6 +1,7 @@
 -- The whole name of a builtin, a single direct part: the ways through `builtin_part` and `built_at`.
 -- Assumes nothing.
-use Rattle.std.specs.Prelude.{◌≡◌, refl, true, false, List, [], ◌∷◌, ℕ, None, Some, Option}
+use Rattle.std.specs.Prelude.{◌≡◌, refl, Bool, true, false, List, [], ◌∷◌, ℕ, None, Some, Option}
+use Rattle.std.specs.Option.{is_some}
 use Rattle.basis.specs.Kit.{sym, ap, ◌∙◌}
 use Rattle.basis.proofs.Never.{never}
 use Rattle.limits.specs.Figures.{most_constants}
@@ -10,7 +11,7 @@ use Rattle.field.proofs.FieldLaws.{field-ordered, field-within}
 use Rattle.request.specs.declared.name.Part.{Part}
 use Rattle.request.specs.Name.{part_at, parts_in}
 use Rattle.request.specs.Request.{constant_of_field}
-use Rattle.request.specs.Tree.{Constants, unnamed, None as no_constant, constant_in}
+use Rattle.request.specs.Tree.{Constants, unnamed, none as no_constant, constant_in}
 use Rattle.request.proofs.PartLaws.{parts-nil, parts-cons, part_places}
 use Rattle.optionform.specs.inner.Parts.{LastConstant}
 use Rattle.lookups.specs.Lookups.{Lookups, Message}
@@ -39,9 +40,13 @@ module _ (r : List ℕ) (from to : ℕ) (v : Option Part) (q : v ≡ part_at r f
     whole-extension x = sym (whole-cons ∙ ap parted (extension-none p (parts_in (walk r p.name.to to)) x))
 
     module _ (x : p.extension ≡ false) (u : Option Part) (e : u ≡ part_at r p.name.to to) where
-      pub whole-more : (o : Part) → u ≡ Some o → None ≡ parted (builtin_part (parts_in (walk r from to)))
-      whole-more o z =
-          sym (whole-cons ∙ ap (λ (ps : List Part). parted (builtin_part (p ∷ ps))) (parts-cons r p.name.to to u e o z))
+      pub whole-more : (b : Bool) → b ≡ is_some u → b ≡ true → None ≡ parted (builtin_part (parts_in (walk r from to)))
+      whole-more b y z = go u refl (sym y ∙ z)
+        where
+          go : (w : Option Part) → u ≡ w → is_some w ≡ true → None ≡ parted (builtin_part (parts_in (walk r from to)))
+          go None w z = never cc
+          go (Some o) w z =
+              sym (whole-cons ∙ ap (λ (ps : List Part). parted (builtin_part (p ∷ ps))) (parts-cons r p.name.to to u e o w))
 
       pub whole-alone : u ≡ None → Some p ≡ parted (builtin_part (parts_in (walk r from to)))
       whole-alone z =
@@ -53,7 +58,7 @@ pub ruleset builtin_part_laws = (whole-none, whole-extension, whole-more, whole-
 module _ (r : List ℕ) (at to : ℕ) (f : Option Field) (q : f ≡ field_at r at to) where
   -- the constant that an option ends with is there
   pub last-whole : LastConstant r at to → f ≡ None → ⊥
-  last-whole l g = let e : Some l ≡ None = sym l.whole ∙ sym q ∙ g in never cc
+  last-whole l g = let e : Some (field l.tag l.from l.to) ≡ None = sym l.whole ∙ sym q ∙ g in never cc
 
   module _ (here : Field) (g : f ≡ Some here) where
     constant-is : constant_in most_constants r unnamed here.tag here.from here.to no_constant ≡ constant_at r at to

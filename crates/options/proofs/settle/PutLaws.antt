@@ -7,7 +7,7 @@ use mathlib.Core.Path.{subst}
 use Rattle.basis.proofs.Never.{never}
 use Rattle.limits.specs.Figures.{most_constants}
 use Rattle.reply.specs.declared.Refusal.{Refusal}
-use Rattle.field.specs.Field.{field_at, field}
+use Rattle.field.specs.Field.{field_at}
 use Rattle.field.specs.Leaf.{text}
 use Rattle.field.proofs.FieldLaws.{field-bounds, field-ordered, field-within}
 use Rattle.sheet.specs.declared.declaration.Shape.{Shape}
@@ -47,7 +47,7 @@ stepped-tells = record {
 pub constant-room : (r : List ℕ) (from to : ℕ) (f : Option Field) → f ≡ field_at r from to → (here : Field) → f ≡ Some here → (at : ℕ)
     → Roomy at (to - from) r → Roomy at (3 + (here.to - here.from)) r
 constant-room r from to f q here g at o =
-    let b = field-bounds r from to f q here.tag here.from here.to g in
+    let b = field-bounds r from to f q here g in
     record { room = omega (arith, o.room, b.starts, b.ordered, b.inside) }
 
 module _ (L : Lookups) (s r : List ℕ) (h : Shape) (from to : ℕ) (f : Option Field) (q : f ≡ field_at r from to) where

@@ -1,7 +1,7 @@
 -- One option: the ways through `settled_built`, `settle_named`, `settle` and `put_set`, over any look-ups.
 -- Assumes nothing.
 use Rattle.std.specs.Prelude.{◌≡◌, refl, Bool, true, false, List, [], ◌∷◌, ℕ, ◌+◌, ◌-◌, ◌≤◌, length, Option, None, Some, Err, Ok, Result}
-use Rattle.basis.specs.Kit.{sym, ap, ◌∙◌, sets}
+use Rattle.basis.specs.Kit.{sym, ap, ◌∙◌}
 use Rattle.basis.specs.First.{only_if}
 use Rattle.basis.proofs.Kit.{arith}
 use mathlib.Core.Path.{subst}

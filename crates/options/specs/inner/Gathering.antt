@@ -4,6 +4,7 @@
 --              gathered_by L s r h ==  what they come to
 --                      knowns_of g ==  the builtins that are known by then; of a refusal none
 --                 set_by L s r h o ==  the record of the builtin that the option o sets
+--              set_where L s r h x ==  that of the option x, where it is one
 --                made_at L s r h i ==  the record of the builtin that the i-th option sets
 --              held_from v ns i os ==  the record of the first of the options os, the i-th first, whose note is v
 --             held_by L s r h ns v ==  that of all the options
@@ -14,7 +15,8 @@
 -- Assumes nothing.
 use Rattle.std.specs.Prelude.{◌≡◌, List, [], ◌∷◌, ℕ, ◌+◌, ◌≤◌, eqb, length, get_or}
 use Rattle.std.proofs.Math.ListN.{get_elem?}
-use Rattle.basis.specs.First.{only_if, told}
+use mathlib.Core.Option as option
+use Rattle.basis.specs.First.{only_if}
 use Rattle.limits.specs.Figures.{most_options}
 use Rattle.octets.specs.inner.Laid.{Laid}
 use Rattle.reply.specs.declared.Refusal.TheVariants.{BadRequest}
@@ -50,8 +52,12 @@ module _ (L : Lookups) (s r : List ℕ) (h : Start) where
   abbrev pub set_by : RequestOption → Recs
   set_by o = set_recs (settle L s r (text r h.scope) (message_of r h) o)
 
+  abbrev pub set_where : option.Option RequestOption → Recs
+  set_where option.none = nil
+  set_where (option.some o) = set_by o
+
   unfoldable pub made_at : (option : ℕ) → Recs
-  made_at i = told nil set_by (get_elem? (options_of r h) i)
+  made_at i = set_where (get_elem? (options_of r h) i)
 
   abbrev pub held_from : (note : ℕ) (notes : List ℕ) (option : ℕ) → List RequestOption → Recs
   held_from v ns i [] = nil

@@ -23,8 +23,8 @@ nth_in_items-loop-p-init t c = search (rules, items_laws)
 pub nth_in_items-returns-in_default : goal.nth_in_items-returns-in_default
 nth_in_items-returns-in_default t c = search (rules, items_laws)
 
-pub nth_in_items-returns-in-Is : goal.nth_in_items-returns-in-Is
-nth_in_items-returns-in-Is t c = search (rules, items_laws)
+pub nth_in_items-returns-in-Ok : goal.nth_in_items-returns-in-Ok
+nth_in_items-returns-in-Ok t c = search (rules, items_laws)
 
 pub nth_in_items-loop-p-preserved : goal.nth_in_items-loop-p-preserved
 nth_in_items-loop-p-preserved t c = search (rules, items_laws)

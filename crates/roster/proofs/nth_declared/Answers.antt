@@ -6,8 +6,8 @@ use Rattle.roster.proofs.nth_declared.Goals as goal
 pub returns-in_default : goal.returns-in_default
 returns-in_default c = search declared_laws
 
-pub returns-in-Is : goal.returns-in-Is
-returns-in-Is c = search declared_laws
+pub returns-in-Ok : goal.returns-in-Ok
+returns-in-Ok c = search declared_laws
 
 pub returns : goal.returns
 returns c = search declared_laws

@@ -4,17 +4,8 @@ use Rattle.steps.proofs.ReachLaws.{reach_laws}
 use Rattle.basis.proofs.Kit.{rules}
 use Rattle.steps.proofs.reach_of.Goals as goal
 
-pub returns-in_default : goal.returns-in_default
-returns-in_default c = search reach_laws
-
-pub led-requires : goal.led-requires
-led-requires c = search reach_laws
-
 pub returns : goal.returns
 returns c = search reach_laws
-
-pub step_of-step-requires-clause-lies_2 : goal.step_of-step-requires-clause-lies_2
-step_of-step-requires-clause-lies_2 c = search (rules, reach_laws)
 
 pub step_of-step-requires-clause-name_value : goal.step_of-step-requires-clause-name_value
 step_of-step-requires-clause-name_value c = search (rules, reach_laws)

@@ -1,16 +1,17 @@
 -- `counts::declarations::count` meets its contract.
 -- Assumes nothing.
+use Rattle.basis.proofs.Kit.{rules}
 use Rattle.counts.proofs.DeclarationLaws.{files_count_laws}
 use Rattle.counts.proofs.declarations.count.Goals as goal
 
-pub loop-at-init : goal.loop-at-init
-loop-at-init c = search files_count_laws
-
 pub returns-in_default : goal.returns-in_default
-returns-in_default c = search files_count_laws
+returns-in_default c = search (rules, files_count_laws, c.in-Some.ensures.steps)
 
-pub loop-at-preserved : goal.loop-at-preserved
-loop-at-preserved c = search files_count_laws
+pub loop-field-preserved : goal.loop-field-preserved
+loop-field-preserved c = search (rules, files_count_laws, c.in-Some.ensures.steps)
 
 pub returns : goal.returns
-returns c = search files_count_laws
+returns c = search (rules, files_count_laws, c.in-None.ensures.steps)
+
+pub loop-field-init : goal.loop-field-init
+loop-field-init c = rw c.into_iter-field-iterator.ensures.into_iter_gives (search (rules, files_count_laws))

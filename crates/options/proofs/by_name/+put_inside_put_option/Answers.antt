@@ -1,20 +1,21 @@
 -- What these functions promise follows from their laws.
 -- Assumes nothing.
+use Rattle.records.proofs.EmitsLaws.{hands-on}
 use Rattle.options.proofs.settle.PutLaws.{put_inside_laws, put_option_laws}
 use Rattle.basis.proofs.Kit.{rules}
 use Rattle.options.proofs.by_name.+put_inside_put_option.Goals as goal
 
-pub put_inside-returns-in_default : goal.put_inside-returns-in_default
-put_inside-returns-in_default t c = search (rules, put_inside_laws)
+pub put_inside-returns-in_err-end : goal.put_inside-returns-in_err-end
+put_inside-returns-in_err-end t c = hands-on c.from_residual.ensures.1 (search (rules, put_inside_laws, c.in_err-end.was))
 
 pub put_inside-overflow_sub-end : goal.put_inside-overflow_sub-end
-put_inside-overflow_sub-end t c = search (rules, put_inside_laws)
+put_inside-overflow_sub-end t c = search (rules, put_inside_laws, c.in_ok-end.was)
 
 pub put_inside-enclose-requires : goal.put_inside-enclose-requires
-put_inside-enclose-requires t c = search (rules, put_inside_laws)
+put_inside-enclose-requires t c = search (rules, put_inside_laws, c.in_ok-end.was)
 
 pub put_inside-returns : goal.put_inside-returns
-put_inside-returns t c = search (rules, put_inside_laws)
+put_inside-returns t c = search (rules, put_inside_laws, c.in_ok-end.was)
 
 pub put_option-slice_bounds-put_inside-count : goal.put_option-slice_bounds-put_inside-count
 put_option-slice_bounds-put_inside-count t c = search (rules, put_option_laws)

@@ -1,4 +1,4 @@
--- `settle::named::put_constant` meets its contract.
+-- `by_name::put_constant` meets its contract.
 -- Assumes nothing.
 use Rattle.options.proofs.settle.PutLaws.{constant_laws}
 use Rattle.options.proofs.by_name.put_constant.Goals as goal
