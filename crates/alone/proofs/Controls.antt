@@ -3,8 +3,8 @@
 -- Assumes nothing.
 use Rattle.std.specs.Prelude.{◌≡◌, refl, false, List, [], ◌∷◌, ◌++◌, map, ℕ, Option, None, Some, Err}
 use lib.ListN.{get_elem?}
+use mathlib.Core.Option as optional
 use Prim.Native.String.{String}
-use Rattle.basis.specs.First.{told}
 use Rattle.octets.specs.Octets.{same_bytes, big_at}
 use Rattle.octets.specs.Ascii.{ascii}
 use Rattle.reply.specs.declared.Refusal.TheVariants.{ExtensionNotFound, MessageNotFound, BuiltinOptionNotFound}
@@ -17,7 +17,7 @@ use Rattle.sheet.proofs.Sheets.{tagged}
 use Rattle.request.specs.Table as tags
 use Rattle.request.specs.Constant.{bool_of, constant_of}
 use Rattle.request.specs.Name.{part_of}
-use Rattle.request.specs.Request.{heading_of, option_of, option_in, request_of}
+use Rattle.request.specs.Request.{RequestOption, heading_of, option_of, option_in, request_of}
 use Rattle.lookups.specs.Lookups.{Lookups, Message}
 use Rattle.steps.specs.Steps.{step_of}
 use Rattle.builtins.specs.Builtins.{is_skipped, builtin_of}
@@ -71,8 +71,12 @@ nothing = record {
 abbrev empty : Message
 empty = record { name = ascii "o.F"; place = record { file = 0; message = false; body = span 0 0; left = 0 } }
 
+abbrev fault_where : (r : List ℕ) → optional.Option RequestOption → Option Fault
+fault_where r optional.none = None
+fault_where r (optional.some o) = fault_of (settle nothing [] r (ascii "o") empty o)
+
 abbrev fault_in : (r : List ℕ) (option : ℕ) → Option Fault
-fault_in r i = told None (λ o. fault_of (settle nothing [] r (ascii "o") empty o)) (get_elem? (request_of r).options i)
+fault_in r i = fault_where r (get_elem? (request_of r).options i)
 
 abbrev faults : List (Option Fault)
 faults = map (λ w. Some (fault_at 0 w)) (BuiltinOptionNotFound ∷ ExtensionNotFound ∷ BuiltinOptionNotFound ∷ [])

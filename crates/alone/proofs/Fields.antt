@@ -31,7 +31,8 @@ module _ (s : List ℕ) (at end t a e : ℕ) where
       go true b' p = never cc
       go false true p = never cc
       go false false p =
-          let u : at + header + n ≡ e = cc in
+          let z : field (get_or s at 0) (at + header) (at + header + n) ≡ field t a e = cc in
+          let u : at + header + n ≡ e = ap (λ (f : Field). f.to) z in
           sym (field-whole s at end' (omega arith) (omega arith) n refl (omega arith)) ∙ p
 
 -- ---- the field that a leaf is
@@ -41,11 +42,13 @@ leaf-of k s (Some found) q p = go (eqb found.tag k) refl p
   where
     go : (b : Bool) → eqb found.tag k ≡ b → only_if (b && true) (Some (span found.from found.to)) None ≡ Some q → Some found ≡ Some (field k q.from q.to)
     go false x p = never cc
-    go true x p = let y : found.tag ≡ k = eqb-true found.tag k x in cc
+    go true x p =
+        let y : q ≡ span found.from found.to = cc in
+        rw (y, ← eqb-true found.tag k x) refl
 
 pub leaf-field : (k : ℕ) (s : List ℕ) (at end : ℕ) (p : Span) → leaf_at k any_bytes s at end ≡ Some p → field_at s at end ≡ Some (field k p.from p.to)
 unfolding leaf_at
-leaf-field k s at end p = leaf-of k s (field_at s at end) p.from p.to
+leaf-field k s at end p = leaf-of k s (field_at s at end) p
 
 -- ---- a whole field in another request
 pub record Moved {r r' : List ℕ} (w : Twin r r') (t a e : ℕ) (f : Option Field) : Type 0 where
@@ -58,9 +61,10 @@ module _ {r r' : List ℕ} (w : Twin r r') (t a e : ℕ) where
   moved-of : {f f' : Option Field} → SameField w f f' → f ≡ Some (field t a e) → Moved w t a e f'
   moved-of both-cut q = never cc
   moved-of (both-whole {t = k} {x} {x'} {y} {y'} h) q =
-      let i : k ≡ t = cc in
-      let j : x ≡ a = cc in
-      let l : x' ≡ e = cc in
+      let z : field k x x' ≡ field t a e = cc in
+      let i : k ≡ t = ap (λ (f : Field). f.tag) z in
+      let j : x ≡ a = ap (λ (f : Field). f.from) z in
+      let l : x' ≡ e = ap (λ (f : Field). f.to) z in
       record {
         from = y;
         to = y';

@@ -7,7 +7,7 @@ use mathlib.Core.Path.{ap₂}
 use Rattle.basis.proofs.Never.{never}
 use Rattle.field.specs.declared.Span.{Span}
 use Rattle.field.specs.Field.{field_at, field}
-use Rattle.field.specs.Leaf.{span, text, any_bytes, on_leaf, leaf_at}
+use Rattle.field.specs.Leaf.{text, any_bytes, on_leaf, leaf_at}
 use Rattle.field.proofs.FieldLaws.{field-bounds}
 use Rattle.field.proofs.LeafLaws.{leaf-any, on-leaf-some}
 use Rattle.request.specs.declared.heading.Heading.{Heading}
@@ -20,21 +20,21 @@ use Rattle.field.specs.declared.Field.{Field}
 
 -- the two leaves of a heading
 pub record Leaves (s : List ℕ) (h : Heading) : Type 0 where
-  pub scope : leaf_at scope_tag any_bytes s 0 (length s) ≡ Some (span h.scope.from h.scope.to)
-  pub type : leaf_at options_type_tag any_bytes s h.scope.to (length s) ≡ Some (span h.options_type.from h.options_type.to)
+  pub scope : leaf_at scope_tag any_bytes s 0 (length s) ≡ Some h.scope
+  pub type : leaf_at options_type_tag any_bytes s h.scope.to (length s) ≡ Some h.options_type
   pub options : h.options ≡ h.options_type.to
 
-abbrev heads : ℕ → ℕ → ℕ → ℕ → Option Heading
-heads a b m e = Some (record { scope = span a b; options_type = span m e; options = e })
+abbrev heads : Span → Span → Option Heading
+heads p u = Some (record { scope = p; options_type = u; options = u.to })
 
 module _ (s : List ℕ) (h : Heading) where
   heading-leaves : Some h ≡ heading_of s → Leaves s h
   unfolding heading_of
   heading-leaves =
       on-leaf-some None (Some h) (leaf_at scope_tag any_bytes s 0 (length s))
-      (λ a b. on_leaf None (leaf_at options_type_tag any_bytes s b (length s)) (heads a b)) (Leaves s h) (λ q. never cc)
-      (λ p l. on-leaf-some None (Some h) (leaf_at options_type_tag any_bytes s p.to (length s)) (heads p.from p.to) (Leaves s h) (λ q. never cc)
-      (λ u k q. let x : h ≡ record { scope = span p.from p.to; options_type = span m e; options = e } = cc in
+      (λ p. on_leaf None (leaf_at options_type_tag any_bytes s p.to (length s)) (heads p)) (Leaves s h) (λ q. never cc)
+      (λ p l. on-leaf-some None (Some h) (leaf_at options_type_tag any_bytes s p.to (length s)) (heads p) (Leaves s h) (λ q. never cc)
+      (λ u k q. let x : h ≡ record { scope = p; options_type = u; options = u.to } = cc in
       rw x (record { scope = l; type = k; options = refl })))
 
 -- ---- the same bytes in front
@@ -44,20 +44,20 @@ module _ {r r' : List ℕ} (w : Twin r r') (z : w.first ≡ 0) (z' : w.other ≡
 
   moved_back : (here : Field) (f : Option Field) → Moved w here.tag here.from here.to f → f ≡ Some here
   moved_back here f m =
-      m.whole ∙ ap₂ (Whole here.tag) (omega (arith, m.places.from.moved)) (omega (arith, m.places.to.moved))
+      m.whole ∙ ap₂ (λ (x y : ℕ). Some (field here.tag x y)) (omega (arith, m.places.from.moved)) (omega (arith, m.places.to.moved))
 
   field-kept : (f : Field) (at : ℕ) → f.to ≤ w.size → field_at r at f.to ≡ Some f → field_at r' at f.to ≡ Some f
-  field-kept f.tag at f.from f.to l q =
-      let b = field-bounds r at f.to (field_at r at f.to) refl f.tag f.from f.to q in
-      moved_back f.tag f.from f.to (field_at r' at f.to)
+  field-kept f at l q =
+      let b = field-bounds r at f.to (field_at r at f.to) refl f q in
+      moved_back f (field_at r' at f.to)
       (field-moved w f.tag f.from f.to (here-stays at (omega (arith, b.starts, b.ordered))) (here-stays f.to l) q)
 
   leaf-kept : (k at end : ℕ) (u : Span) → u.to ≤ w.size → leaf_at k any_bytes r at end ≡ Some u
       → (end' : ℕ) → u.to ≤ end' → leaf_at k any_bytes r' at end' ≡ Some u
   leaf-kept k at end u j p end' l =
-      let q = field_end r at end k u.from u.to (leaf-field k r at end u.from u.to p) u.to (omega arith) in
-      let q' = field_end r' at u.to k u.from u.to (field-kept k at u.from u.to j q) end' l in
-      sym (leaf-any k r' at end' (field_at r' at end') refl k u.from u.to q' refl)
+      let q = field_end r at end k u.from u.to (leaf-field k r at end u p) u.to (omega arith) in
+      let q' = field_end r' at u.to k u.from u.to (field-kept (field k u.from u.to) at j q) end' l in
+      sym (leaf-any k r' at end' (field_at r' at end') refl (field k u.from u.to) q' refl)
 
   text-kept : (p : Span) → p.from ≤ w.size → p.to ≤ w.size → text r' p ≡ text r p
   text-kept p k l = sym (here-part w (here-stays p.from k) (here-stays p.to l))
@@ -77,10 +77,10 @@ module _ {r r' : List ℕ} (w : Twin r r') (z : w.first ≡ 0) (z' : w.other ≡
         let k = heading-leaves r h (sym q) in
         record {
           scope =
-              leaf-kept scope_tag 0 (length r) h.scope.from h.scope.to scope-inside k.scope (length r')
+              leaf-kept scope_tag 0 (length r) h.scope scope-inside k.scope (length r')
               (omega (arith, scope-inside, w.inside'));
           type =
-              leaf-kept options_type_tag h.scope.to (length r) h.options_type.from h.options_type.to type-inside k.type
+              leaf-kept options_type_tag h.scope.to (length r) h.options_type type-inside k.type
               (length r') (omega (arith, type-inside, w.inside'));
           options = k.options;
         }
@@ -88,8 +88,8 @@ module _ {r r' : List ℕ} (w : Twin r r') (z : w.first ≡ 0) (z' : w.other ≡
     pub heading-kept : heading_of r' ≡ Some h
     heading-kept =
         let k = leaves_kept in
-        sym (heading-is r' (leaf_at scope_tag any_bytes r' 0 (length r')) refl h.scope.from h.scope.to k.scope
-        (leaf_at options_type_tag any_bytes r' h.scope.to (length r')) refl h.options_type.from h.options_type.to k.type)
+        sym (heading-is r' (leaf_at scope_tag any_bytes r' 0 (length r')) refl h.scope k.scope
+        (leaf_at options_type_tag any_bytes r' h.scope.to (length r')) refl h.options_type k.type)
         ∙ ap (λ (o : ℕ). Some (record { scope = h.scope; options_type = h.options_type; options = o })) (sym k.options)
 
     pub scope_kept : text r' h.scope ≡ text r h.scope

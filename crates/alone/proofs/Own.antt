@@ -4,12 +4,13 @@ use Rattle.std.specs.Prelude.{◌≡◌, refl, true, List, [], ◌∷◌, ◌++�
 use Rattle.basis.specs.Kit.{sym, ap, ◌∙◌}
 use Rattle.basis.proofs.Kit.{arith}
 use lib.ListN.{get_elem?}
+use mathlib.Core.Option as option
 use Rattle.limits.specs.Figures.{most_request}
 use Rattle.path.specs.Path.{is_rel_path, is_rel_or_empty}
 use Rattle.reply.specs.declared.Refusal.TheVariants.{BadRequest}
 use Rattle.reply.specs.Verdicts.{first_fault, Verdict, fine}
-use Rattle.field.specs.Field.{field_at}
-use Rattle.field.specs.Leaf.{text, any_bytes, leaf_at, span}
+use Rattle.field.specs.Field.{field_at, field}
+use Rattle.field.specs.Leaf.{text, any_bytes, leaf_at}
 use Rattle.field.specs.Walk.{done, step, walk}
 use Rattle.field.proofs.FieldLaws.{Bounds, field-bounds}
 use Rattle.field.proofs.LeafLaws.{leaf-good}
@@ -17,8 +18,7 @@ use Rattle.field.proofs.WalkLaws.{walk-done, walk_step}
 use Rattle.form.specs.Each.{each_from}
 use Rattle.request.specs.declared.heading.Heading.{Heading}
 use Rattle.request.specs.Table.{scope_tag, options_type_tag, option_tag}
-use Rattle.request.specs.Request as tree
-use Rattle.request.specs.Request.{heading_of, option_of, option_in, options_in, request_with, request_of}
+use Rattle.request.specs.Request.{RequestOption, heading_of, option_of, option_in, options_in, request_with, request_of}
 use Rattle.request.proofs.RequestLaws.{options-inside}
 use Rattle.optionform.specs.Form.{judge_option}
 use Rattle.optionform.proofs.FineLaws.{option-few}
@@ -38,13 +38,13 @@ use Rattle.alone.proofs.Placed.{Placed, placed}
 use Rattle.alone.proofs.Taken.{taken, taken-length, front-twin, back-twin}
 use Rattle.alone.proofs.Headings.{Leaves, leaves_kept, heading-kept, scope_kept, type-kept}
 
-module _ (r : List ℕ) (f : judge_request r ≡ fine) (h : Heading) (q : heading_of r ≡ Some h) (i : ℕ) (o : tree.Option)
+module _ (r : List ℕ) (f : judge_request r ≡ fine) (h : Heading) (q : heading_of r ≡ Some h) (i : ℕ) (o : RequestOption)
     (p : Placed r h.options (walk r h.options (length r)) i o) where
   abbrev own : List ℕ
   own = taken r h.options p.at p.to
 
   bounds : Bounds p.at (length r) p.start p.to
-  bounds = field-bounds r p.at (length r) (field_at r p.at (length r)) refl option_tag p.start p.to p.field
+  bounds = field-bounds r p.at (length r) (field_at r p.at (length r)) refl (field option_tag p.start p.to) p.field
 
   inside : h.options ≤ length r
   inside = options-inside r (heading_of r) refl h q
@@ -101,7 +101,7 @@ module _ (r : List ℕ) (f : judge_request r ≡ fine) (h : Heading) (q : headin
   own-walk : walk own h.options (length own) ≡ step option_tag from to done
   own-walk =
       walk_step own h.options (length own) (omega (arith, own-length, bounds.starts, bounds.ordered))
-      (field_at own h.options (length own)) refl option_tag from to own-field.whole
+      (field_at own h.options (length own)) refl (field option_tag from to) own-field.whole
       ∙ ap (step option_tag from to) (walk-done own to (length own)
       (omega (arith, own-length, own-field.places.to.moved, bounds.starts, bounds.ordered)))
 
@@ -119,15 +119,15 @@ module _ (r : List ℕ) (f : judge_request r ≡ fine) (h : Heading) (q : headin
   own-judged-all =
       sym (ap (each_from BadRequest (judge_option own) 0) own-walk ∙ ap (λ (v : Verdict). first_fault v fine) own-judged)
 
-  own-scoped : Some (span h.scope.from h.scope.to) ≡ leaf_at scope_tag is_rel_or_empty own 0 (length own)
+  own-scoped : Some h.scope ≡ leaf_at scope_tag is_rel_or_empty own 0 (length own)
   own-scoped =
-      leaf-good scope_tag is_rel_or_empty own 0 (length own) (leaf_at scope_tag any_bytes own 0 (length own)) refl h.scope.from h.scope.to
+      leaf-good scope_tag is_rel_or_empty own 0 (length own) (leaf_at scope_tag any_bytes own 0 (length own)) refl h.scope
       own-leaves.scope true (sym (ap is_rel_or_empty own-scope ∙ fine-scope r f (heading_of r) refl h q)) refl
 
-  own-typed : Some (span h.options_type.from h.options_type.to) ≡ leaf_at options_type_tag is_rel_path own h.scope.to (length own)
+  own-typed : Some h.options_type ≡ leaf_at options_type_tag is_rel_path own h.scope.to (length own)
   own-typed =
       leaf-good options_type_tag is_rel_path own h.scope.to (length own)
-      (leaf_at options_type_tag any_bytes own h.scope.to (length own)) refl h.options_type.from h.options_type.to
+      (leaf_at options_type_tag any_bytes own h.scope.to (length own)) refl h.options_type
       own-leaves.type true
       (sym (ap is_rel_path own-type ∙ fine-options-type r f (heading_of r) refl h q)) refl
 
@@ -136,15 +136,15 @@ module _ (r : List ℕ) (f : judge_request r ≡ fine) (h : Heading) (q : headin
 
   own-fine : judge_request own ≡ fine
   own-fine =
-      sym (request-options own own-short (Some (span h.scope.from h.scope.to)) own-scoped h.scope.from h.scope.to refl
-      (Some (span h.options_type.from h.options_type.to)) own-typed h.options_type.from h.options_type.to refl fine
+      sym (request-options own own-short (Some h.scope) own-scoped h.scope refl
+      (Some h.options_type) own-typed h.options_type refl fine
       (own-judged-all ∙ ap (λ (n : ℕ). judge_options own n (length own)) own-leaves.options))
 
   -- ---- what the option comes to
   own_same : (L : Lookups) (s scope : List ℕ) (m : Message)
       → fault_of (settle L s own scope m (option_of own from to)) ≡ fault_of (settle L s r scope m o)
   own_same L s scope m =
-      sym (ap (λ (x : tree.Option). fault_of (settle L s r scope m x)) p.is
+      sym (ap (λ (x : RequestOption). fault_of (settle L s r scope m x)) p.is
       ∙ settle-same back L s scope m (option-of-same back own-field.places))
 
   alone-is : alone r i ≡ own
@@ -164,7 +164,7 @@ module _ (r : List ℕ) (f : judge_request r ≡ fine) (h : Heading) (q : headin
 -- ==== the statement
 -- An option that is taken out of its fine request and put into a request of its own, with the same scope and options type, is fine there,
 -- is the only option, and has the same fault as before, or none.
-pub own-request : (r : List ℕ) → judge_request r ≡ fine → (i : ℕ) (o : tree.Option) → get_elem? (request_of r).options i ≡ Some o → Own r i o
+pub own-request : (r : List ℕ) → judge_request r ≡ fine → (i : ℕ) (o : RequestOption) → get_elem? (request_of r).options i ≡ option.some o → Own r i o
 unfolding request_of
 own-request r f i o g =
     let v = fine-options r f (heading_of r) refl in

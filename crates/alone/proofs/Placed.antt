@@ -7,6 +7,7 @@ use Rattle.std.specs.Prelude.{◌≡◌, refl, Bool, true, false, List, ℕ, zer
 use Rattle.basis.specs.Kit.{sym, ap, ◌∙◌}
 use Rattle.basis.proofs.Kit.{arith}
 use lib.ListN.{get_elem?}
+use mathlib.Core.Option as option
 use borrow.Author.Tests.{ltb-true, ltb-false}
 use Rattle.basis.proofs.Never.{never}
 use Rattle.octets.specs.Octets.{part}
@@ -18,8 +19,7 @@ use Rattle.field.proofs.FieldLaws.{field-bounds}
 use Rattle.field.proofs.WalkLaws.{walk-done, walk-cut, walk_step}
 use Rattle.form.specs.Each.{each_from}
 use Rattle.request.specs.Table.{option_tag}
-use Rattle.request.specs.Request as tree
-use Rattle.request.specs.Request.{option_of, option_in, options_in}
+use Rattle.request.specs.Request.{RequestOption, option_of, option_in, options_in}
 use Rattle.optionform.specs.Form.{judge_option}
 use Rattle.optionform.proofs.FineLaws.{option-tagged}
 use Rattle.requestform.proofs.FineLaws.{fine-option-at, fine-option-next}
@@ -33,10 +33,10 @@ record Opened (r : List ℕ) (n at : ℕ) : Type 0 where
   to : ℕ
   field : field_at r at (length r) ≡ Some (field option_tag from to)
   walks : walk r at (length r) ≡ step option_tag from to (walk r to (length r))
-  fine : judge_option r n option_tag from to ≡ fine
   next : each_from BadRequest (judge_option r) (n + 1) (walk r to (length r)) ≡ fine
+  fine : judge_option r n option_tag from to ≡ fine
 
-pub record Placed (r : List ℕ) (from : ℕ) (w : Walk) (i : ℕ) (o : tree.Option) : Type 0 where
+pub record Placed (r : List ℕ) (from : ℕ) (w : Walk) (i : ℕ) (o : RequestOption) : Type 0 where
   pub at : ℕ
   pub start : ℕ
   pub to : ℕ
@@ -60,11 +60,11 @@ module _ (r : List ℕ) where
           to = found.to;
           field = sym q ∙ ap (λ (k : ℕ). Some (field k found.from found.to)) y;
           walks = walk_step r at (length r) l (Some found) q found refl ∙ ap (λ (k : ℕ). step k found.from found.to (walk r found.to (length r))) y;
-          fine = rw y at here;
           next = fine-option-next r n at (length r) f l (Some found) q found refl;
+          fine = rw y at here;
         }
 
-    opened : (i : ℕ) (o : tree.Option) → get_elem? (options_in r (walk r at (length r))) i ≡ Some o → Opened r n at
+    opened : (i : ℕ) (o : RequestOption) → get_elem? (options_in r (walk r at (length r))) i ≡ option.some o → Opened r n at
     opened i o g = go (ltb at (length r)) refl
       where
         go : (b : Bool) → ltb at (length r) ≡ b → Opened r n at
@@ -73,14 +73,14 @@ module _ (r : List ℕ) where
             let z = ap (λ (w : Walk). get_elem? (options_in r w) i) (sym (walk-done r at (length r) (ltb-false at (length r) l))) ∙ g in
             never cc
 
-  pub placed : (i n at : ℕ) (o : tree.Option) → each_from BadRequest (judge_option r) n (walk r at (length r)) ≡ fine
-      → get_elem? (options_in r (walk r at (length r))) i ≡ Some o → Placed r at (walk r at (length r)) i o
+  pub placed : (i n at : ℕ) (o : RequestOption) → each_from BadRequest (judge_option r) n (walk r at (length r)) ≡ fine
+      → get_elem? (options_in r (walk r at (length r))) i ≡ option.some o → Placed r at (walk r at (length r)) i o
   unfolding option_in
   placed zero n at o f g =
       let x = opened n at f zero o g in
-      let b = field-bounds r at (length r) (field_at r at (length r)) refl option_tag x.from x.to x.field in
+      let b = field-bounds r at (length r) (field_at r at (length r)) refl (field option_tag x.from x.to) x.field in
       let e : x.from - header ≡ at = omega (arith, b.starts) in
-      let z : Some (option_of r x.from x.to) ≡ Some o = ap (λ (w : Walk). get_elem? (options_in r w) zero) (sym x.walks) ∙ g in
+      let z : option.some (option_of r x.from x.to) ≡ option.some o = ap (λ (w : Walk). get_elem? (options_in r w) zero) (sym x.walks) ∙ g in
       record {
         at = at;
         start = x.from;
@@ -94,7 +94,7 @@ module _ (r : List ℕ) where
       }
   placed (suc i) n at o f g =
       let x = opened n at f (suc i) o g in
-      let b = field-bounds r at (length r) (field_at r at (length r)) refl option_tag x.from x.to x.field in
+      let b = field-bounds r at (length r) (field_at r at (length r)) refl (field option_tag x.from x.to) x.field in
       let k = placed i (n + 1) x.to o x.next (ap (λ (w : Walk). get_elem? (options_in r w) (suc i)) (sym x.walks) ∙ g) in
       record {
         at = k.at;

@@ -18,7 +18,7 @@ use Rattle.sheet.specs.declared.declaration.Shape.{Shape}
 use Rattle.sheet.specs.declared.declaration.Declaration.{Declaration}
 use Rattle.request.specs.declared.name.Part.{Part}
 use Rattle.request.specs.Tree.{Constants}
-use Rattle.request.specs.Request as tree
+use Rattle.request.specs.Request.{RequestOption}
 use Rattle.records.specs.declared.Body.{Body}
 use Rattle.records.specs.Made.{Made}
 use Rattle.lookups.specs.Lookups.{Lookups, Message, field_named}
@@ -139,7 +139,7 @@ module _ {r r' : List ℕ} (w : Twin r r') (L : Lookups) (s : List ℕ) where
     settled-built both-set = refl
     settled-built (both-bad why) = refl
 
-    told_same : (m : Message) {o o' : tree.Option} → SameOption w o o' → {v v' : Option Part} → SameWhole w v v'
+    told_same : (m : Message) {o o' : RequestOption} → SameOption w o o' → {v v' : Option Part} → SameWhole w v v'
         → fault_of (told (settled (option_from L s r scope 0 m o.parts o.constant))
         (λ p. settled_built r (builtin_of L s r m (text r p.name) o.constant)) v)
         ≡ fault_of (told (settled (option_from L s r' scope 0 m o'.parts o'.constant))
@@ -147,7 +147,7 @@ module _ {r r' : List ℕ} (w : Twin r r') (L : Lookups) (s : List ℕ) where
     told_same m k no_whole = settled_same (named-same k.constant k.parts 0 m)
     told_same m k (a-whole p) = settled-built (builtin-same m (text_same w p.name) k.constant)
 
-    pub settle-same : (m : Message) {o o' : tree.Option} → SameOption w o o'
+    pub settle-same : (m : Message) {o o' : RequestOption} → SameOption w o o'
         → fault_of (settle L s r scope m o) ≡ fault_of (settle L s r' scope m o')
     unfolding settle
     settle-same m k = told_same m k (whole_same w k.parts)

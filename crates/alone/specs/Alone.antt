@@ -13,8 +13,7 @@ use Rattle.octets.specs.Octets.{part}
 use Rattle.field.specs.Field.{header}
 use Rattle.field.specs.Leaf.{text}
 use Rattle.field.specs.Walk.{Walk, done, cut, step, walk}
-use Rattle.request.specs.Request as tree
-use Rattle.request.specs.Request.{heading_of, request_of}
+use Rattle.request.specs.Request.{RequestOption, heading_of, request_of}
 use Rattle.requestform.specs.Form.{judge_request}
 use Rattle.lookups.specs.Lookups.{Lookups, Message}
 use Rattle.faults.specs.declared.Fault.{Fault}
@@ -40,11 +39,11 @@ fault_of (known k) = None
 fault_of (others x) = None
 fault_of (fails f) = Some f
 
-pub record Own (r : List ℕ) (i : ℕ) (o : tree.Option) : Type 0 where
+pub record Own (r : List ℕ) (i : ℕ) (o : RequestOption) : Type 0 where
   pub fine : judge_request (alone r i) ≡ fine
   pub scope : text (alone r i) (request_of (alone r i)).scope ≡ text r (request_of r).scope
   pub type : text (alone r i) (request_of (alone r i)).options_type ≡ text r (request_of r).options_type
-  pub own : tree.Option
+  pub own : RequestOption
   pub options : (request_of (alone r i)).options ≡ own ∷ []
   pub same : (L : Lookups) (s scope : List ℕ) (m : Message)
       → fault_of (settle L s (alone r i) scope m own) ≡ fault_of (settle L s r scope m o)

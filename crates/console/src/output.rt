@@ -72,10 +72,7 @@ pub fn answer(a: Answer) {
     number(a.reply as u64);
     text(b"\n");
     if a.reply != 0 {
-        let name = reply::name_of(a.reply, a.second);
-        let bytes = name.bytes;
-        let length = name.length;
-        text(&bytes[..length]);
+        text(reply::name_of(a.reply, a.second));
         text(b"\n");
         place_line(a);
     }

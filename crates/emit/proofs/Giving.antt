@@ -1,7 +1,6 @@
 -- The words of an answer that are known beforehand: copied to the front of the lent memory, where there is room for them.
 -- Assumes nothing.
 use Rattle.std.specs.Prelude.{◌≡◌, refl, List, ℕ, ◌≤◌, ◌<◌, length}
-use Rattle.basis.specs.Kit.{ap}
 use borrow.Rule.Slice.PartMut.{put_mid}
 use Rattle.reply.specs.declared.Refusal.TheVariants.{NoRoom}
 use Rattle.reply.specs.declared.Answer.{Answer}

@@ -9,29 +9,6 @@ ghost use Rattle.reply.specs.Outcome.{give, Answered};
 
 use reply::{Answer, Cause, Refusal};
 
-// One word at a place; past the end nothing is written.
-#[tactic(auto, using(octets::proofs::Overlay::put_out))]
-pub fn put_word(out: &mut [u32], at: usize, word: u32)
-    ensures { out.new ≡ sets out.old at (word ∷ []) }
-{
-    if at < out.len() {
-        out[at] = word;
-    }
-}
-
-// Words from a place on, as far as there is room.
-#[tactic(auto, using(crate::proofs::Filling::filling_laws))]
-pub fn put_words(words: &[u32], out: &mut [u32], at: usize)
-    requires { at + length words.now < 2 ^ 64 }
-    ensures { out.new ≡ sets out.old at words.now }
-{
-    let mut i = 0;
-    while i < words.len() {
-        put_word(out, at + i, words[i]);
-        i += 1;
-    }
-}
-
 // The words of an answer that are known beforehand, written where there is room for all of them.
 #[tactic(auto, using(crate::proofs::Giving::giving_laws))]
 pub fn give_words(words: &[u32], out: &mut [u32]) -> Answer

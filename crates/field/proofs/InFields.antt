@@ -47,7 +47,12 @@ module _ {s : List ℕ} {to : ℕ} {it : Fields} (k : Over it s to) (it' : Field
     pub over-within : to ≤ length s → w.to ≤ length s
     over-within h = field-within s it.at to o over-read w g h
 
-pub ruleset over_laws = (over-ordered, over-within)
+pub over-start : (it : Fields) (s : List ℕ) (to : ℕ) → it.bytes.now ≡ s → it.end ≡ to → Over it s to
+over-start it s to b e = record { bytes = b; end = e }
+
+pub ruleset over_laws = (over-start, over-ordered, over-within)
+
+pub ruleset over_all = (over-next, over_laws)
 
 -- ---- what is left
 pub record RestIn {A : Type 0} (v : A) (F : Walk → A) (s : List ℕ) (to : ℕ) (it : Fields) : Type 0 where

@@ -15,6 +15,7 @@ use native.Mathlib.Nat.{add-zero}
 use lib.Seq.{length-sets}
 use mir.Syntax.{w32}
 use Rattle.reply.specs.declared.Refusal.{Refusal}
+use Rattle.reply.specs.declared.Cause.{Cause}
 use Rattle.reply.specs.declared.Refusal.TheVariants.{ExtensionIsNotMessage}
 use Rattle.path.specs.Path.{components, all_ident, is_rel_or_empty}
 use Rattle.field.specs.Leaf.{text, Lies}
@@ -37,7 +38,7 @@ use Rattle.steps.specs.Steps.{why_of, step_of}
 use Rattle.steps.specs.inner.Reached.{message, entered, left_on, followed, behind}
 use Rattle.steps.proofs.StepLaws.{step-path-ordered, step-path-within}
 use Rattle.naming.specs.declared.Naming.{Naming}
-use Rattle.naming.specs.declared.Naming.TheVariants.{Parts, Group, Refused}
+use Rattle.naming.specs.declared.Naming.TheVariants.{Parts, Group}
 use Rattle.naming.specs.Name.{Named, names, group, refused_at, of_part, also, on_step, on_message, left, declarations}
 use Rattle.following.specs.inner.Keys.{key_of, key_words, key_at, keys_from, keys_at}
 use Rattle.naming.specs.inner.Naming.{behind_part, step_part, Namable, Declares, declares, leaves-group, refuses}
@@ -213,7 +214,7 @@ module _ (joins : Declaration → Bool) (d : Declaration) (k : ℕ) (ws ws' : Li
   front_kept : keys_at ws' k ≡ keys_at ws k
   front_kept = ap (λ (y : List ℕ). keys_at y k) w ∙ keys-before ws k d.name.from (joins d) 0 k (omega arith)
 
-  declares-more : {n : Named} {i : ℕ} {us us' : List ℕ} {r : Naming} → Declares joins n i us us' r → i ≡ k + 1 → us ≡ ws'
+  declares-more : {n : Named} {i : ℕ} {us us' : List ℕ} {r : Result Naming Cause} → Declares joins n i us us' r → i ≡ k + 1 → us ≡ ws'
       → Declares joins (also d n) k ws us' r
   declares-more (declares {ds} {k = i} {n} {ws = us} {ws' = us'} c m b) e y =
       let j : i ≡ suc k = e ∙ add-one k in
@@ -255,9 +256,9 @@ module _ (q scope : List ℕ) (at k : ℕ) (ws : List ℕ) (o : Namable q scope 
 -- ---- declare
 module _ (q : List ℕ) (at : ℕ) (r : Option Part) (y : r ≡ part_at q at (length q)) where
   pub declared-none : (joins : Declaration → Bool) (L : Lookups) (s : List ℕ) (m : Message) (k : ℕ) (ws : List ℕ) → r ≡ None
-      → Declares joins (declarations L s q k m (parts_in (walk q at (length q)))) k ws ws (Parts k)
+      → Declares joins (declarations L s q k m (parts_in (walk q at (length q)))) k ws ws (Ok (Parts k))
   declared-none joins L s m k ws g =
-      subst (λ (xs : List Part). Declares joins (declarations L s q k m xs) k ws ws (Parts k)) (sym (parts-nil q at (length q) r y g))
+      subst (λ (xs : List Part). Declares joins (declarations L s q k m xs) k ws ws (Ok (Parts k))) (sym (parts-nil q at (length q) r y g))
       (declares {ds = []} (sym (add-zero k)) refl refl)
 
   module _ (p : Part) (g : r ≡ Some p) (joins : Declaration → Bool) (L : Lookups) (s scope : List ℕ) (c : scope ≡ []) (m : Message) (v : Result Declaration Lack)
@@ -275,7 +276,7 @@ module _ (q : List ℕ) (at : ℕ) (r : Option Part) (y : r ≡ part_at q at (le
         go (Err l) = refl
         go (Ok d) = sym (also-left L s q k d 0 (λ n. declarations L s q (k + 1) n (o ∷ ps)))
 
-    pub declared-step : (k : ℕ) (ws ws' : List ℕ) (u : Naming)
+    pub declared-step : (k : ℕ) (ws ws' : List ℕ) (u : Result Naming Cause)
         → Declares joins (step_part L s q k v (parts_in (walk q p.name.to (length q)))) k ws ws' u
         → Declares joins (declarations L s q k m (parts_in (walk q at (length q)))) k ws ws' u
     declared-step k ws ws' u j =
@@ -288,11 +289,11 @@ module _ (q : List ℕ) (at : ℕ) (r : Option Part) (y : r ≡ part_at q at (le
 -- ---- declare_step
 module _ (joins : Declaration → Bool) (L : Lookups) (s q : List ℕ) (k : ℕ) (ws ws' : List ℕ) (ps : List Part) (v : Result Declaration Lack) where
   pub step-refused : (l : Lack) → v ≡ Err l → (w : Refusal) → w ≡ why_of l
-      → Declares joins (step_part L s q k v ps) k ws ws' (Refused (of_part k w))
+      → Declares joins (step_part L s q k v ps) k ws ws' (Err (of_part k w))
   step-refused l n w e = rw (n, e) refuses
 
   pub step-noted : (d : Declaration) → v ≡ Ok d → ws' ≡ sets ws (k * key_words) (d.name.from ∷ only_if (joins d) 1 0 ∷ [])
-      → (scope : List ℕ) (at : ℕ) → Namable q scope at (k + 1) ws → (us : List ℕ) (u : Naming)
+      → (scope : List ℕ) (at : ℕ) → Namable q scope at (k + 1) ws → (us : List ℕ) (u : Result Naming Cause)
       → Declares joins (behind_part L s q k d ps) (k + 1) ws' us u → Declares joins (step_part L s q k v ps) k ws us u
   step-noted d n w scope at o us u j = rw n (declares-more joins d k ws ws' w (noted-room q scope at k ws o) j refl refl)
 
@@ -309,18 +310,18 @@ noted-namable q scope at k ws o ws' i vs y =
 module _ (s q : List ℕ) (d : Declaration) (at : ℕ) (v : Reach) where
   module _ (L : Lookups) (e : v ≡ behind L s q d.shape at (length q)) (joins : Declaration → Bool) (k : ℕ) (ws : List ℕ) where
     pub behind-last : (h : Shape) (x : ℕ) → v ≡ Constant h x
-        → Declares joins (behind_part L s q k d (parts_in (walk q at (length q)))) (k + 1) ws ws (Parts (k + 1))
+        → Declares joins (behind_part L s q k d (parts_in (walk q at (length q)))) (k + 1) ws ws (Ok (Parts (k + 1)))
     behind-last h x g =
-        subst (λ (xs : List Part). Declares joins (behind_part L s q k d xs) (k + 1) ws ws (Parts (k + 1)))
+        subst (λ (xs : List Part). Declares joins (behind_part L s q k d xs) (k + 1) ws ws (Ok (Parts (k + 1))))
         (sym (none_left L s q d at (length q) v e h x g)) (declares {ds = []} (sym (add-zero (k + 1))) refl refl)
 
-    pub behind-group : v ≡ Nothing → Declares joins (behind_part L s q k d (parts_in (walk q at (length q)))) (k + 1) ws ws Group
+    pub behind-group : v ≡ Nothing → Declares joins (behind_part L s q k d (parts_in (walk q at (length q)))) (k + 1) ws ws (Ok Group)
     behind-group g =
         let i = behind-reach L s q d at (length q) v e (λ h x y. nothing_left cc) k in
         rw (i, g) leaves-group
 
     pub behind-fails : (w : Refusal) → v ≡ Fails w
-        → Declares joins (behind_part L s q k d (parts_in (walk q at (length q)))) (k + 1) ws ws (Refused (of_part k w))
+        → Declares joins (behind_part L s q k d (parts_in (walk q at (length q)))) (k + 1) ws ws (Err (of_part k w))
     behind-fails w g =
         let i = behind-reach L s q d at (length q) v e (λ h x y. nothing_left cc) k in
         rw (i, g) refuses
@@ -345,7 +346,7 @@ module _ (s q : List ℕ) (d : Declaration) (at : ℕ) (v : Reach) where
     pub inside-namable : (scope : List ℕ) (k : ℕ) (ws : List ℕ) → Namable q scope at k ws → Namable q scope x k ws
     inside-namable scope k ws o = rw inside_on.from o
 
-    pub behind-inside : (joins : Declaration → Bool) (k : ℕ) (ws ws' : List ℕ) (r : Naming)
+    pub behind-inside : (joins : Declaration → Bool) (k : ℕ) (ws ws' : List ℕ) (r : Result Naming Cause)
         → Declares joins (declarations (walking s) s q (k + 1) (message (text s h.path) p) (parts_in (walk q x (length q)))) (k + 1) ws ws' r
         → Declares joins (behind_part (walking s) s q k d (parts_in (walk q at (length q)))) (k + 1) ws ws' r
     behind-inside joins k ws ws' r j =

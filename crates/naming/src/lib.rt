@@ -16,17 +16,16 @@ ghost use Rattle.following.specs.inner.Keys.{key_words};
 ghost use Rattle.naming.specs.inner.Naming.{Declares, Namable, behind_part, step_part};
 
 use reply::{Cause, Where};
-use request::name::{part_at, Part};
+use request::name::{Part, part_at};
 use scope::lookup::LookupScope;
 use sheet::declaration::Declaration;
-use steps::{Reach, behind, step_of, why_of, Lack};
+use steps::{Lack, Reach, behind, step_of, why_of};
 
-// What a name comes to: so many parts, whose keys were noted; that parts are left on a group; or why not, and at which part.
+// What a name comes to: so many parts, whose keys were noted; or that parts are left on a group.
 #[derive(Clone, Copy)]
 pub enum Naming {
     Parts(usize),
     Group,
-    Refused(Cause),
 }
 
 // Whether all records of a declaration count, in order, as one message. Today none do: the last one holds.
@@ -37,6 +36,7 @@ fn joins(d: Declaration) -> bool
 }
 
 // The key of a part, noted.
+#[tactic(auto, using(crate::proofs::KeyLaws::note_laws))]
 fn note_key(keys: &mut [usize], index: usize, d: Declaration)
     requires { index * key_words + key_words ≤ length keys.old }
     ensures { keys.new ≡ sets keys.old (index * key_words) (d.name.from ∷ only_if (never d) 1 0 ∷ []) }
@@ -47,6 +47,7 @@ fn note_key(keys: &mut [usize], index: usize, d: Declaration)
 
 // What the parts behind the one at `index` come to, which came to this declaration and ends at `from`.
 #[cycle(declare_declare_behind_declare_step)]
+#[tactic(auto, using(crate::proofs::NameLaws::declare_behind_laws))]
 fn declare_behind(
     sheet: &[u8],
     name: &[u8],
@@ -55,7 +56,7 @@ fn declare_behind(
     from: usize,
     index: u32,
     keys: &mut [usize],
-) -> Naming
+) -> Result<Naming, Cause>
     requires lies { Lies d.shape.path sheet.now }
     requires namable { Namable name.now scope.now from (index + 1) keys.old }
     ensures { Declares never (behind_part (walking sheet.now) sheet.now name.now index d
@@ -63,11 +64,11 @@ fn declare_behind(
 {
     let next = index + 1;
     match behind(sheet, name, d.shape, from, name.len()) {
-        Reach::Constant { shape: _, from: _ } => Naming::Parts(next as usize),
-        Reach::Nothing => Naming::Group,
+        Reach::Constant { shape: _, from: _ } => Ok(Naming::Parts(next as usize)),
+        Reach::Nothing => Ok(Naming::Group),
         Reach::Fails(why) => {
             let place = Where::Part(index);
-            Naming::Refused(Cause { why, place })
+            Err(Cause { why, place })
         }
         Reach::Inside {
             shape,
@@ -83,6 +84,7 @@ fn declare_behind(
 
 // What the part at `index`, which came to `step` and ends at `from`, comes to with the parts behind it.
 #[cycle(declare_declare_behind_declare_step)]
+#[tactic(auto, using(crate::proofs::NameLaws::declare_step_laws))]
 fn declare_step(
     sheet: &[u8],
     name: &[u8],
@@ -91,14 +93,14 @@ fn declare_step(
     from: usize,
     index: u32,
     keys: &mut [usize],
-) -> Naming
+) -> Result<Naming, Cause>
     requires step_lies { StepLies sheet.now step }
     requires namable { Namable name.now scope.now from (index + 1) keys.old }
     ensures { Declares never (step_part (walking sheet.now) sheet.now name.now index step
         (parts_in (walk name.now from (length name.now)))) index keys.old keys.new result }
 {
     match step {
-        Err(lack) => Naming::Refused(Cause {
+        Err(lack) => Err(Cause {
             why: why_of(lack),
             place: Where::Part(index),
         }),
@@ -109,8 +111,10 @@ fn declare_step(
     }
 }
 
-// The parts of a name from a place on, the one at `index` first, in the message of that name and place.
+// The parts of a name from a place on, the one at `index` first, in the message of that name and place; or why they
+// come to none, and at which part.
 #[cycle(declare_declare_behind_declare_step)]
+#[tactic(auto, using(crate::proofs::NameLaws::declare_laws))]
 pub fn declare(
     sheet: &[u8],
     name: &[u8],
@@ -120,14 +124,16 @@ pub fn declare(
     from: usize,
     index: u32,
     keys: &mut [usize],
-) -> Naming
+) -> Result<Naming, Cause>
     requires in_sheet { InSheet sheet.now place }
     requires namable { Namable name.now scope.now from index keys.old }
     ensures { Declares never (declarations (walking sheet.now) sheet.now name.now index
         (message_of message.now place) (parts_in (walk name.now from (length name.now)))) index
         keys.old keys.new result }
 {
-    let Some(part) = part_at(name, from, name.len()) else { return Naming::Parts(index as usize); };
+    let Some(part) = part_at(name, from, name.len()) else {
+        return Ok(Naming::Parts(index as usize));
+    };
     let step = step_of(sheet, name, scope, message, place, part);
     declare_step(sheet, name, scope, step, part.name.to, index, keys)
 }

@@ -4,7 +4,7 @@
 --     file_where good s t a e == the first one in a field of a sheet
 --
 -- Assumes nothing.
-use Rattle.std.specs.Prelude.{◌≡◌, refl, Bool, true, false, List, [], ℕ, ◌-◌, ◌<◌, eqb, length, None, Some, Option}
+use Rattle.std.specs.Prelude.{◌≡◌, refl, Bool, true, false, List, [], ℕ, ◌-◌, eqb, length, None, Some, Option}
 use Rattle.basis.specs.Kit.{sym, ◌∙◌}
 use Rattle.basis.proofs.Kit.{arith, eq-eqb, ne_eqb, not-true, not-false}
 use mathlib.Core.List.{append-nil}
@@ -12,11 +12,12 @@ use borrow.Author.Tests.{eqb-false}
 use Rattle.basis.proofs.Never.{never}
 use Rattle.limits.specs.Figures.{most_messages}
 use Rattle.field.specs.Leaf.{is_text, any_bytes, leaf_at}
-use Rattle.field.specs.Field.{field_at}
 use Rattle.field.specs.Walk.{Walk, walk}
 use Rattle.field.proofs.LeafLaws.{leaf_inside}
-use Rattle.field.proofs.Seek.{seek, seek_is, Seeking, seek-start, seek-next, seek_laws}
-use Rattle.field.proofs.InFields.{SeekingIn, sought-start, sought_laws}
+use Rattle.field.proofs.Seek.{seek, seek_is}
+use Rattle.field.specs.declared.fields.Fields.{Fields}
+use Rattle.field.specs.Fields.{Goes}
+use Rattle.field.proofs.InFields.{sought-next, SeekingIn, sought-start, sought_laws}
 use Rattle.sheet.specs.declared.declaration.Declaration.{Declaration}
 use Rattle.sheet.specs.Table.{file_tag, message_tag, extension_tag, field_tag, package_tag, name_tag}
 use Rattle.sheet.specs.Tree.{none, message_in, items_in, files_in}
@@ -131,14 +132,13 @@ module _ (m : List ℕ) (k d : ℕ) (s : List ℕ) where
       go true h g = extension-says-other k s t a e m (extension_says k s a e) refl g
       go false h g = extension-tag-other k s t a e m (eqb-false t extension_tag h)
 
-  pub in-items-pass : {from to i : ℕ}
-      → Seeking None (first_of tells_declared) (item_where (is_extension_of s m k) d s) s from to i → i < to
-      → (r : Option Field) → r ≡ field_at s i to → (it : Field) → r ≡ Some it → (b : Bool) → b ≡ may_hold k s it.tag it.from it.to
-      → b ≡ false → Seeking None (first_of tells_declared) (item_where (is_extension_of s m k) d s) s from to it.to
-  in-items-pass l h r q it g b u z =
-      seek-next l h r q it g None (passed_none it.tag it.from it.to (sym u ∙ z)) refl (λ y. refl)
+  pub in-items-pass : {from to : ℕ} {it : Fields} → SeekingIn None (first_of tells_declared) (item_where (is_extension_of s m k) d s) s from to it
+      → (it' : Fields) (o : Option Field) → Goes it it' o → (w : Field) → o ≡ Some w → (b : Bool) → b ≡ may_hold k s w.tag w.from w.to
+      → b ≡ false → SeekingIn None (first_of tells_declared) (item_where (is_extension_of s m k) d s) s from to it'
+  in-items-pass l it' o x w g b u z =
+      sought-next l it' o x w g None (passed_none w.tag w.from w.to (sym u ∙ z)) refl (λ y. refl)
 
-pub ruleset in_items_laws = (in-items-is, in-items-pass, seek_laws, not-true, not-false)
+pub ruleset in_items_laws = (in-items-is, in-items-pass, sought_laws, not-true, not-false)
 
 -- ---- extension_in_file
 module _ (good : Declaration → Bool) (s : List ℕ) (t a e : ℕ) where

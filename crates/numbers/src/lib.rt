@@ -181,10 +181,8 @@ fn extension_in_items(
     ensures { result ≡ declared (first (is_extension_of s.now message.now number)
         (every_extension_of (items_in left s.now (walk s.now body.from body.to)))) }
 {
-    let end = body.to;
-    let mut at = body.from;
-    while at < end {
-        let field = field::field_at(s, at, end)?;
+    for field in Fields::between(s, body.from, body.to) {
+        let field = field?;
         let item = Span {
             from: field.from,
             to: field.to,
@@ -194,7 +192,6 @@ fn extension_in_items(
                 return Some(d);
             }
         }
-        at = field.to;
     }
     None
 }

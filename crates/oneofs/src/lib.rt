@@ -9,8 +9,8 @@ ghost use Rattle.oneofs.specs.Fields.{real, synthetic, oneof, groups, real_count
 ghost use Rattle.oneofs.specs.Fields.{lower_fields, lower_fields_by};
 ghost use Rattle.emit.specs.inner.Puts.{Puts};
 
-use emit::put_word;
 use limits::MOST_WORDS;
+use octets::put;
 use reply::{Answer, Cause, Refusal};
 
 // The words of fields.
@@ -75,11 +75,11 @@ fn put_fields(numbering: u32, reals: u32, words: &[u32], out: &mut [u32]) -> Res
     for i in 0..words.len() {
         let w = words[i];
         if w == PLAIN {
-            put_word(out, n, 0);
+            put(out, n, 0);
             member = 0;
             n += 1;
         } else if w == OPTIONAL {
-            put_word(out, n, synthetic + 1);
+            put(out, n, synthetic + 1);
             synthetic += 1;
             real += step;
             member = 0;
@@ -95,7 +95,7 @@ fn put_fields(numbering: u32, reals: u32, words: &[u32], out: &mut [u32]) -> Res
             if member == 0 {
                 return Err(reply::bare(Refusal::BadRequest));
             }
-            put_word(out, n, member);
+            put(out, n, member);
             n += 1;
         }
     }

@@ -73,17 +73,26 @@ fn answer(sheet: &[u8], scope: &[u8], path: &[u8]) {
 }
 
 // One case, and where the next one starts; 0 where the input is no such fields.
+#[tactic(auto, using(crate::proofs::CaseLaws::case_laws))]
 fn find_case(s: &[u8], at: usize) -> usize
     requires { at ≤ length s.now }
     ensures { result ≤ length s.now }
 {
-    let Some(Span { from, to }) = field_of(s, at, SHEET) else {
+    let Some(sheet) = field_of(s, at, SHEET) else {
         return 0;
     };
-    let Some(scope) = field_of(s, to, SCOPE) else { return 0; };
-    let Some(place) = field_of(s, scope.to, PATH) else { return 0; };
-    answer(&s[from..to], &s[scope.from..scope.to], &s[place.from..place.to]);
-    place.to
+    let Some(scope) = field_of(s, sheet.to, SCOPE) else {
+        return 0;
+    };
+    let Some(path) = field_of(s, scope.to, PATH) else {
+        return 0;
+    };
+    answer(
+        &s[sheet.from..sheet.to],
+        &s[scope.from..scope.to],
+        &s[path.from..path.to],
+    );
+    path.to
 }
 
 // All cases, of which there has to be one.
@@ -102,6 +111,7 @@ fn find_cases(s: &[u8]) {
 }
 
 // Standard input, read into a lent buffer.
+#[tactic(auto, using(crate::proofs::CaseLaws::case_laws))]
 fn run_over(buffer: &mut [u8]) {
     let Some(n) = console::input::read(buffer) else {
         return;

@@ -29,24 +29,13 @@ fn end_of(kind: u32, end: i32) -> Option<i32>
     Some(end + 1)
 }
 
-// One word at a place; past the end nothing is written.
-#[tactic(auto, using(octets::proofs::Overlay::put_out))]
-fn put(out: &mut [i32], at: usize, word: i32)
-    ensures { out.new ≡ sets out.old at (word ∷ []) }
-{
-    if at < out.len() {
-        out[at] = word;
-    }
-}
-
 // A start and an end, likewise.
 #[tactic(auto, using(crate::proofs::RangeLaws::range_put))]
 fn put_range(out: &mut [i32], at: usize, start: i32, end: i32)
     requires { at < 2 ^ 63 }
     ensures { out.new ≡ sets out.old at (start ∷ end ∷ []) }
 {
-    put(out, at, start);
-    put(out, at + 1, end);
+    octets::put_all(out, at, &[start, end]);
 }
 
 // The lowered ranges from the front on, as far as there is room.

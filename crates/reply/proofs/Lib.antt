@@ -1,5 +1,4 @@
 pub mod Variants
-pub mod PlaceLaws
 pub mod Rows
 pub mod Names
 pub mod Outcomes

@@ -1,13 +1,11 @@
--- Names: the code's table is right, by one test that antt computes; the loop that looks a row up there, and the one that spells its name.
+-- Names: the code's table is right, by one test that antt computes; and the loop that looks a row up there.
 -- Assumes nothing.
 use Rattle.std.specs.Prelude.{◌≡◌, refl, Bool, true, false, ◌&&◌, List, [], ◌∷◌, ℕ, suc, ◌+◌, ◌-◌, ◌*◌, ◌≤◌, ◌<◌, eqb, leb, length, get_or, take, drop}
 use Rattle.basis.specs.Kit.{sym, ap, ◌∙◌}
-use Rattle.basis.proofs.Kit.{arith, add-one, eq-eqb}
+use Rattle.basis.proofs.Kit.{arith, eq-eqb}
 use mathlib.Core.Path.{subst}
 use borrow.Author.Tests.{eqb-true}
 use lib.Dec.{T, eqb→eq, leb→le}
-use lib.ListN.{set, length-set, length-take, length-drop}
-use lib.Seq.{take-suc, take-suc-set, take_all}
 use Rattle.basis.proofs.Never.{never}
 use Rattle.reply.specs.declared.Refusal.{Refusal}
 use Rattle.reply.specs.Reply.{number, second, name, most_name, NameOf}
@@ -56,35 +54,6 @@ rows_tabled rows t e = record {
   where
     at : (w : Refusal) → RowAt rows (place w * row_size) w
     at w = fits-row w rows (place w * row_size) (every-at (λ w. fits w rows (place w * row_size)) t w)
-
--- ---- the loop that spells a name: the first i bytes are in place
-pub record Spelling (text bytes : List ℕ) (i : ℕ) : Type 0 where
-  pub reached : i ≤ length text
-  pub small : length text ≤ most_name
-  pub room : length bytes ≡ most_name
-  pub front : take i bytes ≡ take i text
-
-pub spelling-start : (text bytes : List ℕ) → length text ≤ most_name → length bytes ≡ most_name → Spelling text bytes 0
-spelling-start text bytes h e = record { reached = omega arith; small = h; room = e; front = refl }
-
-module _ (text bytes : List ℕ) (i : ℕ) (k : Spelling text bytes i) where
-  pub spelling-next : i < length text → Spelling text (set bytes i (get_or text i 0)) (i + 1)
-  spelling-next h =
-      let inside : i < length bytes = omega arith in
-      record {
-        reached = omega arith;
-        small = k.small;
-        room = length-set bytes i (get_or text i 0) ∙ k.room;
-        front = rw (add-one i, take-suc-set bytes i (get_or text i 0) inside, take-suc text i 0 h, k.front);
-      }
-
-  pub spelling-room : i < length text → i < length bytes
-  spelling-room h = omega arith
-
-  pub spelling-end : length text ≤ i → take i bytes ≡ text
-  spelling-end h = k.front ∙ take_all i text h
-
-pub ruleset spelling_laws = (spelling-start, spelling-next, spelling-room, spelling-end)
 
 -- ---- the loop that looks a row up: none of those before `at` has the number n and the second word s
 pub record Passed (rows : List ℕ) (n s at : ℕ) : Type 0 where
@@ -144,9 +113,6 @@ module _ (rows : List ℕ) (n s at : ℕ) (u : Passed rows n s at) where
         pub text-inside : at + 3 + m ≤ length rows
         text-inside = omega (arith, row_inside, row_here.short)
 
-        pub text-short : length (take (at + 3 + m - (at + 3)) (drop (at + 3) rows)) ≤ most_name
-        text-short = simp (length-take, length-drop) (omega (arith, text-inside, row_here.short))
-
         pub name-found : (l : List ℕ) → l ≡ take (at + 3 + m - (at + 3)) (drop (at + 3) rows)
             → (a b : ℕ) → a ≡ get_or rows at 0 → b ≡ get_or rows (at + 1) 0 → eqb a n && eqb b s ≡ true → NameOf n s l
         name-found l g a b ea eb e =
@@ -161,4 +127,4 @@ module _ (rows : List ℕ) (n s at : ℕ) (u : Passed rows n s at) where
               none = λ no. absurd (no v p q);
             }
 
-pub ruleset look_up_laws = (passed_start, passed-next, name-none, second-inside, size-inside, text-inside, text-short, name-found)
+pub ruleset look_up_laws = (passed_start, passed-next, name-none, second-inside, size-inside, text-inside, name-found)

@@ -4,8 +4,7 @@
 --       number w ==  the reply's number
 --       second w ==  the reply's second word
 --         name w ==  the bytes of its name
---       most_name ==  the bytes that the array of a name has
---       text_of n ==  the bytes of a name that the code has made
+--       most_name ==  the bytes that a row of the table of names has for the name
 --   NameOf n s t <-> t is the name of the refusal that has the number n and the second word s, empty where there is none
 --        nowhere ==  the number that stands for a position where there is none
 --    positions p ==  the two numbers of a place: the option's position and the part's
@@ -17,7 +16,7 @@
 --      decided b ==  the answer of a call that answers yes or no
 --
 -- Assumes nothing.
-use Rattle.std.specs.Prelude.{◌≡◌, Bool, List, [], ℕ, take}
+use Rattle.std.specs.Prelude.{◌≡◌, Bool, List, [], ℕ}
 use Rattle.basis.specs.First.{only_if}
 use Prim.Native.String.{String}
 use Rattle.octets.specs.Ascii.{ascii}
@@ -28,7 +27,6 @@ use Rattle.reply.specs.declared.Where.TheVariants.{Nowhere, Part, Option}
 use Rattle.reply.specs.declared.Positions.{Positions}
 use Rattle.reply.specs.declared.Cause.{Cause}
 use Rattle.reply.specs.declared.Answer.{Answer}
-use Rattle.reply.specs.declared.Name.{Name}
 
 -- 01, Replies: the number; the second word, which is 1 for BuiltinOptionPointsToNonSingularField and 0 for every other; the name
 abbrev pub row : Refusal → ℕ × ℕ × String
@@ -64,9 +62,6 @@ name w = ascii (row w).2
 
 abbrev pub most_name : ℕ
 most_name = 40
-
-abbrev pub text_of : Name → List ℕ
-text_of n = take n.length n.bytes
 
 pub record NameOf (n s : ℕ) (t : List ℕ) : Type 0 where
   pub is : (w : Refusal) → n ≡ number w → s ≡ second w → t ≡ name w

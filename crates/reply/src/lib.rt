@@ -4,7 +4,7 @@
 ghost use Rattle.std.specs.Prelude.{◌≡◌, ◌≤◌, length};
 ghost use Rattle.reply.specs.Reply.{positions as positions_of, bare as bare_of, refused_for, refused_by};
 ghost use Rattle.reply.specs.Reply.{done_with, absent_answer, decided as decided_of};
-ghost use Rattle.reply.specs.Reply.{NameOf, most_name, text_of};
+ghost use Rattle.reply.specs.Reply.{NameOf};
 ghost use Rattle.reply.specs.inner.Table.{code_of, Tabled};
 ghost use Rattle.reply.specs.Verdicts.{judged, answer_for};
 
@@ -74,11 +74,11 @@ pub struct Answer {
     pub part: u32,
 }
 
-impl Refusal {
-    fn code(self) -> u32
-        ensures { result ≡ code_of self }
-    {
-        self as u32
+impl From<Refusal> for u32 {
+    ghost from_gives = { λ why code. code ≡ code_of why };
+
+    fn from(why: Refusal) -> u32 {
+        why as u32
     }
 }
 
@@ -90,24 +90,20 @@ pub fn judge(holds: bool, why: Refusal) -> Result<(), Refusal>
     if holds { Ok(()) } else { Err(why) }
 }
 
-impl Where {
-    #[tactic(auto, using(crate::proofs::PlaceLaws::place_laws))]
-    fn positions(self) -> Positions
-        ensures { result ≡ positions_of self }
-    {
-        match self {
+impl From<Where> for Positions {
+    ghost from_gives = { λ place positions. positions ≡ positions_of place };
+
+    fn from(place: Where) -> Positions {
+        match place {
             Where::Nowhere => Positions {
                 option: NOWHERE,
                 part: NOWHERE,
             },
             Where::Part(part) => Positions {
                 option: NOWHERE,
-                part: part,
+                part,
             },
-            Where::Option(option, part) => Positions {
-                option: option,
-                part: part,
-            },
+            Where::Option(option, part) => Positions { option, part },
         }
     }
 }
@@ -127,10 +123,8 @@ pub fn bare(why: Refusal) -> Cause
 pub fn refused_for(cause: Cause) -> Answer
     ensures { result ≡ refused_for cause }
 {
-    let why = cause.why;
-    let place = cause.place;
-    let code = why.code();
-    let positions = place.positions();
+    let code = u32::from(cause.why);
+    let positions = Positions::from(cause.place);
     Answer {
         reply: code / 100,
         second: code % 100,
@@ -203,55 +197,30 @@ pub fn answer_for(length: u32, verdict: Result<(), Refusal>) -> Answer
     }
 }
 
-// The longest name has 37 bytes.
-const MOST_NAME: usize = 40;
-
-// A name: the first `length` of the bytes. No contract says what the others are.
-#[derive(Clone, Copy)]
-pub struct Name {
-    pub bytes: [u8; MOST_NAME],
-    pub length: usize,
-}
-
 // The bytes of a row of the table of names: the number, the second word, the length of the name, the name and blanks.
 const ROW: usize = 43;
 
-// A text as a name.
-#[tactic(auto, using(crate::proofs::Names::spelling_laws))]
-fn spelled(text: &[u8]) -> Name
-    requires { length text.now ≤ most_name }
-    ensures is { text_of result ≡ text.now }
-    ensures within { result.length ≤ most_name }
-{
-    let mut bytes = [0u8; MOST_NAME];
-    let length = text.len();
-    bytes[..length].copy_from_slice(text);
-    Name { bytes, length }
-}
-
 // The name that a table has for this number and this second word, empty where it has none.
-fn look_up(rows: &[u8], reply: u32, second: u32) -> Name
+fn look_up(rows: &[u8], reply: u32, second: u32) -> &[u8]
     requires { Tabled rows.now }
-    ensures is { NameOf reply second (text_of result) }
-    ensures within { result.length ≤ most_name }
+    ensures { NameOf reply second result.now }
 {
     let mut at = 0;
     while at < rows.len() {
         if (wide(rows[at]) == reply as usize) & (wide(rows[at + 1]) == second as usize) {
             let from = at + 3;
             let to = from + wide(rows[at + 2]);
-            return spelled(&rows[from..to]);
+            return &rows[from..to];
         }
         at += ROW;
     }
-    spelled(&rows[..0])
+    &rows[..0]
 }
 
 // The name of the refusal that has this number and this second word, empty where there is none: 01's table, a row for each refusal.
 #[tactic(auto, using(crate::proofs::Names::rows_tabled))]
-pub fn name_of(reply: u32, second: u32) -> Name
-    ensures is { NameOf reply second (text_of result) }
-    ensures within { result.length ≤ most_name }
+pub fn name_of(reply: u32, second: u32) -> &'static [u8]
+    ensures { NameOf reply second result.now }
 {
     look_up(
         b"\

@@ -7,9 +7,6 @@ ghost use Rattle.entries.specs.Tree.{words};
 
 use entries::Row;
 
-// The words of a row.
-const ROW_WORDS: usize = 8;
-
 // The eight words of a row, from a place on, as far as there is room; and the place after them.
 pub fn put_row(out: &mut [u32], at: usize, row: Row) -> usize
     requires { at < 2 ^ 63 }
@@ -26,6 +23,5 @@ pub fn put_row(out: &mut [u32], at: usize, row: Row) -> usize
         (row.entry.value % 0x1_0000_0000) as u32,
         (row.entry.value / 0x1_0000_0000) as u32,
     ];
-    emit::put_words(&words, out, at);
-    at + ROW_WORDS
+    octets::put_all(out, at, &words)
 }

@@ -1,17 +1,16 @@
 // The parts of an example.
+use field::fields::Fields;
 
 // The payload of the first field of a tag, empty where there is none.
-#[tactic(auto, using(crate::proofs::CaseLaws::case_laws))]
+#[tactic(auto, using(field::proofs::InFields::over_all))]
 pub fn part(c: &[u8], tag: u8) -> &[u8] {
-    let mut at = 0;
-    while at < c.len() {
-        let Some(field) = field::field_at(c, at, c.len()) else {
+    for field in Fields::between(c, 0, c.len()) {
+        let Some(field) = field else {
             return &c[..0];
         };
         if field.tag == tag {
             return &c[field.from..field.to];
         }
-        at = field.to;
     }
     &c[..0]
 }

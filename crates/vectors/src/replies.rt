@@ -1,5 +1,5 @@
 // 01's table of replies: the number, the second word and the name of each refusal.
-use crate::case::{begins, number_of, word_of};
+use crate::case::{number_of, word_of};
 use reply::Refusal;
 
 // The refusals in the order of the table.
@@ -32,8 +32,6 @@ fn refusal_at(place: u32) -> Refusal {
 pub fn is_row(place: &[u8], want: &[u8], name: &[u8]) -> bool {
     let a = reply::refused(refusal_at(word_of(place)));
     let row = a.reply as u64 * 0x1_0000_0000 + a.second as u64;
-    let found = reply::name_of(a.reply, a.second);
-    let bytes = found.bytes;
-    let named = begins(&bytes, found.length, name);
+    let named = reply::name_of(a.reply, a.second) == name;
     (row == number_of(want)) & (a.absent == 0) & (a.length == 0) & named
 }

@@ -7,8 +7,9 @@
 --   Declares joins n k ws ws' r <-> of parts that come to n, the k-th first, the code's answer is r, with their keys behind the first k of ws
 --
 -- Assumes nothing.
-use Rattle.std.specs.Prelude.{◌≡◌, Bool, List, [], ◌∷◌, map, ℕ, ◌+◌, ◌*◌, ◌^◌, ◌≤◌, length, Result}
+use Rattle.std.specs.Prelude.{◌≡◌, Bool, List, [], ◌∷◌, map, ℕ, ◌+◌, ◌*◌, ◌^◌, ◌≤◌, length, Err, Ok, Result}
 use Rattle.reply.specs.declared.Refusal.{Refusal}
+use Rattle.reply.specs.declared.Cause.{Cause}
 use Rattle.field.specs.Walk.{walk}
 use Rattle.sheet.specs.declared.declaration.Declaration.{Declaration}
 use Rattle.request.specs.declared.name.Part.{Part}
@@ -17,7 +18,7 @@ use Rattle.optionform.specs.inner.Parts.{NameParts}
 use Rattle.lookups.specs.Lookups.{Lookups}
 use Rattle.following.specs.inner.Keys.{key_of, key_words, keys_from, keys_at}
 use Rattle.naming.specs.declared.Naming.{Naming}
-use Rattle.naming.specs.declared.Naming.TheVariants.{Parts, Group, Refused}
+use Rattle.naming.specs.declared.Naming.TheVariants.{Parts, Group}
 use Rattle.naming.specs.Name.{Named, names, group, refused_at, of_part, also, on_step, left, declarations}
 use Rattle.steps.specs.declared.Lack.{Lack}
 
@@ -37,8 +38,8 @@ pub record Namable (q scope : List ℕ) (at index : ℕ) (words : List ℕ) : Ty
   pub few : length words ≤ 2 ^ 32
 
 -- the keys of the parts before stay
-pub data Declares (joins : Declaration → Bool) : Named → (index : ℕ) (before after : List ℕ) → Naming → Type 0 where
+pub data Declares (joins : Declaration → Bool) : Named → (index : ℕ) (before after : List ℕ) → Result Naming Cause → Type 0 where
   declares : {ds : List Declaration} {k n : ℕ} {ws ws' : List ℕ} → n ≡ k + length ds → keys_from ws' k (length ds) ≡ map (key_of joins) ds
-      → keys_at ws' k ≡ keys_at ws k → Declares joins (names ds) k ws ws' (Parts n)
-  leaves-group : {k : ℕ} {ws ws' : List ℕ} → Declares joins group k ws ws' Group
-  refuses : {k i : ℕ} {w : Refusal} {ws ws' : List ℕ} → Declares joins (refused_at i w) k ws ws' (Refused (of_part i w))
+      → keys_at ws' k ≡ keys_at ws k → Declares joins (names ds) k ws ws' (Ok (Parts n))
+  leaves-group : {k : ℕ} {ws ws' : List ℕ} → Declares joins group k ws ws' (Ok Group)
+  refuses : {k i : ℕ} {w : Refusal} {ws ws' : List ℕ} → Declares joins (refused_at i w) k ws ws' (Err (of_part i w))

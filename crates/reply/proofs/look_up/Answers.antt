@@ -6,11 +6,8 @@ use Rattle.reply.proofs.look_up.Goals as goal
 pub loop-at-init : goal.loop-at-init
 loop-at-init c = search look_up_laws
 
-pub slice_bounds-spelled-end : goal.slice_bounds-spelled-end
-slice_bounds-spelled-end c = search look_up_laws
-
-pub spelled-requires : goal.spelled-requires
-spelled-requires c = search look_up_laws
+pub slice_bounds-result-end : goal.slice_bounds-result-end
+slice_bounds-result-end c = search look_up_laws
 
 pub returns-then-wide-reply : goal.returns-then-wide-reply
 returns-then-wide-reply c = search look_up_laws

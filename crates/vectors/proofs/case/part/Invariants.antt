@@ -1,10 +1,8 @@
--- `vectors::case::part` meets its contract, by its loop's invariant and laws.
+-- `vectors::case::part` meets its contract.
 -- Assumes nothing.
-use Rattle.std.specs.Prelude.{◌-◌, ◌≤◌, length}
+use Rattle.std.specs.Prelude.{length}
+use Rattle.field.proofs.InFields.{Over}
 use Rattle.vectors.proofs.case.part.Given as goal
 
-abbrev pub invariant-loop-at : goal.invariant-loop-at
-invariant-loop-at l = l.at ≤ length l.c
-
-abbrev pub decreases-loop-at : goal.decreases-loop-at
-decreases-loop-at l = length l.c - l.at
+abbrev pub invariant-loop-field : goal.invariant-loop-field
+invariant-loop-field l = Over l.field-iterator l.c (length l.c)
