@@ -38,9 +38,9 @@ fn read_by(buffer: &mut [u8], out: &mut [u8]) -> Option<usize>
 
 // Answers the cases of an input of `end` bytes one after the other, of which there has to be one: each says where the next one starts, none
 // where it is no such fields.
-pub fn each_case<F: FnMut(usize) -> Option<usize>>(end: usize, mut answer: F)
-    requires callable { (state : F) (at : ℕ) → at ≤ end → F.pre state at }
-    requires inside { (state then : F) (at : ℕ) (next : Option ℕ) → F.step state at next then → IfSome next (λ place. place ≤ end) }
+pub fn each_case<F: Fn(usize) -> Option<usize>>(end: usize, answer: F)
+    requires callable { (at : ℕ) → at ≤ end → F.pre answer at }
+    requires inside { (at : ℕ) (next : Option ℕ) → F.post answer at next → IfSome next (λ place. place ≤ end) }
 {
     let mut at = 0;
     while let Some(next) = answer(at) {

@@ -40,10 +40,10 @@ fn tell_read(older: &[u8], newer: &[u8], request: &[u8], bytes: &[u8]) {
     let Some(heading) = heading_of(request) else {
         return;
     };
-    let Some(Span { from, to }) = span_in(request, heading.options_type) else {
+    let Some(place) = span_in(request, heading.options_type) else {
         return;
     };
-    tell_bytes(older, newer, &request[from..to], bytes);
+    tell_bytes(older, newer, &request[place.from..place.to], bytes);
 }
 
 // As `tell_request`, with room for the option bytes.
