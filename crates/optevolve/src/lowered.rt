@@ -47,6 +47,7 @@ fn tell_read(older: &[u8], newer: &[u8], request: &[u8], bytes: &[u8]) {
 }
 
 // As `tell_request`, with room for the option bytes.
+#[tactic(auto, using(crate::proofs::CaseLaws::case_laws))]
 fn lower_over(older: &[u8], newer: &[u8], request: &[u8], out: &mut [u8]) {
     let answer = resolver::resolve(newer, request, out);
     option_bytes(answer, out);

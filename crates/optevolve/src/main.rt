@@ -20,6 +20,7 @@ const SHEET: u8 = 0x40;
 const REQUEST: u8 = 0x41;
 
 // A case of these two sheets, whose request, if it has one, stands at a place; and where the next case starts.
+#[tactic(auto, using(crate::proofs::CaseLaws::case_laws))]
 fn answer_case(s: &[u8], older: &[u8], newer: &[u8], at: usize) -> usize
     requires { at ≤ length s.now }
     ensures { result ≤ length s.now }
@@ -35,6 +36,7 @@ fn answer_case(s: &[u8], older: &[u8], newer: &[u8], at: usize) -> usize
 }
 
 // The case at a place, and where the next one starts; 0 where the input is no such fields.
+#[tactic(auto, using(crate::proofs::CaseLaws::case_laws))]
 fn compare_case(s: &[u8], at: usize) -> usize
     requires { at ≤ length s.now }
     ensures { result ≤ length s.now }
@@ -45,7 +47,12 @@ fn compare_case(s: &[u8], at: usize) -> usize
     let Some(newer) = field_of(s, older.to, SHEET) else {
         return 0;
     };
-    answer_case(s, &s[older.from..older.to], &s[newer.from..newer.to], newer.to)
+    answer_case(
+        s,
+        &s[older.from..older.to],
+        &s[newer.from..newer.to],
+        newer.to,
+    )
 }
 
 // All cases, of which there has to be one.
@@ -64,6 +71,7 @@ fn compare_cases(s: &[u8]) {
 }
 
 // Standard input, read into a lent buffer.
+#[tactic(auto, using(crate::proofs::CaseLaws::case_laws))]
 fn run_over(buffer: &mut [u8]) {
     let Some(n) = console::input::read(buffer) else {
         return;

@@ -5,6 +5,7 @@
 --                          behind passed f w ==  the same, behind what is passed
 --   Finding f s from to i at before room k p <-> at the place p, the i-th of what f gives of all fields is the k-th of what it gives of
 --                                                those that are left, and the room has the first `at` bytes of `before`
+--          FindingIn f s from to i at before room k it <-> so it is where the walk `it` goes on
 --
 -- The laws:
 --   finding-start  at the first place all are left
@@ -14,6 +15,7 @@
 --   finding-roomy  the room has as many bytes as the sheet
 --   finding-ahead  the field that stands there starts behind the bytes that are kept
 --    finding-next  where it stands further on, the loop goes on from the field's end
+--    the others are these laws, of a `Fields`
 --
 -- Assumes nothing.
 use Rattle.std.specs.Prelude.{◌≡◌, refl, List, [], ◌++◌, ℕ, ◌≤◌, ◌<◌, length, take, None, Some, Option, Result, Ok, Err}
@@ -24,6 +26,9 @@ use lib.Seq.{length-take-le}
 use Rattle.field.specs.Field.{field_at}
 use Rattle.field.specs.Walk.{Walk, done, cut, step, walk}
 use Rattle.field.proofs.FieldLaws.{field-bounds}
+use Rattle.field.specs.declared.fields.Fields.{Fields}
+use Rattle.field.specs.Fields.{Goes}
+use Rattle.field.proofs.InFields.{Over, over-before, over-read, over-next, over-at, over-ordered, over-within}
 use Rattle.field.proofs.Rest.{Rest, rest-start, rest_end, rest-cut, rest-step, rest-next}
 use Rattle.names.specs.Names.{Named}
 use Rattle.roster.specs.declared.Nth.{Nth}
@@ -118,3 +123,51 @@ module _ (f : ℕ → ℕ → ℕ → List Named) (s : List ℕ) (from to i at :
               ahead = omega (arith, x.ahead, b.starts, b.ordered);
               roomy = x.roomy;
             }
+
+-- ---- the same, of the walk that a `Fields` is
+pub record FindingIn (f : (tag from to : ℕ) → List Named) (s : List ℕ) (from to i at : ℕ) (before room : List ℕ) (k : ℕ) (it : Fields) : Type 0 where
+  pub over : Over it s to
+  pub left : Finding f s from to i at before room k it.at
+
+pub finding-in-start : (f : ℕ → ℕ → ℕ → List Named) (s : List ℕ) (from to i at : ℕ) (before : List ℕ) (it : Fields)
+    → it.bytes.now ≡ s → it.at ≡ from → it.end ≡ to → from ≤ to → to ≤ length s → at ≤ from → length s ≤ length before
+    → FindingIn f s from to i at before before i it
+finding-in-start f s from to i at before it b a e h g l m =
+    record { over = record { bytes = b; end = e }; left = rw a (finding-start f s from to i at before h g l m) }
+
+module _ (f : ℕ → ℕ → ℕ → List Named) (s : List ℕ) (from to i at : ℕ) (before room : List ℕ) (k : ℕ) (it : Fields)
+    (x : FindingIn f s from to i at before room k it) where
+  pub finding-in-roomy : length s ≤ length room
+  finding-in-roomy = finding-roomy f s from to i at before room k it.at x.left
+
+  pub finding-in-end : it.end ≤ it.at → Finds (in_turn f (walk s from to)) i at before room (Err k)
+  finding-in-end h = finding-end f s from to i at before room k it.at x.left (rw (← x.over.end) h)
+
+  module _ (it' : Fields) (r : Option Field) (w : Goes it it' r) where
+    pub finding-in-cut : r ≡ None → Finds (in_turn f (walk s from to)) i at before room (Err k)
+    finding-in-cut = finding-cut f s from to i at before room k it.at x.left (over-before x.over it' r w) r (over-read x.over it' r w)
+
+    module _ (here : Field) (g : r ≡ Some here) where
+      pub finding-in-ahead : at ≤ here.from
+      finding-in-ahead =
+          finding-ahead f s from to i at before room k it.at x.left (over-before x.over it' r w) r (over-read x.over it' r w) here g
+
+      pub finding-in-ordered : here.from ≤ here.to
+      finding-in-ordered = over-ordered x.over it' r w here g
+
+      pub finding-in-within : to ≤ length s → here.to ≤ length s
+      finding-in-within h = over-within x.over it' r w here g h
+
+      module _ (after : List ℕ) (y : Result Nth ℕ) (z : Finds (f here.tag here.from here.to) k at room after y) where
+        pub finding-in-hit : (n : Nth) → y ≡ Ok n → Finds (in_turn f (walk s from to)) i at before after (Ok n)
+        finding-in-hit =
+            finding-hit f s from to i at before room k it.at x.left (over-before x.over it' r w) r (over-read x.over it' r w) here g after y z
+
+        pub finding-in-next : (j : ℕ) → y ≡ Err j → FindingIn f s from to i at before after j it'
+        finding-in-next j v = record {
+          over = over-next x.over it' r w;
+          left = rw (over-at x.over it' r w here g)
+              (finding-next f s from to i at before room k it.at x.left (over-before x.over it' r w) r (over-read x.over it' r w) here g after y z j v);
+        }
+
+pub ruleset finding_in_laws = (finding-in-roomy, finding-in-ahead, finding-in-ordered, finding-in-within)

@@ -15,10 +15,9 @@ use Rattle.octets.specs.Octets.{part}
 use Rattle.octets.specs.inner.Laid.{Laid}
 use Rattle.octets.proofs.Parts.{part-nil, part_length}
 use Rattle.field.specs.declared.Span.{Span}
-use Rattle.field.specs.Field.{header, field_at}
+use Rattle.field.specs.Field.{header}
 use Rattle.field.specs.Leaf.{span, text, any_bytes, leaf_at}
 use Rattle.field.specs.Walk.{Walk, done, cut, step, walk}
-use Rattle.field.proofs.FieldLaws.{field_place_laws}
 use Rattle.field.proofs.LeafLaws.{leaf-bounds, leaf-ordered, leaf-within, on-leaf-some}
 use Rattle.sheet.specs.declared.declaration.Declaration.{Declaration}
 use Rattle.sheet.specs.Table.{file_tag, message_tag, extension_tag, enum_tag, package_tag, name_tag, extendee_tag}
@@ -40,8 +39,10 @@ use Rattle.roster.specs.inner.Nth.{borne, nowhere_in, Spelt, Finds}
 use Rattle.roster.proofs.NthLaws.{dotted, Same, finds-same, same_refl, same-trans, same-append, scope-same, index_same}
 use Rattle.roster.proofs.NthLaws.{finds-none, finds_past, finds-first, finds-behind, finds-suc}
 use Rattle.roster.proofs.NthLaws.{laid-spelt, spelt-length, spelt-inside}
-use Rattle.roster.proofs.Finding.{in_turn, Finding, finding-start, finding-end, finding-cut, finding-hit, finding-next}
-use Rattle.roster.proofs.Finding.{finding-roomy, finding-ahead}
+use Rattle.field.specs.declared.fields.Fields.{Fields}
+use Rattle.field.specs.Fields.{Goes}
+use Rattle.roster.proofs.Finding.{in_turn, FindingIn, finding-in-start, finding-in-end, finding-in-cut, finding-in-hit, finding-in-next}
+use Rattle.roster.proofs.Finding.{finding_in_laws}
 use Rattle.field.specs.declared.Field.{Field}
 use Rattle.sheet.specs.declared.declaration.Shape.{Shape}
 
@@ -225,31 +226,35 @@ items-gathered s q d (step t a e w) =
     item-splits s q d t a e (items_in d s w) ∙ ap (λ (l : List Named). in_item s q d t a e ++ l) (items-gathered s q d w)
 
 module _ (s : List ℕ) (d from to i at : ℕ) (before : List ℕ) where
-  pub items-start : from ≤ to → to ≤ length s → at ≤ from → length s ≤ length before
-      → Finding (in_item s (take at before) d) s from to i at before before i from
-  items-start = finding-start (in_item s (take at before) d) s from to i at before
+  abbrev items_found : (after : List ℕ) → Result Nth ℕ → Type 0
+  items_found after r = Finds (declared_in s (take at before) nowhere_in (items_in d s (walk s from to))) i at before after r
 
-  module _ (room : List ℕ) (k p : ℕ) (x : Finding (in_item s (take at before) d) s from to i at before room k p) where
-    pub items-end : to ≤ p → Finds (declared_in s (take at before) nowhere_in (items_in d s (walk s from to))) i at before room (Err k)
-    items-end h = rw (items-gathered s (take at before) d (walk s from to)) (finding-end _ s from to i at before room k p x h)
+  pub items-start : (it : Fields) → it.bytes.now ≡ s → it.at ≡ from → it.end ≡ to → from ≤ to → to ≤ length s → at ≤ from
+      → length s ≤ length before → FindingIn (in_item s (take at before) d) s from to i at before before i it
+  items-start = finding-in-start (in_item s (take at before) d) s from to i at before
 
-    module _ (h : p < to) (r : Option Field) (q : r ≡ field_at s p to) where
-      pub items-cut : r ≡ None → Finds (declared_in s (take at before) nowhere_in (items_in d s (walk s from to))) i at before room (Err k)
-      items-cut g = rw (items-gathered s (take at before) d (walk s from to)) (finding-cut _ s from to i at before room k p x h r q g)
+  module _ (room : List ℕ) (k : ℕ) (it : Fields) (x : FindingIn (in_item s (take at before) d) s from to i at before room k it) where
+    items-is : (after : List ℕ) (r : Result Nth ℕ) → Finds (in_turn (in_item s (take at before) d) (walk s from to)) i at before after r
+        → items_found after r
+    items-is after r f = rw (items-gathered s (take at before) d (walk s from to)) f
+
+    pub items-end : it.end ≤ it.at → items_found room (Err k)
+    items-end h = items-is room (Err k) (finding-in-end _ s from to i at before room k it x h)
+
+    module _ (it' : Fields) (r : Option Field) (w : Goes it it' r) where
+      pub items-cut : r ≡ None → items_found room (Err k)
+      items-cut g = items-is room (Err k) (finding-in-cut _ s from to i at before room k it x it' r w g)
 
       module _ (f : Field) (g : r ≡ Some f) (after : List ℕ) (y : Result Nth ℕ)
           (z : Finds (declared_in s (take at room) nowhere_in (item_at d s f.tag f.from f.to)) k at room after y) where
-        pub items-hit : (n : Nth) → y ≡ Ok n
-            → Finds (declared_in s (take at before) nowhere_in (items_in d s (walk s from to))) i at before after (Ok n)
+        pub items-hit : (n : Nth) → y ≡ Ok n → items_found after (Ok n)
         items-hit n v =
-            rw (items-gathered s (take at before) d (walk s from to))
-            (finding-hit _ s from to i at before room k p x h r q f g after y (rw x.kept at z) n v)
+            items-is after (Ok n) (finding-in-hit _ s from to i at before room k it x it' r w f g after y (rw x.left.kept at z) n v)
 
-        pub items-next : (j : ℕ) → y ≡ Err j → Finding (in_item s (take at before) d) s from to i at before after j f.to
-        items-next = finding-next _ s from to i at before room k p x h r q f g after y (rw x.kept at z)
+        pub items-next : (j : ℕ) → y ≡ Err j → FindingIn (in_item s (take at before) d) s from to i at before after j it'
+        items-next = finding-in-next _ s from to i at before room k it x it' r w f g after y (rw x.left.kept at z)
 
-pub ruleset items_laws =
-    (items-start, items-end, items-cut, items-hit, items-next, finding-roomy, finding-ahead, field_place_laws)
+pub ruleset items_laws = (items-start, items-end, items-cut, items-hit, items-next, finding_in_laws)
 
 -- ---- nth_in_file
 front-dotted : (t : List ℕ) → (length t ≡ 0 → ⊥) → file_front t ≡ inside t
@@ -315,25 +320,24 @@ module _ (s : List ℕ) (to i : ℕ) (before : List ℕ) (c : to ≡ length s) w
   unfolding every_declared
   declared-is after r f = rw (tree-files s, ← c) (finds-same (files-gathered s (walk s 0 to)) f)
 
-  pub declared-start : length s ≤ length before → Finding (in_file s) s 0 to i 0 before before i 0
-  declared-start = finding-start (in_file s) s 0 to i 0 before (omega arith) (omega arith) (omega arith)
+  pub declared-start : (it : Fields) → it.bytes.now ≡ s → it.at ≡ 0 → it.end ≡ to → length s ≤ length before
+      → FindingIn (in_file s) s 0 to i 0 before before i it
+  declared-start it b a e h = finding-in-start (in_file s) s 0 to i 0 before it b a e (omega arith) (omega arith) (omega arith) h
 
-  module _ (room : List ℕ) (k p : ℕ) (x : Finding (in_file s) s 0 to i 0 before room k p) where
-    pub declared-end : to ≤ p → Finds (every_declared s) i 0 before room (Err k)
-    declared-end h = declared-is room (Err k) (finding-end _ s 0 to i 0 before room k p x h)
+  module _ (room : List ℕ) (k : ℕ) (it : Fields) (x : FindingIn (in_file s) s 0 to i 0 before room k it) where
+    pub declared-end : it.end ≤ it.at → Finds (every_declared s) i 0 before room (Err k)
+    declared-end h = declared-is room (Err k) (finding-in-end _ s 0 to i 0 before room k it x h)
 
-    module _ (h : p < to) (r : Option Field) (q : r ≡ field_at s p to) where
+    module _ (it' : Fields) (r : Option Field) (w : Goes it it' r) where
       pub declared-cut : r ≡ None → Finds (every_declared s) i 0 before room (Err k)
-      declared-cut g = declared-is room (Err k) (finding-cut _ s 0 to i 0 before room k p x h r q g)
+      declared-cut g = declared-is room (Err k) (finding-in-cut _ s 0 to i 0 before room k it x it' r w g)
 
       module _ (f : Field) (g : r ≡ Some f) (after : List ℕ) (y : Result Nth ℕ)
           (z : Finds (declared_by s 0 (file_at s f.tag f.from f.to)) k 0 room after y) where
         pub declared-hit : (n : Nth) → y ≡ Ok n → Finds (every_declared s) i 0 before after (Ok n)
-        declared-hit n v =
-            declared-is after (Ok n) (finding-hit _ s 0 to i 0 before room k p x h r q f g after y z n v)
+        declared-hit n v = declared-is after (Ok n) (finding-in-hit _ s 0 to i 0 before room k it x it' r w f g after y z n v)
 
-        pub declared-next : (j : ℕ) → y ≡ Err j → Finding (in_file s) s 0 to i 0 before after j f.to
-        declared-next = finding-next _ s 0 to i 0 before room k p x h r q f g after y z
+        pub declared-next : (j : ℕ) → y ≡ Err j → FindingIn (in_file s) s 0 to i 0 before after j it'
+        declared-next = finding-in-next _ s 0 to i 0 before room k it x it' r w f g after y z
 
-pub ruleset declared_laws =
-    (declared-start, declared-end, declared-cut, declared-hit, declared-next, finding-roomy, field_place_laws)
+pub ruleset declared_laws = (declared-start, declared-end, declared-cut, declared-hit, declared-next, finding_in_laws)

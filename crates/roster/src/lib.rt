@@ -11,7 +11,8 @@ ghost use Rattle.scope.specs.inner.Steps.{item_at, file_at};
 ghost use Rattle.names.specs.Names.{inside, declared_in, declared_by, every_declared};
 ghost use Rattle.roster.specs.inner.Nth.{nowhere_in, Spelt, Finds};
 
-use field::{Span, field_at, leaf_at};
+use field::fields::Fields;
+use field::{Span, leaf_at};
 use limits::MOST_MESSAGES;
 use octets::{put, put_all};
 use sheet::declaration::{Declaration, extension_at};
@@ -183,11 +184,9 @@ fn nth_in_items(
     ensures { Finds (declared_in s.now (take at room.old) nowhere_in
         (items_in left s.now (walk s.now body.from body.to))) i at room.old room.new result }
 {
-    let end = body.to;
     let mut k = i;
-    let mut p = body.from;
-    while p < end {
-        let Some(field) = field_at(s, p, end) else {
+    for field in Fields::between(s, body.from, body.to) {
+        let Some(field) = field else {
             return Err(k);
         };
         let item = Span {
@@ -198,7 +197,6 @@ fn nth_in_items(
             Ok(nth) => return Ok(nth),
             Err(rest) => k = rest,
         }
-        p = field.to;
     }
     Err(k)
 }
@@ -235,11 +233,9 @@ pub fn nth_declared(s: &[u8], room: &mut [u8], i: usize) -> Result<Nth, usize>
     requires { length s.now ≤ length room.old }
     ensures { Finds (every_declared s.now) i 0 room.old room.new result }
 {
-    let end = s.len();
     let mut k = i;
-    let mut p = 0;
-    while p < end {
-        let Some(field) = field_at(s, p, end) else {
+    for field in Fields::between(s, 0, s.len()) {
+        let Some(field) = field else {
             return Err(k);
         };
         let item = Span {
@@ -250,7 +246,6 @@ pub fn nth_declared(s: &[u8], room: &mut [u8], i: usize) -> Result<Nth, usize>
             Ok(nth) => return Ok(nth),
             Err(rest) => k = rest,
         }
-        p = field.to;
     }
     Err(k)
 }
