@@ -19,7 +19,7 @@ import pathlib
 import re
 import sys
 
-from proofs import SEARCH, check, files_of, parts, write
+from proofs import SEARCH, check, files_of, named, parts, write
 
 OPEN = re.compile(r"(?m)^fn \S+: no proof: expected answers in (\./proofs/\S+\.antt); .* did not prove (.*)$")
 REFUSED = re.compile(r"(?m)^(\./proofs/\S+/Answers\.antt):\d+:\d+: error: `(try-\d+-\d+)`")
@@ -98,9 +98,9 @@ def fewer(crate, old, blocks):
         trial = list(blocks[path])
         for n, block in enumerate(blocks[path]):
             search = SEARCH.match(block)
-            for k, way in enumerate(ways(re.split(r",\s*", search.group(3) or search.group(4))) if search else ()):
-                name = "try-%d-%d" % (n, k)
-                trial.append("%s : goal.%s\n%s%s = %s" % (name, search.group(1), name, search.group(2), way))
+            for k, way in enumerate(ways(named(search)) if search else ()):
+                name, front = "try-%d-%d" % (n, k), search.group(3) or ""
+                trial.append("%s : goal.%s\n%s%s = %s%s%s" % (name, search.group(1), name, search.group(2), front, way, ")" if front else ""))
                 tries[path, name] = n, way
         shown(path, trial, text)
     if not tries:
@@ -111,7 +111,7 @@ def fewer(crate, old, blocks):
         if (path, name) not in refused:
             chosen.setdefault((path, n), way)
     for (path, n), way in chosen.items():
-        blocks[path][n] = re.sub(r"search (?:\([^()]*\)|\S+)\s*\Z", way, blocks[path][n])
+        blocks[path][n] = re.sub(r"search (?:\([^()]*\)|[^\s()]+)(\)?)\s*\Z", lambda found: way + found.group(1), blocks[path][n])
     return len(chosen)
 
 

@@ -4,7 +4,8 @@
 usage: python3 tools/snake.py        at the top, once, on what the kit's port.py wrote
 
 A word of antt is in snake case, a type or a module in camel case, a fact too. Words in quotes keep their text, and so do names of src/: these
-were in snake case before.
+were in snake case before. It fits the commit that docs/PORT.md names second and no later one: today definitions stand in proofs under names
+that it would take for lemmas.
 """
 
 import os

@@ -1,6 +1,6 @@
 // The fields that a program is given. Where the input is not what the program names, one line that begins `input: ` says what is
 // wrong and where, and nothing after that place is answered.
-ghost use Rattle.std.specs.Prelude.{◌≡◌, ◌-◌, ◌%◌, ◌≤◌, eqb, length};
+ghost use Rattle.std.specs.Prelude.{◌≡◌, ℕ, ◌-◌, ◌%◌, ◌≤◌, eqb, length, Option, IfSome};
 ghost use Rattle.field.specs.Leaf.{any_bytes, leaf_at};
 ghost use Rattle.console.specs.Input.{Fills};
 
@@ -34,6 +34,21 @@ fn read_by(buffer: &mut [u8], out: &mut [u8]) -> Option<usize>
     }
     let found = decode(&buffer[..n], out);
     taken(found, out.len())
+}
+
+// Answers the cases of an input of `end` bytes one after the other, of which there has to be one: each says where the next one starts, none
+// where it is no such fields.
+pub fn each_case<F: Fn(usize) -> Option<usize>>(end: usize, answer: F)
+    requires callable { (at : ℕ) → at ≤ end → F.pre answer at }
+    requires inside { (at : ℕ) (next : Option ℕ) → F.post answer at next → IfSome next (λ place. place ≤ end) }
+{
+    let mut at = 0;
+    while let Some(next) = answer(at) {
+        if (next <= at) | (next == end) {
+            return;
+        }
+        at = next;
+    }
 }
 
 // What was decoded, where there is room for it.

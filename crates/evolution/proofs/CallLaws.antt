@@ -1,6 +1,6 @@
 -- The laws of the calls: no reason is found exactly where a sheet is clean, or contained in another; and what a call answers of that.
 -- Assumes nothing.
-use Rattle.std.specs.Prelude.{◌≡◌, refl, Bool, true, false, ◌&&◌, List, ℕ, ◌≤◌, ◌<◌, length, Err}
+use Rattle.std.specs.Prelude.{◌≡◌, refl, Bool, true, false, ◌&&◌, List, ℕ, ◌≤◌, ◌<◌, length, Err, Option, None}
 use Rattle.basis.specs.Kit.{sym, ap, ◌∙◌}
 use Rattle.basis.specs.Count.{once, every}
 use Rattle.basis.proofs.Kit.{lt-ltb, le-ltb}
@@ -18,7 +18,6 @@ use Rattle.names.specs.Clean.{clean_name, members_of, named_once, clean_extendee
 use Rattle.names.specs.Contained.{kept_number, kept_at, contained}
 use Rattle.reasons.specs.declared.Why.TheVariants as why
 use Rattle.reasons.specs.declared.Reason.{Reason}
-use Rattle.reasons.specs.declared.Reason.TheVariants.{Yes}
 use Rattle.reasons.specs.Reasons.{holds, or_no, member_flaws, member_why, number_flaw, flaw_of, clean_reason}
 use Rattle.reasons.specs.Reasons.{number_loss, loss_of, contained_reason}
 use Rattle.reasons.proofs.ReasonLaws.{holds-or-no, holds-also, holds-reasons, holds-reasons-from}
@@ -67,21 +66,21 @@ module _ (s t : List ℕ) where
 
 -- ---- the reasons
 module _ (q : Question) (s t : List ℕ) where
-  pub why-long : most_sheet < length s → Yes ≡ why_not q s t
+  pub why-long : most_sheet < length s → None ≡ why_not q s t
   unfolding why_not
   why-long h = rw (lt-ltb most_sheet (length s) h) refl
 
-  pub why-short : length s ≤ most_sheet → (r : Reason) → r ≡ first_reason q s t → r ≡ why_not q s t
+  pub why-short : length s ≤ most_sheet → (r : Option Reason) → r ≡ first_reason q s t → r ≡ why_not q s t
   unfolding why_not
   why-short h r p = p ∙ rw (le-ltb most_sheet (length s) h) refl
 
 pub ruleset why_not_laws = (why-long, why-short)
 
-pub unclean_is : (s : List ℕ) (r : Reason) → r ≡ why_not Clean s s → r ≡ why_unclean s
+pub unclean_is : (s : List ℕ) (r : Option Reason) → r ≡ why_not Clean s s → r ≡ why_unclean s
 unfolding why_not why_unclean
 unclean_is s r p = p
 
-pub uncontained_is : (s t : List ℕ) (r : Reason) → r ≡ why_not Contained s t → r ≡ why_uncontained s t
+pub uncontained_is : (s t : List ℕ) (r : Option Reason) → r ≡ why_not Contained s t → r ≡ why_uncontained s t
 unfolding why_not why_uncontained
 uncontained_is s t r p = p
 
@@ -101,7 +100,7 @@ module _ (s : List ℕ) (v : Verdict) (q : Says (judge_sheet s) v) where
   short : v ≡ fine → length s ≤ most_sheet
   short g = fine-length s (sheet-length s (sym q.is ∙ g))
 
-  pub clean-asked : v ≡ fine → (r : Reason) → r ≡ why_unclean s → (b : Bool) → b ≡ holds r → (a : Answer) → a ≡ decided b
+  pub clean-asked : v ≡ fine → (r : Option Reason) → r ≡ why_unclean s → (b : Bool) → b ≡ holds r → (a : Answer) → a ≡ decided b
       → a ≡ clean_answer s
   clean-asked g r p b h a u = u ∙ rw (sym q.is ∙ g) (ap decided (h ∙ ap holds (p ∙ unclean-short s (short g)) ∙ clean-holds s))
 
@@ -115,7 +114,7 @@ module _ (s t : List ℕ) (v : Verdict) (q : Says (judge_sheet s) v) where
     pub newer-refused : (w : Refusal) → v' ≡ Err w → (a : Answer) → a ≡ refused_by w → a ≡ contained_answer s t
     newer-refused w g' a u = u ∙ rw (sym q.is ∙ g, sym q'.is ∙ g') refl
 
-    pub contained-asked : v' ≡ fine → (r : Reason) → r ≡ why_uncontained s t → (b : Bool) → b ≡ holds r → (a : Answer) → a ≡ decided b
+    pub contained-asked : v' ≡ fine → (r : Option Reason) → r ≡ why_uncontained s t → (b : Bool) → b ≡ holds r → (a : Answer) → a ≡ decided b
         → a ≡ contained_answer s t
     contained-asked g' r p b h a u =
         u ∙ rw (sym q.is ∙ g, sym q'.is ∙ g') (ap decided (h ∙ ap holds (p ∙ uncontained-short s t (short s v q g)) ∙ contained-holds s t))

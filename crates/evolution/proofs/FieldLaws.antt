@@ -4,7 +4,8 @@ use Rattle.std.specs.Prelude.{◌≡◌, refl, true, false, List, ◌++◌, ℕ,
 use Rattle.basis.specs.Kit.{sym, ap, ◌∙◌}
 use Rattle.field.specs.declared.Span.{Span}
 use Rattle.field.specs.Walk.{Walk, done, cut, step, walk}
-use Rattle.field.proofs.Seek.{seek, seek_is, seek_laws}
+use Rattle.field.proofs.Seek.{seek, seek_is}
+use Rattle.field.proofs.InFields.{sought_laws}
 use Rattle.sheet.specs.declared.declaration.Declaration.{Declaration}
 use Rattle.sheet.specs.Table.{field_tag}
 use Rattle.sheet.specs.Declaration.{message_field_at}
@@ -12,44 +13,43 @@ use Rattle.sheet.specs.Tree.{items_in}
 use Rattle.sheet.specs.Members.{fields_of}
 use Rattle.sheet.proofs.MemberLaws.{listed, fields-item}
 use Rattle.scope.specs.inner.Steps.{declaration_at}
-use Rattle.reasons.specs.declared.Why.{Why}
 use Rattle.reasons.specs.declared.Reason.{Reason}
-use Rattle.reasons.specs.declared.Reason.TheVariants.{Yes, No}
 use Rattle.reasons.specs.Reasons.{also, reasons}
+use Rattle.reasons.proofs.ReasonLaws.{also-no}
 use Rattle.evolution.specs.inner.Bearers.{on_declared, fields_at}
 
 -- ---- a reason that was found is the first
-pub also-stays : (r : Reason) (w : Why) (k : ℕ) (p : Span) → r ≡ No w k p → (q : Reason) → also r q ≡ r
-also-stays r w k p g q = rw g refl
+pub also-stays : (r : Option Reason) (w : Reason) → r ≡ Some w → (q : Option Reason) → also r q ≡ r
+also-stays r w g q = rw g refl
 
 -- ---- one field
-module _ (f : Declaration → Reason) (r x : Option Declaration) (q : r ≡ x) where
-  pub declared-none : r ≡ None → Yes ≡ on_declared f x
+module _ (f : Declaration → Option Reason) (r x : Option Declaration) (q : r ≡ x) where
+  pub declared-none : r ≡ None → None ≡ on_declared f x
   declared-none g = rw (← q, g) refl
 
-  pub declared-one : (d : Declaration) → r ≡ Some d → (u : Reason) → u ≡ f d → u ≡ on_declared f x
+  pub declared-one : (d : Declaration) → r ≡ Some d → (u : Option Reason) → u ≡ f d → u ≡ on_declared f x
   declared-one d g u p = p ∙ rw (← q, g) refl
 
 pub ruleset declared_laws = (declared-none, declared-one)
 
 -- ---- all of them
-abbrev pub field_reason : (Declaration → Reason) → (s : List ℕ) (tag from to : ℕ) → Reason
+abbrev pub field_reason : (Declaration → Option Reason) → (s : List ℕ) (tag from to : ℕ) → Option Reason
 field_reason f s t a e = on_declared f (declaration_at field_tag s t a e)
 
-module _ (f : Declaration → Reason) where
+module _ (f : Declaration → Option Reason) where
   listed-reason : (x : Option Declaration) (ds : List Declaration) → reasons f (listed x ++ ds) ≡ also (on_declared f x) (reasons f ds)
   listed-reason None ds = refl
   listed-reason (Some d) ds = refl
 
-  pub fields-is : (s : List ℕ) (p : Span) (r : Reason) → r ≡ seek Yes also (field_reason f s) (walk s p.from p.to)
+  pub fields-is : (s : List ℕ) (p : Span) (r : Option Reason) → r ≡ seek None also (field_reason f s) (walk s p.from p.to)
       → r ≡ reasons f (fields_at s p)
   unfolding items_in declaration_at
   fields-is s p r q =
-      q ∙ sym (seek_is Yes also (field_reason f s) (λ w. reasons f (fields_of (items_in 0 s w))) refl refl
+      q ∙ sym (seek_is None also (field_reason f s) (λ w. reasons f (fields_of (items_in 0 s w))) refl refl
       (λ t a e w. ap (reasons f) (fields-item 0 s t a e (items_in 0 s w)) ∙ listed-reason (elim (eqb t field_tag) [ true ↦ message_field_at s a e | false ↦ None ]) (fields_of (items_in 0 s w)))
       (walk s p.from p.to))
 
-pub ruleset fields_laws = (fields-is, also-stays, seek_laws)
+pub ruleset fields_laws = (fields-is, also-no, sought_laws)
 
 -- the fields of a message do not depend on how deep messages may lie in it
 pub fields-any : (d d' : ℕ) (s : List ℕ) (w : Walk) → fields_of (items_in d s w) ≡ fields_of (items_in d' s w)

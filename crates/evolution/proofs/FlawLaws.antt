@@ -1,6 +1,6 @@
 -- The laws of flaws: the ways through the functions that look at one declaration, or at one number.
 -- Assumes nothing.
-use Rattle.std.specs.Prelude.{◌≡◌, refl, Bool, true, false, List, ℕ, eqb}
+use Rattle.std.specs.Prelude.{◌≡◌, refl, Bool, true, false, List, ℕ, eqb, Option, Some}
 use Rattle.basis.specs.Kit.{sym, ap, ◌∙◌}
 use Rattle.basis.specs.Count.{once}
 use Rattle.basis.proofs.Kit.{eq-eqb, ne_eqb, not-true, not-false}
@@ -17,8 +17,7 @@ use Rattle.likeness.specs.inner.Likes.{is_like}
 use Rattle.census.specs.inner.Census.{bearing, numbered}
 use Rattle.reasons.specs.declared.Why.TheVariants as why
 use Rattle.reasons.specs.declared.Reason.{Reason}
-use Rattle.reasons.specs.declared.Reason.TheVariants.{No}
-use Rattle.reasons.specs.Reasons.{or_no, number_flaw}
+use Rattle.reasons.specs.Reasons.{reason, or_no, number_flaw}
 use Rattle.roster.specs.declared.Bearer.{Bearer}
 use Rattle.roster.specs.declared.Bearer.TheVariants.{Message, Enum, Extension}
 use Rattle.evolution.specs.inner.Bearers.{number_for, rest_flaw, own_flaw}
@@ -48,10 +47,10 @@ module _ (s m : List ℕ) (d : Declaration) (k n : ℕ) (q : n ≡ numbered m (r
   unfolding is_like
   number-once = rw q refl
 
-  pub number-shared : (n ≡ 1 → ⊥) → No why.NumberShared k d.name ≡ number_flaw s k (number_for m d)
+  pub number-shared : (n ≡ 1 → ⊥) → Some (reason why.NumberShared k d.name) ≡ number_flaw s k (number_for m d)
   number-shared h = rw (number-once, ne_eqb n 1 h) refl
 
-  pub number-alone : n ≡ 1 → (b : Bool) → b ≡ clean_path s d → (r : Reason) → r ≡ or_no b why.TypeUnclear k d.shape.path
+  pub number-alone : n ≡ 1 → (b : Bool) → b ≡ clean_path s d → (r : Option Reason) → r ≡ or_no b why.TypeUnclear k d.shape.path
       → r ≡ number_flaw s k (number_for m d)
   number-alone h b p r u = u ∙ rw (number-once, eq-eqb n 1 h, p) refl
 
@@ -59,11 +58,11 @@ pub ruleset number_flaw_laws = (number-shared, number-alone, declared_lies_laws)
 
 -- ---- own_flaw
 module _ (s t : List ℕ) (k : ℕ) (b : Bearer) (n : ℕ) (q : n ≡ bearing any_kind t (every_declared s)) where
-  pub name-shared : (n ≡ 1 → ⊥) → No why.NameShared k (span 0 0) ≡ own_flaw s t k b
+  pub name-shared : (n ≡ 1 → ⊥) → Some (reason why.NameShared k (span 0 0)) ≡ own_flaw s t k b
   unfolding own_flaw
   name-shared h = rw (← q, ne_eqb n 1 h) refl
 
-  module _ (h : n ≡ 1) (r : Reason) where
+  module _ (h : n ≡ 1) (r : Option Reason) where
     rest : r ≡ rest_flaw s k b → r ≡ own_flaw s t k b
     unfolding own_flaw
     rest p = p ∙ rw (← q, eq-eqb n 1 h) refl

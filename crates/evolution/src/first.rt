@@ -9,10 +9,11 @@ ghost use Rattle.evolution.specs.inner.Bearers.{number_reason, own_reason, numbe
 
 use crate::flaws::{flaw_of_number, own_flaw};
 use crate::losses::{loss_of_number, own_loss};
-use field::{Span, field_at};
+use field::Span;
+use field::fields::Fields;
 use named::declaration_at;
 use reasons::Reason;
-use roster::{Bearer, Nth, nth_declared};
+use roster::{Bearer, nth_declared};
 use sheet::declaration::Declaration;
 use sheet::table;
 
@@ -32,7 +33,7 @@ fn number_reason(
     newer: &[u8],
     question: Question,
     index: usize,
-) -> Reason
+) -> Option<Reason>
     requires { DeclaredLies s.now d }
     ensures { result ≡ number_reason question s.now newer.now index (number_for message.now d) }
 {
@@ -52,15 +53,13 @@ fn field_reason(
     newer: &[u8],
     question: Question,
     index: usize,
-) -> Reason
+) -> Option<Reason>
     requires { Lies item s.now }
     ensures { result ≡ on_declared
         (λ d. number_reason question s.now newer.now index (number_for message.now d))
         (declaration_at field_tag s.now tag item.from item.to) }
 {
-    let Some(d) = declaration_at(s, tag, item.from, item.to, table::FIELD) else {
-        return Reason::Yes;
-    };
+    let d = declaration_at(s, tag, item.from, item.to, table::FIELD)?;
     number_reason(s, message, d, newer, question, index)
 }
 
@@ -73,29 +72,23 @@ fn fields_reason(
     newer: &[u8],
     question: Question,
     index: usize,
-) -> Reason
+) -> Option<Reason>
     requires { Lies body s.now }
     ensures { result ≡ reasons_of
         (λ d. number_reason question s.now newer.now index (number_for message.now d))
         (fields_at s.now body) }
 {
-    let end = body.to;
-    let mut p = body.from;
-    while p < end {
-        let Some(field) = field_at(s, p, end) else {
-            return Reason::Yes;
-        };
+    for field in Fields::between(s, body.from, body.to) {
+        let field = field?;
         let item = Span {
             from: field.from,
             to: field.to,
         };
-        let found = field_reason(s, field.tag, item, message, newer, question, index);
-        let Reason::Yes = found else {
-            return found;
-        };
-        p = field.to;
+        if let Some(reason) = field_reason(s, field.tag, item, message, newer, question, index) {
+            return Some(reason);
+        }
     }
-    Reason::Yes
+    None
 }
 
 // The first reason that the numbers give which it declares: a message's fields, or the one of an extension.
@@ -107,13 +100,13 @@ fn numbers_reason(
     newer: &[u8],
     question: Question,
     index: usize,
-) -> Reason
+) -> Option<Reason>
     requires { BearerLies s.now bearer }
     ensures { result ≡ numbers_reason question s.now newer.now name.now index bearer }
 {
     match bearer {
         Bearer::Message(body) => fields_reason(s, body, name, newer, question, index),
-        Bearer::Enum(_) => Reason::Yes,
+        Bearer::Enum(_) => None,
         Bearer::Extension(d) => {
             let from = d.extendee.from;
             let to = d.extendee.to;
@@ -131,7 +124,7 @@ fn own_reason(
     newer: &[u8],
     question: Question,
     index: usize,
-) -> Reason
+) -> Option<Reason>
     requires { BearerLies s.now bearer }
     ensures { result ≡ own_reason question s.now newer.now name.now index bearer }
 {
@@ -150,32 +143,31 @@ fn reason_of(
     newer: &[u8],
     question: Question,
     index: usize,
-) -> Reason
+) -> Option<Reason>
     requires { BearerLies s.now bearer }
     ensures { result ≡ bearer_reason question s.now newer.now name.now index bearer }
 {
-    let own = own_reason(s, bearer, name, newer, question, index);
-    let Reason::Yes = own else {
-        return own;
-    };
+    if let Some(own) = own_reason(s, bearer, name, newer, question, index) {
+        return Some(own);
+    }
     numbers_reason(s, bearer, name, newer, question, index)
 }
 
 // The first reason of all, with room for a full name.
 #[tactic(auto, using(crate::proofs::RosterLaws::first_reason_laws))]
-pub fn first_reason(s: &[u8], newer: &[u8], question: Question, room: &mut [u8]) -> Reason
+pub fn first_reason(s: &[u8], newer: &[u8], question: Question, room: &mut [u8]) -> Option<Reason>
     requires { length s.now ≤ length room.old }
     ensures { result ≡ first_reason question s.now newer.now }
 {
     let mut i = 0;
     loop {
-        let Nth::Is { bearer, size } = nth_declared(s, room, i) else {
-            return Reason::Yes;
+        let Ok(nth) = nth_declared(s, room, i) else {
+            return None;
         };
-        let found = reason_of(s, bearer, &room[..size], newer, question, i);
-        let Reason::Yes = found else {
-            return found;
-        };
+        let name = &room[..nth.size];
+        if let Some(reason) = reason_of(s, nth.bearer, name, newer, question, i) {
+            return Some(reason);
+        }
         i += 1;
     }
 }

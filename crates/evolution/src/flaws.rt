@@ -44,7 +44,7 @@ fn path_named(s: &[u8], d: Declaration) -> bool
 
 // The flaw of a number that is declared for the message of this full name.
 #[tactic(auto, using(crate::proofs::FlawLaws::number_flaw_laws))]
-pub fn flaw_of_number(s: &[u8], message: &[u8], d: Declaration, index: usize) -> Reason
+pub fn flaw_of_number(s: &[u8], message: &[u8], d: Declaration, index: usize) -> Option<Reason>
     requires { DeclaredLies s.now d }
     ensures { result ≡ number_flaw s.now index (number_for message.now d) }
 {
@@ -53,28 +53,27 @@ pub fn flaw_of_number(s: &[u8], message: &[u8], d: Declaration, index: usize) ->
         whole: false,
     };
     if numbered(s, message, s, like) != 1 {
-        let name = d.name;
-        return Reason::No {
+        return Some(Reason {
             why: Why::NumberShared,
             index: index,
-            about: name,
-        };
+            about: d.name,
+        });
     }
     or_no(path_named(s, d), Why::TypeUnclear, index, d.shape.path)
 }
 
 // The flaw of what bears this full name, its numbers aside.
 #[tactic(auto, using(crate::proofs::FlawLaws::own_flaw_laws))]
-pub fn own_flaw(s: &[u8], bearer: Bearer, name: &[u8], index: usize) -> Reason
+pub fn own_flaw(s: &[u8], bearer: Bearer, name: &[u8], index: usize) -> Option<Reason>
     requires { BearerLies s.now bearer }
     ensures { result ≡ own_flaw s.now name.now index bearer }
 {
     if bearers(s, name, ANY_KIND) != 1 {
-        return Reason::No {
+        return Some(Reason {
             why: Why::NameShared,
             index: index,
             about: Span { from: 0, to: 0 },
-        };
+        });
     }
     match bearer {
         Bearer::Message(body) => flaw_of_members(s, body, table::FIELD, Why::FieldShared, index),

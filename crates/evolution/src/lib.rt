@@ -12,12 +12,12 @@ ghost use Rattle.evolution.specs.inner.Bearers.{first_reason, why_not};
 
 use crate::first::{Question, first_reason};
 use limits::MOST_SHEET;
-use reasons::{Reason, holds};
+use reasons::Reason;
 use reply::Answer;
 use sheetform::check_sheet;
 
 // The first reason, of a sheet that is short enough.
-fn reason_in_room(sheet: &[u8], newer: &[u8], question: Question) -> Reason
+fn reason_in_room(sheet: &[u8], newer: &[u8], question: Question) -> Option<Reason>
     requires { length sheet.now ≤ most_sheet }
     ensures { result ≡ first_reason question sheet.now newer.now }
 {
@@ -27,18 +27,18 @@ fn reason_in_room(sheet: &[u8], newer: &[u8], question: Question) -> Reason
 
 // The first reason. Of a sheet that is too long there is nothing to say: the calls refuse it.
 #[tactic(auto, using(crate::proofs::CallLaws::why_not_laws))]
-fn why_not(sheet: &[u8], newer: &[u8], question: Question) -> Reason
+fn why_not(sheet: &[u8], newer: &[u8], question: Question) -> Option<Reason>
     ensures { result ≡ why_not question sheet.now newer.now }
 {
     if MOST_SHEET < sheet.len() {
-        return Reason::Yes;
+        return None;
     }
     reason_in_room(sheet, newer, question)
 }
 
 // Why a sheet is not clean.
 #[tactic(auto, using(crate::proofs::CallLaws::unclean_is))]
-pub fn why_unclean(sheet: &[u8]) -> Reason
+pub fn why_unclean(sheet: &[u8]) -> Option<Reason>
     ensures { result ≡ why_unclean sheet.now }
 {
     why_not(sheet, sheet, Question::Clean)
@@ -46,7 +46,7 @@ pub fn why_unclean(sheet: &[u8]) -> Reason
 
 // Why the older sheet is not contained in the newer one.
 #[tactic(auto, using(crate::proofs::CallLaws::uncontained_is))]
-pub fn why_uncontained(older: &[u8], newer: &[u8]) -> Reason
+pub fn why_uncontained(older: &[u8], newer: &[u8]) -> Option<Reason>
     ensures { result ≡ why_uncontained older.now newer.now }
 {
     why_not(older, newer, Question::Contained)
@@ -60,7 +60,7 @@ pub fn clean(sheet: &[u8]) -> Answer
     if let Err(why) = check_sheet(sheet) {
         return reply::refused(why);
     }
-    reply::decided(holds(why_unclean(sheet)))
+    reply::decided(why_unclean(sheet).is_none())
 }
 
 // Whether the older sheet is contained in the newer one.
@@ -74,5 +74,5 @@ pub fn contained(older: &[u8], newer: &[u8]) -> Answer
     if let Err(why) = check_sheet(newer) {
         return reply::refused(why);
     }
-    reply::decided(holds(why_uncontained(older, newer)))
+    reply::decided(why_uncontained(older, newer).is_none())
 }

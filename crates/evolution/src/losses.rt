@@ -19,7 +19,7 @@ pub fn loss_of_number(
     d: Declaration,
     newer: &[u8],
     index: usize,
-) -> Reason
+) -> Option<Reason>
     requires { DeclaredLies s.now d }
     ensures { result ≡ number_loss s.now newer.now index (number_for message.now d) }
 {
@@ -33,7 +33,7 @@ pub fn loss_of_number(
 
 // The loss of a message or an enum of this full name, by its kind.
 #[tactic(auto, using(crate::proofs::LossLaws::name_loss_is))]
-fn loss_of_name(name: &[u8], newer: &[u8], kind: u8, why: Why, index: usize) -> Reason
+fn loss_of_name(name: &[u8], newer: &[u8], kind: u8, why: Why, index: usize) -> Option<Reason>
     ensures { result ≡ name_loss newer.now name.now kind why index }
 {
     let kept = bearers(newer, name, kind) != 0;
@@ -42,12 +42,12 @@ fn loss_of_name(name: &[u8], newer: &[u8], kind: u8, why: Why, index: usize) -> 
 
 // The loss of what bears this full name, its numbers aside.
 #[tactic(auto, using(crate::proofs::LossLaws::own_loss_laws))]
-pub fn own_loss(bearer: Bearer, name: &[u8], newer: &[u8], index: usize) -> Reason
+pub fn own_loss(bearer: Bearer, name: &[u8], newer: &[u8], index: usize) -> Option<Reason>
     ensures { result ≡ own_loss newer.now name.now index bearer }
 {
     match bearer {
         Bearer::Message(_) => loss_of_name(name, newer, table::MESSAGE, Why::MessageLost, index),
         Bearer::Enum(_) => loss_of_name(name, newer, table::ENUM, Why::EnumLost, index),
-        Bearer::Extension(_) => Reason::Yes,
+        Bearer::Extension(_) => None,
     }
 }

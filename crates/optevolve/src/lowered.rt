@@ -40,13 +40,14 @@ fn tell_read(older: &[u8], newer: &[u8], request: &[u8], bytes: &[u8]) {
     let Some(heading) = heading_of(request) else {
         return;
     };
-    let Some(Span { from, to }) = span_in(request, heading.options_type) else {
+    let Some(place) = span_in(request, heading.options_type) else {
         return;
     };
-    tell_bytes(older, newer, &request[from..to], bytes);
+    tell_bytes(older, newer, &request[place.from..place.to], bytes);
 }
 
 // As `tell_request`, with room for the option bytes.
+#[tactic(auto, using(crate::proofs::CaseLaws::case_laws))]
 fn lower_over(older: &[u8], newer: &[u8], request: &[u8], out: &mut [u8]) {
     let answer = resolver::resolve(newer, request, out);
     option_bytes(answer, out);

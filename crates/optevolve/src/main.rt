@@ -12,7 +12,7 @@ ghost use Rattle.std.specs.Prelude.{◌≤◌, length};
 
 use compared::tell_evolution;
 use console::input::{MOST_BYTES, field_of};
-use field::{leaf_at, Span};
+use field::leaf_at;
 use lowered::tell_request;
 
 const SHEET: u8 = 0x40;
@@ -20,28 +20,39 @@ const SHEET: u8 = 0x40;
 const REQUEST: u8 = 0x41;
 
 // A case of these two sheets, whose request, if it has one, stands at a place; and where the next case starts.
+#[tactic(auto, using(crate::proofs::CaseLaws::case_laws))]
 fn answer_case(s: &[u8], older: &[u8], newer: &[u8], at: usize) -> usize
     requires { at ≤ length s.now }
     ensures { result ≤ length s.now }
 {
     let told = tell_evolution(older, newer);
-    let Some(place) = leaf_at(s, at, s.len(), REQUEST) else { return at; };
+    let Some(request) = leaf_at(s, at, s.len(), REQUEST) else {
+        return at;
+    };
     if told {
-        tell_request(older, newer, &s[place.from..place.to]);
+        tell_request(older, newer, &s[request.from..request.to]);
     }
-    place.to
+    request.to
 }
 
 // The case at a place, and where the next one starts; 0 where the input is no such fields.
+#[tactic(auto, using(crate::proofs::CaseLaws::case_laws))]
 fn compare_case(s: &[u8], at: usize) -> usize
     requires { at ≤ length s.now }
     ensures { result ≤ length s.now }
 {
-    let Some(Span { from, to }) = field_of(s, at, SHEET) else {
+    let Some(older) = field_of(s, at, SHEET) else {
         return 0;
     };
-    let Some(place) = field_of(s, to, SHEET) else { return 0; };
-    answer_case(s, &s[from..to], &s[place.from..place.to], place.to)
+    let Some(newer) = field_of(s, older.to, SHEET) else {
+        return 0;
+    };
+    answer_case(
+        s,
+        &s[older.from..older.to],
+        &s[newer.from..newer.to],
+        newer.to,
+    )
 }
 
 // All cases, of which there has to be one.
@@ -60,6 +71,7 @@ fn compare_cases(s: &[u8]) {
 }
 
 // Standard input, read into a lent buffer.
+#[tactic(auto, using(crate::proofs::CaseLaws::case_laws))]
 fn run_over(buffer: &mut [u8]) {
     let Some(n) = console::input::read(buffer) else {
         return;

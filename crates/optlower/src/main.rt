@@ -21,16 +21,19 @@ fn answer_case(sheet: &[u8], request: &[u8], out: &mut [u8]) {
 }
 
 // The case at a place, and where the next one starts; 0 where the input is no such fields.
+#[tactic(auto, using(crate::proofs::CaseLaws::case_laws))]
 fn resolve_case(s: &[u8], at: usize, out: &mut [u8]) -> usize
     requires { at ≤ length s.now }
     ensures { result ≤ length s.now }
 {
-    let Some(Span { from, to }) = field_of(s, at, SHEET) else {
+    let Some(sheet) = field_of(s, at, SHEET) else {
         return 0;
     };
-    let Some(place) = field_of(s, to, REQUEST) else { return 0; };
-    answer_case(&s[from..to], &s[place.from..place.to], out);
-    place.to
+    let Some(request) = field_of(s, sheet.to, REQUEST) else {
+        return 0;
+    };
+    answer_case(&s[sheet.from..sheet.to], &s[request.from..request.to], out);
+    request.to
 }
 
 // All cases, of which there has to be one.
@@ -49,6 +52,7 @@ fn resolve_cases(s: &[u8], out: &mut [u8]) {
 }
 
 // Standard input, read into a lent buffer.
+#[tactic(auto, using(crate::proofs::CaseLaws::case_laws))]
 fn run_over(buffer: &mut [u8], out: &mut [u8]) {
     let Some(n) = console::input::read(buffer) else {
         return;

@@ -2,9 +2,9 @@
 // are several cases, each answered in its turn.
 #![tactic(auto)]
 
-ghost use Rattle.std.specs.Prelude.{◌≤◌, length};
+ghost use Rattle.std.specs.Prelude.{◌≤◌, length, IfSome};
 
-use console::input::{MOST_BYTES, field_of};
+use console::input::{MOST_BYTES, each_case, field_of};
 use inputs::words::MOST_PAYLOAD_WORDS;
 use limits::MOST_WORDS;
 
@@ -24,41 +24,22 @@ fn lower(kind: u32, payload: &[u8]) {
     }
 }
 
-// The case at a place, and where the next one starts; 0 where the input is no such fields.
+// The case at a place, and where the next one starts, none where the input is no such fields.
 #[tactic(auto, using(console::proofs::InputLaws::input_laws))]
-fn lower_case(s: &[u8], at: usize) -> usize
+fn lower_case(s: &[u8], at: usize) -> Option<usize>
     requires { at ≤ length s.now }
-    ensures { result ≤ length s.now }
+    ensures { IfSome result (λ next. next ≤ length s.now) }
 {
-    let Some(kind) = field_of(s, at, KIND) else {
-        return 0;
-    };
+    let kind = field_of(s, at, KIND)?;
     if !console::input::has_size(KIND, kind.from, kind.to, 4) {
-        return 0;
+        return None;
     }
-    let Some(words) = field_of(s, kind.to, WORDS) else {
-        return 0;
-    };
+    let words = field_of(s, kind.to, WORDS)?;
     if !console::input::has_words(WORDS, words.from, words.to) {
-        return 0;
+        return None;
     }
     lower(octets::u32_at(s, kind.from), &s[words.from..words.to]);
-    words.to
-}
-
-// All cases, of which there has to be one.
-fn lower_cases(s: &[u8]) {
-    let mut at = 0;
-    loop {
-        let next = lower_case(s, at);
-        if next <= at {
-            return;
-        }
-        if next == s.len() {
-            return;
-        }
-        at = next;
-    }
+    Some(words.to)
 }
 
 // Standard input, read into a lent buffer.
@@ -67,7 +48,8 @@ fn run_over(buffer: &mut [u8]) {
     let Some(n) = console::input::read(buffer) else {
         return;
     };
-    lower_cases(&buffer[..n]);
+    let s = &buffer[..n];
+    each_case(s.len(), |at| lower_case(s, at));
 }
 
 fn main() {

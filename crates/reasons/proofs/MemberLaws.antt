@@ -27,7 +27,6 @@ use Rattle.sheet.proofs.MemberLaws.{listed, fields-item}
 use Rattle.sheet.proofs.PlaceLaws.{field-name-ordered, field-name-within, value-name-ordered, value-name-within}
 use Rattle.reasons.specs.declared.Why.{Why}
 use Rattle.reasons.specs.declared.Reason.{Reason}
-use Rattle.reasons.specs.declared.Reason.TheVariants.{Yes}
 use Rattle.reasons.specs.Reasons.{also, or_no, reasons, member_flaws}
 use Rattle.reasons.specs.inner.Members.{field_name, value_name, member_at, leaf_onto, members_in, member_flaw}
 use Rattle.reasons.proofs.ReasonLaws.{also-no}
@@ -143,11 +142,11 @@ pub ruleset count_named_laws = (named_start, few-one, tally_in_laws, tally-in-ne
 
 -- ---- flaw_of_member
 module _ (k : ℕ) (s : List ℕ) (w : Why) (i : ℕ) (ns : List Span) (t a e : ℕ) (r : Option Span) (q : r ≡ member_at k s t a e) where
-  pub member-flaw-not : r ≡ None → Yes ≡ member_flaw s w i ns (member_at k s t a e)
+  pub member-flaw-not : r ≡ None → None ≡ member_flaw s w i ns (member_at k s t a e)
   unfolding member_flaw
   member-flaw-not g = rw (member_flaw, ← q, g) refl
 
-  pub member-flaw-at : (l : Span) → r ≡ Some l → (u : ℕ) → u ≡ count (is_text s (text s l)) ns → (x : Reason)
+  pub member-flaw-at : (l : Span) → r ≡ Some l → (u : ℕ) → u ≡ count (is_text s (text s l)) ns → (x : Option Reason)
       → x ≡ or_no (eqb u 1) w i l → x ≡ member_flaw s w i ns (member_at k s t a e)
   unfolding member_flaw
   member-flaw-at l g u p x y = y ∙ rw (member_flaw, ← q, g, p) refl
@@ -155,7 +154,7 @@ module _ (k : ℕ) (s : List ℕ) (w : Why) (i : ℕ) (ns : List Span) (t a e : 
 pub ruleset member_flaw_laws = (member-flaw-not, member-flaw-at, member_place_laws)
 
 -- ---- flaw_of_members
-abbrev pub flaw_at : (s : List ℕ) → Why → (index : ℕ) → List Span → (want tag from to : ℕ) → Reason
+abbrev pub flaw_at : (s : List ℕ) → Why → (index : ℕ) → List Span → (want tag from to : ℕ) → Option Reason
 flaw_at s w i ns k t a e = member_flaw s w i ns (member_at k s t a e)
 
 onto-flaw : (s : List ℕ) (w : Why) (i : ℕ) (all : List Span) (l : Option Span) (ns : List Span)
@@ -165,12 +164,12 @@ unfolding member_flaw
 onto-flaw s w i all None ns = refl
 onto-flaw s w i all (Some it) ns = refl
 
-pub member-flaws-is : (s : List ℕ) (w : Why) (i k from to : ℕ) (r : Reason)
-    → r ≡ seek Yes also (flaw_at s w i (members_in k s (walk s from to)) k) (walk s from to)
+pub member-flaws-is : (s : List ℕ) (w : Why) (i k from to : ℕ) (r : Option Reason)
+    → r ≡ seek None also (flaw_at s w i (members_in k s (walk s from to)) k) (walk s from to)
     → r ≡ member_flaws s w i (members_in k s (walk s from to))
 member-flaws-is s w i k from to r q =
     let all = members_in k s (walk s from to) in
-    q ∙ sym (seek_is Yes also (flaw_at s w i all k) (λ x. reasons (λ n. or_no (once (is_text s (text s n)) all) w i n) (members_in k s x))
+    q ∙ sym (seek_is None also (flaw_at s w i all k) (λ x. reasons (λ n. or_no (once (is_text s (text s n)) all) w i n) (members_in k s x))
     refl refl (λ t a e x. onto-flaw s w i all (member_at k s t a e) (members_in k s x)) (walk s from to))
 
 pub ruleset member_flaws_laws = (member-flaws-is, also-no, sought_laws)

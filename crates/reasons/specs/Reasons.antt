@@ -1,6 +1,7 @@
 -- The first reason why a sheet is not clean, or not contained in another: declarations in the order of the sheet, of each the tests in the
 -- order of `clean_at` and `kept_at`.
 --
+--           reason w k p ==  what is amiss, with the k-th declaration, and where it says so
 --                holds r <=> there is no reason against it
 --               also r q ==  the first of two reasons
 --           or_no b w k p ==  this reason, where b does not hold
@@ -18,7 +19,7 @@
 --    contained_reason s t ==  the first loss
 --
 -- Assumes nothing.
-use Rattle.std.specs.Prelude.{Bool, true, false, List, [], ◌∷◌, ℕ, suc}
+use Rattle.std.specs.Prelude.{Bool, true, false, List, [], ◌∷◌, ℕ, suc, Option, Some, None}
 use Rattle.basis.specs.First.{only_if}
 use Rattle.basis.specs.Count.{once}
 use Rattle.field.specs.declared.Span.{Span}
@@ -31,25 +32,27 @@ use Rattle.names.specs.Contained.{kept_name, kept_number}
 use Rattle.reasons.specs.declared.Why.{Why}
 use Rattle.reasons.specs.declared.Why.TheVariants as why
 use Rattle.reasons.specs.declared.Reason.{Reason}
-use Rattle.reasons.specs.declared.Reason.TheVariants.{Yes, No}
 
-abbrev pub holds : Reason → Bool
-holds Yes = true
-holds (No w k p) = false
+abbrev pub reason : Why → (index : ℕ) → (about : Span) → Reason
+reason w k p = record { why = w; index = k; about = p }
 
-abbrev pub also : (first second : Reason) → Reason
-also Yes q = q
-also (No w k p) q = No w k p
+abbrev pub holds : Option Reason → Bool
+holds None = true
+holds (Some w) = false
 
-abbrev pub or_no : (holds : Bool) → Why → (index : ℕ) → Span → Reason
-or_no b w k p = only_if b Yes (No w k p)
+abbrev pub also : (first second : Option Reason) → Option Reason
+also None q = q
+also (Some w) q = Some w
 
-abbrev pub reasons : {A : Type 0} → (A → Reason) → List A → Reason
-reasons f [] = Yes
+abbrev pub or_no : (holds : Bool) → Why → (index : ℕ) → Span → Option Reason
+or_no b w k p = only_if b None (Some (reason w k p))
+
+abbrev pub reasons : {A : Type 0} → (A → Option Reason) → List A → Option Reason
+reasons f [] = None
 reasons f (x ∷ xs) = also (f x) (reasons f xs)
 
-abbrev pub reasons_from : (ℕ → Named → Reason) → (index : ℕ) → List Named → Reason
-reasons_from f k [] = Yes
+abbrev pub reasons_from : (ℕ → Named → Option Reason) → (index : ℕ) → List Named → Option Reason
+reasons_from f k [] = None
 reasons_from f k (b ∷ bs) = also (f k b) (reasons_from f (suc k) bs)
 
 -- ---- clean
@@ -58,7 +61,7 @@ member_why (message c) = why.FieldShared
 member_why (enumeration e) = why.ValueShared
 member_why (extension d) = why.NameShared
 
-abbrev pub member_flaws : (s : List ℕ) → Why → (index : ℕ) → List Span → Reason
+abbrev pub member_flaws : (s : List ℕ) → Why → (index : ℕ) → List Span → Option Reason
 member_flaws s w k ns = reasons (λ n. or_no (once (is_text s (text s n)) ns) w k n) ns
 
 abbrev pub extendee_of : What → Span
@@ -66,20 +69,20 @@ extendee_of (message c) = span 0 0
 extendee_of (enumeration e) = span 0 0
 extendee_of (extension d) = d.extendee
 
-abbrev pub path_flaw : (s : List ℕ) (index : ℕ) → Declaration → Reason
+abbrev pub path_flaw : (s : List ℕ) (index : ℕ) → Declaration → Option Reason
 path_flaw s k d = or_no (clean_path s d) why.TypeUnclear k d.shape.path
 
-abbrev pub number_flaw : (s : List ℕ) (index : ℕ) → Number → Reason
+abbrev pub number_flaw : (s : List ℕ) (index : ℕ) → Number → Option Reason
 number_flaw s k x = also (or_no (once (same_number x) (every_number s)) why.NumberShared k x.by.name) (path_flaw s k x.by)
 
-abbrev pub flaw_of : (s : List ℕ) (index : ℕ) → Named → Reason
+abbrev pub flaw_of : (s : List ℕ) (index : ℕ) → Named → Option Reason
 flaw_of s k b =
     also (or_no (clean_name s b) why.NameShared k (span 0 0))
     (also (member_flaws s (member_why b.what) k (members_of b.what))
     (also (or_no (clean_extendee s b.what) why.ExtendeeUnclear k (extendee_of b.what))
     (reasons (number_flaw s k) (numbers_of s b))))
 
-abbrev pub clean_reason : (s : List ℕ) → Reason
+abbrev pub clean_reason : (s : List ℕ) → Option Reason
 clean_reason s = reasons_from (flaw_of s) 0 (every_declared s)
 
 -- ---- contained
@@ -88,12 +91,12 @@ loss_why (message c) = why.MessageLost
 loss_why (enumeration e) = why.EnumLost
 loss_why (extension d) = why.NumberChanged
 
-abbrev pub number_loss : (s t : List ℕ) (index : ℕ) → Number → Reason
+abbrev pub number_loss : (s t : List ℕ) (index : ℕ) → Number → Option Reason
 number_loss s t k x = or_no (kept_number s t x) why.NumberChanged k x.by.name
 
-abbrev pub loss_of : (s t : List ℕ) (index : ℕ) → Named → Reason
+abbrev pub loss_of : (s t : List ℕ) (index : ℕ) → Named → Option Reason
 loss_of s t k b =
     also (or_no (kept_name t b.name b.what) (loss_why b.what) k (span 0 0)) (reasons (number_loss s t k) (numbers_of s b))
 
-abbrev pub contained_reason : (older newer : List ℕ) → Reason
+abbrev pub contained_reason : (older newer : List ℕ) → Option Reason
 contained_reason s t = reasons_from (loss_of s t) 0 (every_declared s)

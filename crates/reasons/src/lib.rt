@@ -4,7 +4,7 @@
 pub mod members;
 
 ghost use Rattle.std.specs.Prelude.{◌≡◌};
-ghost use Rattle.reasons.specs.Reasons.{holds as holds_of, or_no};
+ghost use Rattle.reasons.specs.Reasons.{or_no};
 
 use field::Span;
 
@@ -29,39 +29,25 @@ pub enum Why {
     NumberChanged,
 }
 
-// Yes; or no, and the first reason: what is amiss, with the i-th of all declarations of the sheet, and where it says so, in a name or a path.
+// A reason why not: what is amiss, with the i-th of all declarations of the sheet, and where it says so, in a name or a path.
 #[derive(Clone, Copy)]
-pub enum Reason {
-    Yes,
-    No { why: Why, index: usize, about: Span },
-}
-
-// Whether there is no reason against it.
-pub fn holds(reason: Reason) -> bool
-    ensures { result ≡ holds_of reason }
-{
-    match reason {
-        Reason::Yes => true,
-        Reason::No {
-            why: _,
-            index: _,
-            about: _,
-        } => false,
-    }
+pub struct Reason {
+    pub why: Why,
+    pub index: usize,
+    pub about: Span,
 }
 
 // This reason, where the test does not hold.
 #[tactic(auto, using(crate::proofs::ReasonLaws::or_no_laws))]
-pub fn or_no(test: bool, why: Why, index: usize, about: Span) -> Reason
+pub fn or_no(test: bool, why: Why, index: usize, about: Span) -> Option<Reason>
     ensures { result ≡ or_no test why index about }
 {
     if test {
-        Reason::Yes
-    } else {
-        Reason::No {
-            why: why,
-            index: index,
-            about: about,
-        }
+        return None;
     }
+    Some(Reason {
+        why: why,
+        index: index,
+        about: about,
+    })
 }

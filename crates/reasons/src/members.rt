@@ -78,46 +78,33 @@ fn flaw_of_member(
     want: u8,
     why: Why,
     index: usize,
-) -> Reason
+) -> Option<Reason>
     requires lies { Lies item s.now }
     requires lies_2 { Lies body s.now }
     ensures { result ≡ member_flaw s.now why index (members_in want s.now (walk s.now body.from body.to))
         (member_at want s.now tag item.from item.to) }
 {
-    let Some(name) = member_at(s, tag, item, want) else {
-        return Reason::Yes;
-    };
+    let name = member_at(s, tag, item, want)?;
     let n = count_named(s, body, want, &s[name.from..name.to]);
     or_no(n == 1, why, index, name)
 }
 
 // The first member that shares its name with another.
 #[tactic(auto, using(crate::proofs::MemberLaws::member_flaws_laws))]
-pub fn flaw_of_members(s: &[u8], body: Span, want: u8, why: Why, index: usize) -> Reason
+pub fn flaw_of_members(s: &[u8], body: Span, want: u8, why: Why, index: usize) -> Option<Reason>
     requires { Lies body s.now }
     ensures { result ≡ member_flaws s.now why index
         (members_in want s.now (walk s.now body.from body.to)) }
 {
     for field in Fields::between(s, body.from, body.to) {
-        let Some(field) = field else {
-            return Reason::Yes;
-        };
+        let field = field?;
         let item = Span {
             from: field.from,
             to: field.to,
         };
-        if let Reason::No {
-            why: w,
-            index: i,
-            about,
-        } = flaw_of_member(s, field.tag, item, body, want, why, index)
-        {
-            return Reason::No {
-                why: w,
-                index: i,
-                about: about,
-            };
+        if let Some(flaw) = flaw_of_member(s, field.tag, item, body, want, why, index) {
+            return Some(flaw);
         }
     }
-    Reason::Yes
+    None
 }

@@ -37,7 +37,7 @@ module _ (s r ns : List ℕ) (m : Measured) (k : Ready s r ns m) where
   outcome-is = ap (λ (g : Gathered). outcome_of (steps_in g)) k.counted.gathers
 
   pub ready-judged : Ok (Some m.length) ≡ judged_of steps
-  ready-judged = ap Ok (Some k.length-is) ∙ sym (ap (λ (g : Gathered). judged_of (steps_in g)) k.counted.gathers)
+  ready-judged = ap (λ (n : ℕ). Ok (Some n)) k.length-is ∙ sym (ap (λ (g : Gathered). judged_of (steps_in g)) k.counted.gathers)
 
   -- ---- write
   module _ (l : List ℕ) (a : Answer) (e : a ≡ answer_in (length l) (Ok (Some m.length))) where

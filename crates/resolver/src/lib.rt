@@ -16,9 +16,10 @@ ghost use Rattle.resolver.specs.inner.Judging.{judged_by};
 use judged::answer_in;
 use limits::MOST_OPTIONS;
 use options::measure::{Measured, measure_tested, put_records};
-use reply::{Answer, bare};
+use reply::{Answer, Cause, bare};
 
 // What was measured, written to as much of the lent memory as the answer says: to none of it where there is no room for all.
+#[tactic(auto, using(crate::proofs::WriteLaws::write_laws))]
 fn write(
     sheet: &[u8],
     request: &[u8],
@@ -39,6 +40,7 @@ fn write(
 }
 
 // The answer of `resolve_tested`, with room for a note an option.
+#[tactic(auto, using(crate::proofs::WriteLaws::over_laws))]
 fn resolve_over(sheet: &[u8], request: &[u8], notes: &mut [usize], out: &mut [u8]) -> Answer
     requires { most_options ≤ length notes.old }
     ensures { Answered (resolve_tested sheet.now request.now) out.old out.new result }
@@ -59,6 +61,7 @@ pub fn resolve_tested(sheet: &[u8], request: &[u8], out: &mut [u8]) -> Answer
 }
 
 // The bytes of the options of a request, under a sheet.
+#[tactic(auto, using(crate::proofs::CallLaws::resolve_laws))]
 pub fn resolve(sheet: &[u8], request: &[u8], out: &mut [u8]) -> Answer
     ensures { Answered (resolve_bytes sheet.now request.now) out.old out.new result }
 {
@@ -69,17 +72,18 @@ pub fn resolve(sheet: &[u8], request: &[u8], out: &mut [u8]) -> Answer
 }
 
 // The verdict that was measured.
+#[tactic(auto, using(crate::proofs::CallLaws::judged_by_laws))]
 fn judged_by(measure: Result<Option<Measured>, Cause>) -> Result<Option<u32>, Cause>
     ensures { result ≡ judged_by measure }
 {
-    match measure {
-        Ok(None) => Ok(None),
-        Err(cause) => Err(cause),
-        Ok(Some(measured)) => Ok(Some(measured.length)),
-    }
+    let Some(measured) = measure? else {
+        return Ok(None);
+    };
+    Ok(Some(measured.length))
 }
 
 // As `verdict`, of a sheet whose form was tested before: of that its length alone is tested here.
+#[tactic(auto, using(crate::proofs::CallLaws::verdict_tested_laws))]
 pub fn verdict_tested(sheet: &[u8], request: &[u8]) -> Result<Option<u32>, Cause>
     ensures { result ≡ judged_of (resolving_tested sheet.now request.now) }
 {
@@ -88,6 +92,7 @@ pub fn verdict_tested(sheet: &[u8], request: &[u8]) -> Result<Option<u32>, Cause
 }
 
 // What `resolve` would answer with room enough, and where a request is refused.
+#[tactic(auto, using(crate::proofs::CallLaws::verdict_laws))]
 pub fn verdict(sheet: &[u8], request: &[u8]) -> Result<Option<u32>, Cause>
     ensures { result ≡ judged_of (resolving sheet.now request.now) }
 {

@@ -7,7 +7,7 @@
 --       dotted ==  the text that is a dot
 --
 -- Assumes nothing.
-use Rattle.std.specs.Prelude.{◌≡◌, refl, List, [], ◌∷◌, ◌++◌, map, ℕ, zero, suc, ◌+◌, ◌-◌, ◌≤◌, ◌<◌, length, take, drop}
+use Rattle.std.specs.Prelude.{◌≡◌, refl, List, [], ◌∷◌, ◌++◌, map, ℕ, zero, suc, ◌+◌, ◌-◌, ◌≤◌, ◌<◌, length, take, drop, Result, Ok, Err}
 use Rattle.basis.specs.Kit.{sym, ap, ◌∙◌, sets}
 use Rattle.basis.proofs.Kit.{arith, add-one}
 use Rattle.basis.proofs.Never.{never}
@@ -22,35 +22,34 @@ use Rattle.names.specs.Names.{Named, inside, file_front, declared_in, declared_b
 use Rattle.field.specs.Leaf.{text}
 use Rattle.roster.specs.declared.Bearer.{Bearer}
 use Rattle.roster.specs.declared.Nth.{Nth}
-use Rattle.roster.specs.declared.Nth.TheVariants.{Is, Beyond}
-use Rattle.roster.specs.inner.Nth.{shown, nth, name_or, Spelt, Finds}
+use Rattle.roster.specs.inner.Nth.{borne, shown, nth, name_or, Spelt, Finds}
 
 -- ---- lists put together
-pub nth_past : (xs ys : List Named) (i k : ℕ) → nth xs i ≡ Beyond k → nth (xs ++ ys) i ≡ nth ys k
+pub nth_past : (xs ys : List Named) (i k : ℕ) → nth xs i ≡ Err k → nth (xs ++ ys) i ≡ nth ys k
 nth_past [] ys i k p = let u : i ≡ k = cc in rw u
 nth_past (x ∷ xs) ys zero k p = never cc
 nth_past (x ∷ xs) ys (suc i) k p = nth_past xs ys i k p
 
-pub nth-found : (xs ys : List Named) (i : ℕ) (b : Bearer) (n : ℕ) → nth xs i ≡ Is b n → nth (xs ++ ys) i ≡ Is b n
-nth-found [] ys i b n p = never cc
-nth-found (x ∷ xs) ys zero b n p = p
-nth-found (x ∷ xs) ys (suc i) b n p = nth-found xs ys i b n p
+pub nth-found : (xs ys : List Named) (i : ℕ) (n : Nth) → nth xs i ≡ Ok n → nth (xs ++ ys) i ≡ Ok n
+nth-found [] ys i n p = never cc
+nth-found (x ∷ xs) ys zero n p = p
+nth-found (x ∷ xs) ys (suc i) n p = nth-found xs ys i n p
 
 module _ (q : List ℕ) where
-  pub name-past : (xs ys : List Named) (i k : ℕ) → nth xs i ≡ Beyond k → name_or q (xs ++ ys) i ≡ name_or q ys k
+  pub name-past : (xs ys : List Named) (i k : ℕ) → nth xs i ≡ Err k → name_or q (xs ++ ys) i ≡ name_or q ys k
   name-past [] ys i k p = let u : i ≡ k = cc in rw u
   name-past (x ∷ xs) ys zero k p = never cc
   name-past (x ∷ xs) ys (suc i) k p = name-past xs ys i k p
 
-  pub name-none : (xs : List Named) (i k : ℕ) → nth xs i ≡ Beyond k → name_or q xs i ≡ q
+  pub name-none : (xs : List Named) (i k : ℕ) → nth xs i ≡ Err k → name_or q xs i ≡ q
   name-none [] i k p = refl
   name-none (x ∷ xs) zero k p = never cc
   name-none (x ∷ xs) (suc i) k p = name-none xs i k p
 
-  pub name-found : (xs ys : List Named) (i : ℕ) (b : Bearer) (n : ℕ) → nth xs i ≡ Is b n → name_or q (xs ++ ys) i ≡ name_or q xs i
-  name-found [] ys i b n p = never cc
-  name-found (x ∷ xs) ys zero b n p = refl
-  name-found (x ∷ xs) ys (suc i) b n p = name-found xs ys i b n p
+  pub name-found : (xs ys : List Named) (i : ℕ) (n : Nth) → nth xs i ≡ Ok n → name_or q (xs ++ ys) i ≡ name_or q xs i
+  name-found [] ys i n p = never cc
+  name-found (x ∷ xs) ys zero n p = refl
+  name-found (x ∷ xs) ys (suc i) n p = name-found xs ys i n p
 
 -- ---- lists that differ in the scopes alone
 pub record Seen : Type 0 where
@@ -63,9 +62,9 @@ seen b = record { name = b.name; bearer = shown b.what }
 pub record Same (xs ys : List Named) : Type 0 where
   pub same : map seen xs ≡ map seen ys
 
-abbrev nth_seen : List Seen → ℕ → Nth
-nth_seen [] i = Beyond i
-nth_seen (b ∷ bs) zero = Is b.bearer (length b.name)
+abbrev nth_seen : List Seen → ℕ → Result Nth ℕ
+nth_seen [] i = Err i
+nth_seen (b ∷ bs) zero = Ok (borne b.bearer (length b.name))
 nth_seen (b ∷ bs) (suc i) = nth_seen bs i
 
 abbrev name_seen : List ℕ → List Seen → ℕ → List ℕ
@@ -90,7 +89,7 @@ module _ {xs ys : List Named} (e : Same xs ys) where
   name-same : (q : List ℕ) (i : ℕ) → name_or q xs i ≡ name_or q ys i
   name-same q i = name-seen q xs i ∙ ap (λ (l : List Seen). name_seen q l i) e.same ∙ sym (name-seen q ys i)
 
-  pub finds-same : {i at : ℕ} {before after : List ℕ} {r : Nth} → Finds xs i at before after r → Finds ys i at before after r
+  pub finds-same : {i at : ℕ} {before after : List ℕ} {r : Result Nth ℕ} → Finds xs i at before after r → Finds ys i at before after r
   finds-same {i} {at} {before} {after} f = record {
     is = f.is ∙ nth-same i;
     sized = f.sized;
@@ -135,13 +134,13 @@ take-front (suc n) [] = refl
 take-front (suc n) (x ∷ l) = ap (λ (m : List ℕ). x ∷ m) (take-front n l)
 
 module _ (bs : List Named) (i at : ℕ) (room : List ℕ) where
-  pub finds-none : bs ≡ [] → Finds bs i at room room (Beyond i)
+  pub finds-none : bs ≡ [] → Finds bs i at room room (Err i)
   finds-none p = rw p (record { is = refl; sized = refl; name = take-front at room })
 
-  pub finds_past : (b : Named) → bs ≡ b ∷ [] → (i ≡ 0 → ⊥) → Finds bs i at room room (Beyond (i - 1))
+  pub finds_past : (b : Named) → bs ≡ b ∷ [] → (i ≡ 0 → ⊥) → Finds bs i at room room (Err (i - 1))
   finds_past b p h = rw p (go i h)
     where
-      go : (j : ℕ) → (j ≡ 0 → ⊥) → Finds (b ∷ []) j at room room (Beyond (j - 1))
+      go : (j : ℕ) → (j ≡ 0 → ⊥) → Finds (b ∷ []) j at room room (Err (j - 1))
       go zero h = absurd (h refl)
       go (suc j) h =
           let u : suc j - 1 ≡ j = omega arith in
@@ -149,7 +148,7 @@ module _ (bs : List Named) (i at : ℕ) (room : List ℕ) where
 
   pub finds-first : (b : Named) (cs : List Named) → bs ≡ b ∷ cs → i ≡ 0
       → (name after : List ℕ) (r : ℕ) → b.name ≡ take at room ++ name → Spelt room at name after r
-      → Finds bs i at room after (Is (shown b.what) r)
+      → Finds bs i at room after (Ok (borne (shown b.what) r))
   finds-first b cs p z name after r q k =
       rw (p, z) (record {
         is = rw (q, k.next);
@@ -197,7 +196,7 @@ name-shorter q y after [] i p =
 name-shorter q y after (x ∷ xs) zero p = p
 name-shorter q y after (x ∷ xs) (suc i) p = name-shorter q y after xs i p
 
-pub finds-behind : (xs : List Named) (i at next : ℕ) (before name mid after : List ℕ) (r : Nth)
+pub finds-behind : (xs : List Named) (i at next : ℕ) (before name mid after : List ℕ) (r : Result Nth ℕ)
     → Spelt before at name mid next → Finds xs i next mid after r → Finds xs i at before after r
 finds-behind xs i at next before name mid after r k f = record {
   is = f.is;
@@ -206,7 +205,7 @@ finds-behind xs i at next before name mid after r k f = record {
 }
 
 -- one further on, behind the first
-pub finds-suc : (b : Named) (xs : List Named) (i at : ℕ) (before after : List ℕ) (r : Nth) → (i ≡ 0 → ⊥)
+pub finds-suc : (b : Named) (xs : List Named) (i at : ℕ) (before after : List ℕ) (r : Result Nth ℕ) → (i ≡ 0 → ⊥)
     → Finds xs (i - 1) at before after r → Finds (b ∷ xs) i at before after r
 finds-suc b xs zero at before after r h f = absurd (h refl)
 finds-suc b xs (suc i) at before after r h f =

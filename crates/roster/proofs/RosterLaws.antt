@@ -4,7 +4,7 @@
 --       in_file s t a e == what a field of a sheet declares
 --
 -- Assumes nothing.
-use Rattle.std.specs.Prelude.{◌≡◌, refl, List, [], ◌∷◌, ◌++◌, ℕ, ◌+◌, ◌-◌, ◌≤◌, ◌<◌, length, take, None, Some, Option}
+use Rattle.std.specs.Prelude.{◌≡◌, refl, List, [], ◌∷◌, ◌++◌, ℕ, ◌+◌, ◌-◌, ◌≤◌, ◌<◌, length, take, None, Some, Option, Result, Ok, Err}
 use Rattle.basis.specs.Kit.{sym, ap, ◌∙◌, sets}
 use Rattle.basis.proofs.Kit.{arith, w64, Fits}
 use Rattle.basis.proofs.Never.{never}
@@ -15,10 +15,9 @@ use Rattle.octets.specs.Octets.{part}
 use Rattle.octets.specs.inner.Laid.{Laid}
 use Rattle.octets.proofs.Parts.{part-nil, part_length}
 use Rattle.field.specs.declared.Span.{Span}
-use Rattle.field.specs.Field.{header, field_at}
+use Rattle.field.specs.Field.{header}
 use Rattle.field.specs.Leaf.{span, text, any_bytes, leaf_at}
 use Rattle.field.specs.Walk.{Walk, done, cut, step, walk}
-use Rattle.field.proofs.FieldLaws.{field_place_laws}
 use Rattle.field.proofs.LeafLaws.{leaf-bounds, leaf-ordered, leaf-within, on-leaf-some}
 use Rattle.sheet.specs.declared.declaration.Declaration.{Declaration}
 use Rattle.sheet.specs.Table.{file_tag, message_tag, extension_tag, enum_tag, package_tag, name_tag, extendee_tag}
@@ -34,16 +33,16 @@ use Rattle.scope.specs.Scope.{message_scope, file_scope}
 use Rattle.scope.specs.inner.Steps.{item_at, file_at}
 use Rattle.names.specs.Names as names
 use Rattle.names.specs.Names.{Named, inside, file_front, declared_in, declared_by, every_declared}
-use Rattle.roster.specs.declared.Bearer.{Bearer}
 use Rattle.roster.specs.declared.Bearer.TheVariants.{Message as MessageOf, Enum, Extension}
 use Rattle.roster.specs.declared.Nth.{Nth}
-use Rattle.roster.specs.declared.Nth.TheVariants.{Is, Beyond}
-use Rattle.roster.specs.inner.Nth.{nowhere_in, Spelt, Finds}
+use Rattle.roster.specs.inner.Nth.{borne, nowhere_in, Spelt, Finds}
 use Rattle.roster.proofs.NthLaws.{dotted, Same, finds-same, same_refl, same-trans, same-append, scope-same, index_same}
 use Rattle.roster.proofs.NthLaws.{finds-none, finds_past, finds-first, finds-behind, finds-suc}
 use Rattle.roster.proofs.NthLaws.{laid-spelt, spelt-length, spelt-inside}
-use Rattle.roster.proofs.Finding.{in_turn, Finding, finding-start, finding-end, finding-cut, finding-hit, finding-next}
-use Rattle.roster.proofs.Finding.{finding-roomy, finding-ahead}
+use Rattle.field.specs.declared.fields.Fields.{Fields}
+use Rattle.field.specs.Fields.{Goes}
+use Rattle.roster.proofs.Finding.{in_turn, FindingIn, finding-in-start, finding-in-end, finding-in-cut, finding-in-hit, finding-in-next}
+use Rattle.roster.proofs.Finding.{finding_in_laws}
 use Rattle.field.specs.declared.Field.{Field}
 use Rattle.sheet.specs.declared.declaration.Shape.{Shape}
 
@@ -100,15 +99,15 @@ module _ (s : List ℕ) (a e : ℕ) (d : Declaration) where
 
 -- ---- nth_enum
 module _ (s : List ℕ) (a e i at : ℕ) (before : List ℕ) (l : Option Span) (q : l ≡ leaf_at name_tag any_bytes s a e) where
-  pub enum-none : l ≡ None → Finds (declared_in s (take at before) nowhere_in (enum_in s a e none)) i at before before (Beyond i)
+  pub enum-none : l ≡ None → Finds (declared_in s (take at before) nowhere_in (enum_in s a e none)) i at before before (Err i)
   enum-none g = finds-none _ i at before (rw (enum-unnamed s a e none l q g))
 
   module _ (p : Span) (g : l ≡ Some p) where
-    pub enum-past : (i ≡ 0 → ⊥) → Finds (declared_in s (take at before) nowhere_in (enum_in s a e none)) i at before before (Beyond (i - 1))
+    pub enum-past : (i ≡ 0 → ⊥) → Finds (declared_in s (take at before) nowhere_in (enum_in s a e none)) i at before before (Err (i - 1))
     enum-past = finds_past _ i at before _ (ap (declared_in s (take at before) nowhere_in) (enum-named s a e none l q p g))
 
     pub enum_is : i ≡ 0 → (after : List ℕ) (r : ℕ) → Spelt before at (part s p.from p.to) after r
-        → Finds (declared_in s (take at before) nowhere_in (enum_in s a e none)) i at before after (Is (Enum (span p.to e)) r)
+        → Finds (declared_in s (take at before) nowhere_in (enum_in s a e none)) i at before after (Ok (borne (Enum (span p.to e)) r))
     enum_is z after r =
         finds-first _ i at before _ [] (ap (declared_in s (take at before) nowhere_in) (enum-named s a e none l q p g)) z
         (part s p.from p.to) after r refl
@@ -118,16 +117,16 @@ pub ruleset enum_laws = (enum-none, enum-past, enum_is, leaf_laws)
 -- ---- nth_extension
 module _ (s : List ℕ) (a e i at : ℕ) (before : List ℕ) (x : Option Declaration) (q : x ≡ extension_at s a e) where
   pub extension-none : x ≡ None
-      → Finds (declared_in s (take at before) nowhere_in (extension_in (extension_at s a e) none)) i at before before (Beyond i)
+      → Finds (declared_in s (take at before) nowhere_in (extension_in (extension_at s a e) none)) i at before before (Err i)
   extension-none g = finds-none _ i at before (rw (← q, g))
 
   module _ (d : Declaration) (g : x ≡ Some d) where
     pub extension-past : (i ≡ 0 → ⊥)
-        → Finds (declared_in s (take at before) nowhere_in (extension_in (extension_at s a e) none)) i at before before (Beyond (i - 1))
+        → Finds (declared_in s (take at before) nowhere_in (extension_in (extension_at s a e) none)) i at before before (Err (i - 1))
     extension-past = finds_past _ i at before (record { name = take at before ++ text s d.name; what = names.extension d }) (rw (← q, g))
 
     pub extension-is : i ≡ 0 → (after : List ℕ) (r : ℕ) → Spelt before at (text s d.name) after r
-        → Finds (declared_in s (take at before) nowhere_in (extension_in (extension_at s a e) none)) i at before after (Is (Extension d) r)
+        → Finds (declared_in s (take at before) nowhere_in (extension_in (extension_at s a e) none)) i at before after (Ok (borne (Extension d) r))
     extension-is z after r =
         finds-first _ i at before (record { name = take at before ++ text s d.name; what = names.extension d }) [] (rw (← q, g)) z
         (text s d.name) after r refl
@@ -136,7 +135,7 @@ pub ruleset extension_laws =
     (extension-none, extension-past, extension-is, extension-ahead, extension-name-ordered, extension-name-within)
 
 -- ---- nth_in_item
-module _ (s : List ℕ) (d t a e i at : ℕ) (before after : List ℕ) (r : Nth) where
+module _ (s : List ℕ) (d t a e i at : ℕ) (before after : List ℕ) (r : Result Nth ℕ) where
   pub item-in-message : t ≡ message_tag
       → Finds (declared_in s (take at before) nowhere_in (message_in d s a e none)) i at before after r
       → Finds (declared_in s (take at before) nowhere_in (item_at d s t a e)) i at before after r
@@ -155,7 +154,7 @@ module _ (s : List ℕ) (d t a e i at : ℕ) (before after : List ℕ) (r : Nth)
 
 pub item-in-none : (s : List ℕ) (d t a e i at : ℕ) (room : List ℕ)
     → (t ≡ message_tag → ⊥) → (t ≡ extension_tag → ⊥) → (t ≡ enum_tag → ⊥)
-    → Finds (declared_in s (take at room) nowhere_in (item_at d s t a e)) i at room room (Beyond i)
+    → Finds (declared_in s (take at room) nowhere_in (item_at d s t a e)) i at room room (Err i)
 item-in-none s d t a e i at room x y z =
     finds-none _ i at room
     (item-cases (λ f. declared_in s (take at room) nowhere_in (f none) ≡ []) s a e refl d t
@@ -166,12 +165,12 @@ pub ruleset item_laws = (item-in-message, item-in-extension, item-in-enum, item-
 -- ---- nth_in_message
 module _ (s : List ℕ) (d a e i at : ℕ) (before : List ℕ) where
   pub message-beyond-none : d ≡ 0
-      → Finds (declared_in s (take at before) nowhere_in (message_in d s a e none)) i at before before (Beyond i)
+      → Finds (declared_in s (take at before) nowhere_in (message_in d s a e none)) i at before before (Err i)
   message-beyond-none z = finds-none _ i at before (rw (message-beyond d s a e none z))
 
   module _ (l : Option Span) (q : l ≡ leaf_at name_tag any_bytes s a e) where
     pub message-none : l ≡ None
-        → Finds (declared_in s (take at before) nowhere_in (message_in d s a e none)) i at before before (Beyond i)
+        → Finds (declared_in s (take at before) nowhere_in (message_in d s a e none)) i at before before (Err i)
     message-none g = finds-none _ i at before (rw (message-unnamed d s a e none l q g))
 
     module _ (z : d ≡ 0 → ⊥) (p : Span) (g : l ≡ Some p) where
@@ -180,11 +179,11 @@ module _ (s : List ℕ) (d a e i at : ℕ) (before : List ℕ) where
       message-opens = ap (declared_in s (take at before) nowhere_in) (message-named d s a e none z l q p g)
 
       pub message-is : i ≡ 0 → (after : List ℕ) (r : ℕ) → Spelt before at (part s p.from p.to) after r
-          → Finds (declared_in s (take at before) nowhere_in (message_in d s a e none)) i at before after (Is (MessageOf (span p.to e)) r)
+          → Finds (declared_in s (take at before) nowhere_in (message_in d s a e none)) i at before after (Ok (borne (MessageOf (span p.to e)) r))
       message-is y after r = finds-first _ i at before _ _ message-opens y (part s p.from p.to) after r refl
 
       pub message-in : (i ≡ 0 → ⊥) → (mid : List ℕ) (next : ℕ) → Spelt before at (inside (part s p.from p.to)) mid next
-          → (after : List ℕ) (r : Nth)
+          → (after : List ℕ) (r : Result Nth ℕ)
           → Finds (declared_in s (take next mid) nowhere_in (items_in (d - 1) s (walk s p.to e))) (i - 1) next mid after r
           → Finds (declared_in s (take at before) nowhere_in (message_in d s a e none)) i at before after r
       message-in y mid next k after r f =
@@ -227,31 +226,35 @@ items-gathered s q d (step t a e w) =
     item-splits s q d t a e (items_in d s w) ∙ ap (λ (l : List Named). in_item s q d t a e ++ l) (items-gathered s q d w)
 
 module _ (s : List ℕ) (d from to i at : ℕ) (before : List ℕ) where
-  pub items-start : from ≤ to → to ≤ length s → at ≤ from → length s ≤ length before
-      → Finding (in_item s (take at before) d) s from to i at before before i from
-  items-start = finding-start (in_item s (take at before) d) s from to i at before
+  abbrev items_found : (after : List ℕ) → Result Nth ℕ → Type 0
+  items_found after r = Finds (declared_in s (take at before) nowhere_in (items_in d s (walk s from to))) i at before after r
 
-  module _ (room : List ℕ) (k p : ℕ) (x : Finding (in_item s (take at before) d) s from to i at before room k p) where
-    pub items-end : to ≤ p → Finds (declared_in s (take at before) nowhere_in (items_in d s (walk s from to))) i at before room (Beyond k)
-    items-end h = rw (items-gathered s (take at before) d (walk s from to)) (finding-end _ s from to i at before room k p x h)
+  pub items-start : (it : Fields) → it.bytes.now ≡ s → it.at ≡ from → it.end ≡ to → from ≤ to → to ≤ length s → at ≤ from
+      → length s ≤ length before → FindingIn (in_item s (take at before) d) s from to i at before before i it
+  items-start = finding-in-start (in_item s (take at before) d) s from to i at before
 
-    module _ (h : p < to) (r : Option Field) (q : r ≡ field_at s p to) where
-      pub items-cut : r ≡ None → Finds (declared_in s (take at before) nowhere_in (items_in d s (walk s from to))) i at before room (Beyond k)
-      items-cut g = rw (items-gathered s (take at before) d (walk s from to)) (finding-cut _ s from to i at before room k p x h r q g)
+  module _ (room : List ℕ) (k : ℕ) (it : Fields) (x : FindingIn (in_item s (take at before) d) s from to i at before room k it) where
+    items-is : (after : List ℕ) (r : Result Nth ℕ) → Finds (in_turn (in_item s (take at before) d) (walk s from to)) i at before after r
+        → items_found after r
+    items-is after r f = rw (items-gathered s (take at before) d (walk s from to)) f
 
-      module _ (f : Field) (g : r ≡ Some f) (after : List ℕ) (y : Nth)
+    pub items-end : it.end ≤ it.at → items_found room (Err k)
+    items-end h = items-is room (Err k) (finding-in-end _ s from to i at before room k it x h)
+
+    module _ (it' : Fields) (r : Option Field) (w : Goes it it' r) where
+      pub items-cut : r ≡ None → items_found room (Err k)
+      items-cut g = items-is room (Err k) (finding-in-cut _ s from to i at before room k it x it' r w g)
+
+      module _ (f : Field) (g : r ≡ Some f) (after : List ℕ) (y : Result Nth ℕ)
           (z : Finds (declared_in s (take at room) nowhere_in (item_at d s f.tag f.from f.to)) k at room after y) where
-        pub items-hit : (b : Bearer) (n : ℕ) → y ≡ Is b n
-            → Finds (declared_in s (take at before) nowhere_in (items_in d s (walk s from to))) i at before after (Is b n)
-        items-hit b n v =
-            rw (items-gathered s (take at before) d (walk s from to))
-            (finding-hit _ s from to i at before room k p x h r q f g after y (rw x.kept at z) b n v)
+        pub items-hit : (n : Nth) → y ≡ Ok n → items_found after (Ok n)
+        items-hit n v =
+            items-is after (Ok n) (finding-in-hit _ s from to i at before room k it x it' r w f g after y (rw x.left.kept at z) n v)
 
-        pub items-next : (j : ℕ) → y ≡ Beyond j → Finding (in_item s (take at before) d) s from to i at before after j f.to
-        items-next = finding-next _ s from to i at before room k p x h r q f g after y (rw x.kept at z)
+        pub items-next : (j : ℕ) → y ≡ Err j → FindingIn (in_item s (take at before) d) s from to i at before after j it'
+        items-next = finding-in-next _ s from to i at before room k it x it' r w f g after y (rw x.left.kept at z)
 
-pub ruleset items_laws =
-    (items-start, items-end, items-cut, items-hit, items-next, finding-roomy, finding-ahead, field_place_laws)
+pub ruleset items_laws = (items-start, items-end, items-cut, items-hit, items-next, finding_in_laws)
 
 -- ---- nth_in_file
 front-dotted : (t : List ℕ) → (length t ≡ 0 → ⊥) → file_front t ≡ inside t
@@ -259,14 +262,14 @@ front-dotted [] h = absurd (h refl)
 front-dotted (c ∷ cs) h = refl
 
 module _ (s : List ℕ) (t a e i : ℕ) (before : List ℕ) where
-  pub file-other-none : (t ≡ file_tag → ⊥) → Finds (declared_by s 0 (file_at s t a e)) i 0 before before (Beyond i)
+  pub file-other-none : (t ≡ file_tag → ⊥) → Finds (declared_by s 0 (file_at s t a e)) i 0 before before (Err i)
   file-other-none h = finds-none _ i 0 before (rw (file-other s t a e [] h))
 
   module _ (h : t ≡ file_tag) (l : Option Span) (q : l ≡ leaf_at package_tag any_bytes s a e) where
-    pub file-none : l ≡ None → Finds (declared_by s 0 (file_at s t a e)) i 0 before before (Beyond i)
+    pub file-none : l ≡ None → Finds (declared_by s 0 (file_at s t a e)) i 0 before before (Err i)
     file-none g = finds-none _ i 0 before (rw (file-unnamed s t a e [] h l q g))
 
-    module _ (it : Span) (g : l ≡ Some it) (after : List ℕ) (r : Nth) where
+    module _ (it : Span) (g : l ≡ Some it) (after : List ℕ) (r : Result Nth ℕ) where
       opened : (f : List ℕ) → f ≡ file_front (part s it.from it.to)
           → Finds (declared_in s f nowhere_in (items_in most_messages s (walk s it.to e))) i 0 before after r
           → Finds (declared_by s 0 (file_at s t a e)) i 0 before after r
@@ -312,30 +315,29 @@ files-gathered s (step t a e w) =
     same-trans (same-append (same_refl (in_file s t a e)) (files-gathered s w)) (file-splits s t a e (files_in s w))
 
 module _ (s : List ℕ) (to i : ℕ) (before : List ℕ) (c : to ≡ length s) where
-  declared-is : (after : List ℕ) (r : Nth) → Finds (in_turn (in_file s) (walk s 0 to)) i 0 before after r
+  declared-is : (after : List ℕ) (r : Result Nth ℕ) → Finds (in_turn (in_file s) (walk s 0 to)) i 0 before after r
       → Finds (every_declared s) i 0 before after r
   unfolding every_declared
   declared-is after r f = rw (tree-files s, ← c) (finds-same (files-gathered s (walk s 0 to)) f)
 
-  pub declared-start : length s ≤ length before → Finding (in_file s) s 0 to i 0 before before i 0
-  declared-start = finding-start (in_file s) s 0 to i 0 before (omega arith) (omega arith) (omega arith)
+  pub declared-start : (it : Fields) → it.bytes.now ≡ s → it.at ≡ 0 → it.end ≡ to → length s ≤ length before
+      → FindingIn (in_file s) s 0 to i 0 before before i it
+  declared-start it b a e h = finding-in-start (in_file s) s 0 to i 0 before it b a e (omega arith) (omega arith) (omega arith) h
 
-  module _ (room : List ℕ) (k p : ℕ) (x : Finding (in_file s) s 0 to i 0 before room k p) where
-    pub declared-end : to ≤ p → Finds (every_declared s) i 0 before room (Beyond k)
-    declared-end h = declared-is room (Beyond k) (finding-end _ s 0 to i 0 before room k p x h)
+  module _ (room : List ℕ) (k : ℕ) (it : Fields) (x : FindingIn (in_file s) s 0 to i 0 before room k it) where
+    pub declared-end : it.end ≤ it.at → Finds (every_declared s) i 0 before room (Err k)
+    declared-end h = declared-is room (Err k) (finding-in-end _ s 0 to i 0 before room k it x h)
 
-    module _ (h : p < to) (r : Option Field) (q : r ≡ field_at s p to) where
-      pub declared-cut : r ≡ None → Finds (every_declared s) i 0 before room (Beyond k)
-      declared-cut g = declared-is room (Beyond k) (finding-cut _ s 0 to i 0 before room k p x h r q g)
+    module _ (it' : Fields) (r : Option Field) (w : Goes it it' r) where
+      pub declared-cut : r ≡ None → Finds (every_declared s) i 0 before room (Err k)
+      declared-cut g = declared-is room (Err k) (finding-in-cut _ s 0 to i 0 before room k it x it' r w g)
 
-      module _ (f : Field) (g : r ≡ Some f) (after : List ℕ) (y : Nth)
+      module _ (f : Field) (g : r ≡ Some f) (after : List ℕ) (y : Result Nth ℕ)
           (z : Finds (declared_by s 0 (file_at s f.tag f.from f.to)) k 0 room after y) where
-        pub declared-hit : (b : Bearer) (n : ℕ) → y ≡ Is b n → Finds (every_declared s) i 0 before after (Is b n)
-        declared-hit b n v =
-            declared-is after (Is b n) (finding-hit _ s 0 to i 0 before room k p x h r q f g after y z b n v)
+        pub declared-hit : (n : Nth) → y ≡ Ok n → Finds (every_declared s) i 0 before after (Ok n)
+        declared-hit n v = declared-is after (Ok n) (finding-in-hit _ s 0 to i 0 before room k it x it' r w f g after y z n v)
 
-        pub declared-next : (j : ℕ) → y ≡ Beyond j → Finding (in_file s) s 0 to i 0 before after j f.to
-        declared-next = finding-next _ s 0 to i 0 before room k p x h r q f g after y z
+        pub declared-next : (j : ℕ) → y ≡ Err j → FindingIn (in_file s) s 0 to i 0 before after j it'
+        declared-next = finding-in-next _ s 0 to i 0 before room k it x it' r w f g after y z
 
-pub ruleset declared_laws =
-    (declared-start, declared-end, declared-cut, declared-hit, declared-next, finding-roomy, field_place_laws)
+pub ruleset declared_laws = (declared-start, declared-end, declared-cut, declared-hit, declared-next, finding_in_laws)

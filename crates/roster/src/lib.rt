@@ -11,7 +11,8 @@ ghost use Rattle.scope.specs.inner.Steps.{item_at, file_at};
 ghost use Rattle.names.specs.Names.{inside, declared_in, declared_by, every_declared};
 ghost use Rattle.roster.specs.inner.Nth.{nowhere_in, Spelt, Finds};
 
-use field::{Span, field_at, leaf_at};
+use field::fields::Fields;
+use field::{Span, leaf_at};
 use limits::MOST_MESSAGES;
 use octets::{put, put_all};
 use sheet::declaration::{Declaration, extension_at};
@@ -25,11 +26,12 @@ pub enum Bearer {
     Extension(Declaration),
 }
 
-// The i-th of a list: what it is, and how long its full name is; or how much further it stands than the list is long.
+// The i-th of a list: what it is, and how long its full name is. Where there is none, what is answered is how much further it would stand
+// than the list is long.
 #[derive(Clone, Copy)]
-pub enum Nth {
-    Is { bearer: Bearer, size: usize },
-    Beyond(usize),
+pub struct Nth {
+    pub bearer: Bearer,
+    pub size: usize,
 }
 
 // A name of the sheet, behind the first `at` bytes of the room, and the place after it.
@@ -57,48 +59,48 @@ fn put_inside(s: &[u8], name: Span, room: &mut [u8], at: usize) -> usize
 
 // An enum, as the first of what a scope declares.
 #[tactic(auto, using(crate::proofs::RosterLaws::enum_laws))]
-fn nth_enum(s: &[u8], item: Span, room: &mut [u8], at: usize, i: usize) -> Nth
+fn nth_enum(s: &[u8], item: Span, room: &mut [u8], at: usize, i: usize) -> Result<Nth, usize>
     requires lies { Lies item s.now }
     requires at_le_from { (at ≤ item.from) × (length s.now ≤ length room.old) }
     ensures { Finds (declared_in s.now (take at room.old) nowhere_in
         (enum_in s.now item.from item.to none)) i at room.old room.new result }
 {
     let Some(name) = leaf_at(s, item.from, item.to, table::NAME) else {
-        return Nth::Beyond(i);
+        return Err(i);
     };
     if i != 0 {
-        return Nth::Beyond(i - 1);
+        return Err(i - 1);
     }
     let values = Span {
         from: name.to,
         to: item.to,
     };
     let size = put_name(s, name, room, at);
-    Nth::Is {
+    Ok(Nth {
         bearer: Bearer::Enum(values),
         size: size,
-    }
+    })
 }
 
 // An extension, likewise.
 #[tactic(auto, using(crate::proofs::RosterLaws::extension_laws))]
-fn nth_extension(s: &[u8], item: Span, room: &mut [u8], at: usize, i: usize) -> Nth
+fn nth_extension(s: &[u8], item: Span, room: &mut [u8], at: usize, i: usize) -> Result<Nth, usize>
     requires lies { Lies item s.now }
     requires at_le_from { (at ≤ item.from) × (length s.now ≤ length room.old) }
     ensures { Finds (declared_in s.now (take at room.old) nowhere_in
         (extension_in (extension_at s.now item.from item.to) none)) i at room.old room.new result }
 {
     let Some(d) = extension_at(s, item.from, item.to) else {
-        return Nth::Beyond(i);
+        return Err(i);
     };
     if i != 0 {
-        return Nth::Beyond(i - 1);
+        return Err(i - 1);
     }
     let size = put_name(s, d.name, room, at);
-    Nth::Is {
+    Ok(Nth {
         bearer: Bearer::Extension(d),
         size: size,
-    }
+    })
 }
 
 // The i-th of what a field of a scope declares, itself the first, with `left` levels of messages left. The first `at` bytes of the room
@@ -112,7 +114,7 @@ fn nth_in_item(
     room: &mut [u8],
     at: usize,
     i: usize,
-) -> Nth
+) -> Result<Nth, usize>
     requires lies { Lies item s.now }
     requires at_le_from { (at ≤ item.from) × (length s.now ≤ length room.old) }
     ensures { Finds (declared_in s.now (take at room.old) nowhere_in
@@ -127,23 +129,30 @@ fn nth_in_item(
     if tag == table::ENUM {
         return nth_enum(s, item, room, at, i);
     }
-    Nth::Beyond(i)
+    Err(i)
 }
 
 // The i-th of a message and what it declares, the message itself the first.
 #[cycle(nth_in_item_nth_in_items_nth_in_message)]
-fn nth_in_message(s: &[u8], item: Span, left: usize, room: &mut [u8], at: usize, i: usize) -> Nth
+fn nth_in_message(
+    s: &[u8],
+    item: Span,
+    left: usize,
+    room: &mut [u8],
+    at: usize,
+    i: usize,
+) -> Result<Nth, usize>
     requires lies { Lies item s.now }
     requires at_le_from { (at ≤ item.from) × (length s.now ≤ length room.old) }
     ensures { Finds (declared_in s.now (take at room.old) nowhere_in
         (message_in left s.now item.from item.to none)) i at room.old room.new result }
 {
     if left == 0 {
-        return Nth::Beyond(i);
+        return Err(i);
     }
     let end = item.to;
     let Some(name) = leaf_at(s, item.from, end, table::NAME) else {
-        return Nth::Beyond(i);
+        return Err(i);
     };
     let within = Span {
         from: name.to,
@@ -151,10 +160,10 @@ fn nth_in_message(s: &[u8], item: Span, left: usize, room: &mut [u8], at: usize,
     };
     if i == 0 {
         let size = put_name(s, name, room, at);
-        return Nth::Is {
+        return Ok(Nth {
             bearer: Bearer::Message(within),
             size: size,
-        };
+        });
     }
     let size = put_inside(s, name, room, at);
     nth_in_items(s, within, left - 1, room, size, i - 1)
@@ -162,51 +171,50 @@ fn nth_in_message(s: &[u8], item: Span, left: usize, room: &mut [u8], at: usize,
 
 // The i-th of what a scope declares.
 #[cycle(nth_in_item_nth_in_items_nth_in_message)]
-fn nth_in_items(s: &[u8], body: Span, left: usize, room: &mut [u8], at: usize, i: usize) -> Nth
+fn nth_in_items(
+    s: &[u8],
+    body: Span,
+    left: usize,
+    room: &mut [u8],
+    at: usize,
+    i: usize,
+) -> Result<Nth, usize>
     requires lies { Lies body s.now }
     requires at_le_from { (at ≤ body.from) × (length s.now ≤ length room.old) }
     ensures { Finds (declared_in s.now (take at room.old) nowhere_in
         (items_in left s.now (walk s.now body.from body.to))) i at room.old room.new result }
 {
-    let end = body.to;
     let mut k = i;
-    let mut p = body.from;
-    while p < end {
-        let Some(field) = field_at(s, p, end) else {
-            return Nth::Beyond(k);
+    for field in Fields::between(s, body.from, body.to) {
+        let Some(field) = field else {
+            return Err(k);
         };
         let item = Span {
             from: field.from,
             to: field.to,
         };
         match nth_in_item(s, field.tag, item, left, room, at, k) {
-            Nth::Is { bearer, size } => {
-                return Nth::Is {
-                    bearer: bearer,
-                    size: size,
-                };
-            }
-            Nth::Beyond(rest) => k = rest,
+            Ok(nth) => return Ok(nth),
+            Err(rest) => k = rest,
         }
-        p = field.to;
     }
-    Nth::Beyond(k)
+    Err(k)
 }
 
 // The i-th of what a field of a sheet declares.
 #[tactic(auto, using(crate::proofs::RosterLaws::file_laws, crate::proofs::RosterLaws::leaf_laws, field::proofs::LeafLaws::leaf_inside))]
-fn nth_in_file(s: &[u8], tag: u8, item: Span, room: &mut [u8], i: usize) -> Nth
+fn nth_in_file(s: &[u8], tag: u8, item: Span, room: &mut [u8], i: usize) -> Result<Nth, usize>
     requires lies { Lies item s.now }
     requires s_in_bounds { length s.now ≤ length room.old }
     ensures { Finds (declared_by s.now 0 (file_at s.now tag item.from item.to)) i 0
         room.old room.new result }
 {
     if tag != table::FILE {
-        return Nth::Beyond(i);
+        return Err(i);
     }
     let end = item.to;
     let Some(package) = leaf_at(s, item.from, end, table::PACKAGE) else {
-        return Nth::Beyond(i);
+        return Err(i);
     };
     let within = Span {
         from: package.to,
@@ -221,31 +229,23 @@ fn nth_in_file(s: &[u8], tag: u8, item: Span, room: &mut [u8], i: usize) -> Nth
 
 // The i-th of all messages, enums and extensions of the sheet, its full name at the front of the room.
 #[tactic(auto, using(crate::proofs::RosterLaws::declared_laws))]
-pub fn nth_declared(s: &[u8], room: &mut [u8], i: usize) -> Nth
+pub fn nth_declared(s: &[u8], room: &mut [u8], i: usize) -> Result<Nth, usize>
     requires { length s.now ≤ length room.old }
     ensures { Finds (every_declared s.now) i 0 room.old room.new result }
 {
-    let end = s.len();
     let mut k = i;
-    let mut p = 0;
-    while p < end {
-        let Some(field) = field_at(s, p, end) else {
-            return Nth::Beyond(k);
+    for field in Fields::between(s, 0, s.len()) {
+        let Some(field) = field else {
+            return Err(k);
         };
         let item = Span {
             from: field.from,
             to: field.to,
         };
         match nth_in_file(s, field.tag, item, room, k) {
-            Nth::Is { bearer, size } => {
-                return Nth::Is {
-                    bearer: bearer,
-                    size: size,
-                };
-            }
-            Nth::Beyond(rest) => k = rest,
+            Ok(nth) => return Ok(nth),
+            Err(rest) => k = rest,
         }
-        p = field.to;
     }
-    Nth::Beyond(k)
+    Err(k)
 }

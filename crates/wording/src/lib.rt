@@ -9,17 +9,22 @@ use console::output::text_at;
 use field::Span;
 use limits::MOST_SHEET;
 use reasons::{Reason, Why};
-use roster::{Nth, nth_declared};
+use roster::nth_declared;
 use words::{NO, YES, row_of, show_word};
 
 // The full name of the i-th declaration, with room for it.
 fn show_name(sheet: &[u8], i: usize, room: &mut [u8])
     requires { length sheet.now ≤ length room.old }
 {
-    let Nth::Is { bearer: _, size } = nth_declared(sheet, room, i) else {
-        return;
-    };
-    text_at(room, Span { from: 0, to: size });
+    if let Ok(nth) = nth_declared(sheet, room, i) {
+        text_at(
+            room,
+            Span {
+                from: 0,
+                to: nth.size,
+            },
+        );
+    }
 }
 
 // The words of a reason, around the name or path that it is about, and the end of the line.
@@ -31,20 +36,20 @@ fn show_reason(sheet: &[u8], why: Why, about: Span) {
 }
 
 // As `tell_line`, with room for a full name.
-fn tell_over(sheet: &[u8], reason: Reason, room: &mut [u8])
+fn tell_over(sheet: &[u8], reason: Option<Reason>, room: &mut [u8])
     requires { length sheet.now ≤ length room.old }
 {
-    let Reason::No { why, index, about } = reason else {
+    let Some(reason) = reason else {
         show_word(YES);
         return;
     };
     show_word(NO);
-    show_name(sheet, index, room);
-    show_reason(sheet, why, about);
+    show_name(sheet, reason.index, room);
+    show_reason(sheet, reason.why, reason.about);
 }
 
 // The line of a word that says yes or no of a sheet. One that was judged has no more bytes.
-pub fn tell_line(word: usize, sheet: &[u8], reason: Reason) {
+pub fn tell_line(word: usize, sheet: &[u8], reason: Option<Reason>) {
     if MOST_SHEET < sheet.len() {
         return;
     }

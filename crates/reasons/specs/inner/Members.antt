@@ -17,7 +17,6 @@ use Rattle.sheet.specs.Table.{field_tag}
 use Rattle.sheet.specs.Declaration.{message_field_at, value_at}
 use Rattle.reasons.specs.declared.Why.{Why}
 use Rattle.reasons.specs.declared.Reason.{Reason}
-use Rattle.reasons.specs.declared.Reason.TheVariants.{Yes}
 use Rattle.reasons.specs.Reasons.{or_no}
 use Rattle.sheet.specs.declared.declaration.Declaration.{Declaration}
 use Rattle.sheet.specs.declared.declaration.Value.{Value}
@@ -45,6 +44,6 @@ members_in k s done = []
 members_in k s cut = []
 members_in k s (step t a e w) = leaf_onto (member_at k s t a e) (members_in k s w)
 
-unfoldable pub member_flaw : (s : List ℕ) → Why → (index : ℕ) → List Span → Option Span → Reason
-member_flaw s w k ns None = Yes
+unfoldable pub member_flaw : (s : List ℕ) → Why → (index : ℕ) → List Span → Option Span → Option Reason
+member_flaw s w k ns None = None
 member_flaw s w k ns (Some l) = or_no (once (is_text s (text s l)) ns) w k l

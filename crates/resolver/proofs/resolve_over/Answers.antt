@@ -1,17 +1,26 @@
 -- `resolver::resolve_over` meets its contract.
 -- Assumes nothing.
-use Rattle.resolver.proofs.WriteLaws.{over_laws}
+use Rattle.std.specs.Prelude.{◌≡◌, None, Some, Ok, Err}
 use Rattle.basis.proofs.Kit.{rules}
+use Rattle.resolver.proofs.WriteLaws.{over_laws}
 use Rattle.resolver.proofs.resolve_over.Goals as goal
 
-pub returns-in-Absent : goal.returns-in-Absent
-returns-in-Absent c = search over_laws
-
-pub returns-in-Refused : goal.returns-in-Refused
-returns-in-Refused c = search over_laws
-
-pub returns-in-Fine : goal.returns-in-Fine
-returns-in-Fine c = search over_laws
-
 pub write-requires-clause-ready : goal.write-requires-clause-ready
-write-requires-clause-ready c = search (rules, over_laws)
+write-requires-clause-ready c =
+    let is : c.measure_tested.result ≡ Ok (Some c.in-Ok-Some.measured) = cc in
+    search (rules, over_laws, is)
+
+pub returns-in-Ok-None : goal.returns-in-Ok-None
+returns-in-Ok-None c =
+    let is : c.measure_tested.result ≡ Ok None = cc in
+    search (over_laws, is)
+
+pub returns-in-Ok-Some : goal.returns-in-Ok-Some
+returns-in-Ok-Some c =
+    let is : c.measure_tested.result ≡ Ok (Some c.in-Ok-Some.measured) = cc in
+    search (over_laws, is)
+
+pub returns-in-Err : goal.returns-in-Err
+returns-in-Err c =
+    let is : c.measure_tested.result ≡ Err c.in-Err.cause = cc in
+    search (over_laws, is)

@@ -17,20 +17,20 @@ nth_in_item-returns-then-tag-eq-ENUM t c = search (rules, item_laws)
 pub nth_in_item-returns : goal.nth_in_item-returns
 nth_in_item-returns t c = search (rules, item_laws)
 
-pub nth_in_items-loop-p-init : goal.nth_in_items-loop-p-init
-nth_in_items-loop-p-init t c = search (rules, items_laws)
+pub nth_in_items-loop-field-init : goal.nth_in_items-loop-field-init
+nth_in_items-loop-field-init t c = rw c.into_iter-field-iterator.ensures.into_iter_gives (search (rules, items_laws))
 
 pub nth_in_items-returns-in_default : goal.nth_in_items-returns-in_default
-nth_in_items-returns-in_default t c = search (rules, items_laws)
+nth_in_items-returns-in_default t c = search (rules, items_laws, c.in-Some.ensures.steps)
 
-pub nth_in_items-returns-in-Is : goal.nth_in_items-returns-in-Is
-nth_in_items-returns-in-Is t c = search (rules, items_laws)
+pub nth_in_items-returns-in-Ok : goal.nth_in_items-returns-in-Ok
+nth_in_items-returns-in-Ok t c = search (rules, items_laws, c.in-Some.ensures.steps)
 
-pub nth_in_items-loop-p-preserved : goal.nth_in_items-loop-p-preserved
-nth_in_items-loop-p-preserved t c = search (rules, items_laws)
+pub nth_in_items-loop-field-preserved : goal.nth_in_items-loop-field-preserved
+nth_in_items-loop-field-preserved t c = search (rules, items_laws, c.in-Some.ensures.steps)
 
 pub nth_in_items-returns : goal.nth_in_items-returns
-nth_in_items-returns t c = search (rules, items_laws)
+nth_in_items-returns t c = search (rules, items_laws, c.in-None.ensures.steps)
 
 pub nth_in_message-put_name-size-requires-clause-lies : goal.nth_in_message-put_name-size-requires-clause-lies
 nth_in_message-put_name-size-requires-clause-lies t c = search (rules, message_laws, leaf_laws, leaf_inside)

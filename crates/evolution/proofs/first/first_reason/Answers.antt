@@ -3,17 +3,17 @@
 use Rattle.evolution.proofs.RosterLaws.{first_reason_laws}
 use Rattle.evolution.proofs.first.first_reason.Goals as goal
 
-pub slice_bounds-reason_of-end-in-loop-bearer : goal.slice_bounds-reason_of-end-in-loop-bearer
-slice_bounds-reason_of-end-in-loop-bearer c = search first_reason_laws
+pub slice_bounds-name-end-in-loop-nth : goal.slice_bounds-name-end-in-loop-nth
+slice_bounds-name-end-in-loop-nth c = search first_reason_laws
 
-pub returns-in_default-found : goal.returns-in_default-found
-returns-in_default-found c = search first_reason_laws
+pub returns-in-Some : goal.returns-in-Some
+returns-in-Some c = search first_reason_laws
 
 pub overflow_add-i : goal.overflow_add-i
 overflow_add-i c = search first_reason_laws
 
-pub loop-bearer-smaller : goal.loop-bearer-smaller
-loop-bearer-smaller c = search first_reason_laws
+pub loop-nth-smaller : goal.loop-nth-smaller
+loop-nth-smaller c = search first_reason_laws
 
-pub loop-bearer-preserved : goal.loop-bearer-preserved
-loop-bearer-preserved c = search first_reason_laws
+pub loop-nth-preserved : goal.loop-nth-preserved
+loop-nth-preserved c = search first_reason_laws
