@@ -11,7 +11,6 @@ use Rattle.reply.specs.declared.Refusal.TheVariants.{ExtensionNotFound, MessageN
 use Rattle.field.specs.Field.{field_at}
 use Rattle.field.specs.Leaf.{span, leaf_at}
 use Rattle.field.specs.Walk.{walk_by}
-use Rattle.search.specs.declared.extension.Compared.TheVariants.{Refused}
 use Rattle.sheet.specs.Tree.{items_in}
 use Rattle.sheet.proofs.Sheets.{tagged}
 use Rattle.request.specs.Table as tags
@@ -65,7 +64,7 @@ abbrev nothing : Lookups
 nothing = record {
   message = λ p. Err MessageNotFound;
   enumeration = λ p. Err MessageNotFound;
-  extension = λ c m n. Refused ExtensionNotFound;
+  extension = λ c m n. Err ExtensionNotFound;
 }
 
 abbrev empty : Message

@@ -1,44 +1,52 @@
 -- A record that waits to be printed: reading goes on after it, and comes to an end.
 -- Assumes nothing.
-use Rattle.std.specs.Prelude.{◌≡◌, List, ℕ, suc, ◌-◌, ◌<◌, length}
+use Rattle.std.specs.Prelude.{◌≡◌, List, ℕ, suc, ◌-◌, ◌<◌, length, Option, None, Some, Result}
+use Rattle.std.specs.Result.{result_unwrap_or}
 use Rattle.basis.proofs.Kit.{arith}
 use Rattle.basis.proofs.Never.{never}
+use Rattle.reply.specs.declared.Refusal.{Refusal}
 use Rattle.reply.specs.Outcome.{Outcome}
 use Rattle.entries.specs.declared.Row.{Row}
-use Rattle.levels.specs.declared.Cursor.{Cursor}
 use Rattle.levels.specs.declared.Event.{Event}
-use Rattle.levels.specs.declared.Event.TheVariants.{Record, End}
 use Rattle.levels.specs.inner.Left.{Open, Moves, moves, ends, wrongs}
-use Rattle.levels.proofs.MovesLaws.{moved_open}
 use Rattle.levels.proofs.StartLaws.{start-open}
 use Rattle.lookups.proofs.LookupLaws.{message-lies}
 use Rattle.display.specs.inner.Waits.{Waits, rest_of}
 
 module _ (s bs st : List ℕ) where
-  pub end-waits : Waits s bs st End
-  end-waits = record { opens = λ x c q. never cc }
+  pub none-waits : Waits s bs st None
+  none-waits = record { opens = λ x q. never cc }
 
-  module _ (e : Event) (w : Waits s bs st e) (x : Row) (c : Cursor) (q : e ≡ Record x c) where
-    pub waits-open : Open s bs st c
-    waits-open = w.opens x c q
+  pub waits-open : (e : Option Event) → Waits s bs st e → (x : Event) → e ≡ Some x → Open s bs st x.rest
+  waits-open e w x q = w.opens x q
 
-    pub waits-again : Waits s bs st (Record x c)
-    waits-again = rw q at w
+-- what is read on to; a fault is the end
+found : {s type bs : List ℕ} {before : Outcome Row} {at : ℕ} {st : List ℕ} {r : Result (Option Event) Refusal}
+    → Moves s type bs before at st r → (x : Event) → result_unwrap_or r None ≡ Some x → Open s bs st x.rest
+found (moves {e} o p h) x q = let same : x ≡ e = cc in rw same o
+found (ends p) x q = never cc
+found (wrongs p) x q = never cc
 
-fewer : {s type bs : List ℕ} {before : Outcome Row} {at : ℕ} {st : List ℕ} {r : Event} → Moves s type bs before at st r
-    → rest_of bs r < suc (length bs - at)
+fewer : {s type bs : List ℕ} {before : Outcome Row} {at : ℕ} {st : List ℕ} {r : Result (Option Event) Refusal}
+    → Moves s type bs before at st r → rest_of bs (result_unwrap_or r None) < suc (length bs - at)
 fewer (moves o p h) = omega (arith, o.inside)
 fewer (ends p) = omega arith
 fewer (wrongs p) = omega arith
 
-module _ (s type bs : List ℕ) (before : Outcome Row) (at : ℕ) (st : List ℕ) (r : Event) (k : Moves s type bs before at st r) where
-  pub moved-waits : Waits s bs st r
-  moved-waits = record { opens = λ x c q. moved_open s type bs before at st r k x c q }
+module _ (s type bs : List ℕ) (before : Outcome Row) (at : ℕ) (st : List ℕ) (r : Result (Option Event) Refusal)
+    (k : Moves s type bs before at st r) (e : Option Event) (q : e ≡ result_unwrap_or r None) where
+  pub read-waits : Waits s bs st e
+  read-waits = rw q (record { opens = found k })
 
-module _ (s type bs : List ℕ) (before : Outcome Row) (c : Cursor) (st : List ℕ) (r : Event) (k : Moves s type bs before c.at st r) where
-  pub moved-fewer : (e : Event) (x : Row) → e ≡ Record x c → rest_of bs r < rest_of bs e
-  moved-fewer e x q = rw q (fewer k)
+  pub read-fewer : rest_of bs e < suc (length bs - at)
+  read-fewer = rw q (fewer k)
 
-pub ruleset first_laws = (message-lies, start-open, end-waits, moved-waits)
+pub ruleset reading_laws = (read-waits, read-fewer)
 
-pub ruleset waits_laws = (end-waits, waits-open, waits-again, moved-waits, moved-fewer)
+pub ruleset first_laws = (message-lies, start-open, none-waits)
+
+-- ---- the measure of a loop over the records
+pub waits-fewer : (bs : List ℕ) (n : ℕ) (x : Event) → n < suc (length bs - x.rest.at) → (e : Option Event) → e ≡ Some x → n < rest_of bs e
+waits-fewer bs n x h e q = rw q h
+
+pub ruleset waits_laws = (none-waits, waits-open, waits-fewer)

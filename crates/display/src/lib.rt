@@ -14,9 +14,9 @@ mod words;
 ghost use Rattle.std.specs.Prelude.{◌≡◌, length};
 ghost use Rattle.levels.specs.inner.Stack.{stack_words};
 
-use first::first_of;
+use first::{first_of, read_on};
 use inputs::words::least;
-use levels::{Event, STACK_WORDS, next};
+use levels::STACK_WORDS;
 use limits::MOST_OPTION_BYTES;
 use row::show_row;
 use side::show_pairs;
@@ -43,12 +43,9 @@ fn rows_over(sheet: &[u8], options_type: &[u8], bytes: &[u8], stack: &mut [usize
         return;
     }
     let mut event = first_of(sheet, options_type, bytes, stack);
-    loop {
-        let Event::Record { row, rest } = event else {
-            return;
-        };
-        show_row(sheet, bytes, row);
-        event = next(sheet, options_type, bytes, stack, rest);
+    while let Some(found) = event {
+        show_row(sheet, bytes, found.row);
+        event = read_on(sheet, options_type, bytes, stack, found.rest);
     }
 }
 

@@ -6,11 +6,11 @@ ghost use Rattle.limits.specs.Figures.{most_option_bytes};
 ghost use Rattle.levels.specs.inner.Stack.{stack_words};
 ghost use Rattle.display.specs.inner.Waits.{Waits};
 
-use crate::first::first_of;
+use crate::first::{first_of, read_on};
 use crate::row::{indent, show_entry};
 use crate::words::{BAR, LINE_END, MINUS, show_word};
 use entries::Row;
-use levels::{Event, next};
+use levels::Event;
 
 // A place behind all others.
 const PAST: u32 = 4_294_967_295;
@@ -31,26 +31,21 @@ fn show_before(
     options_type: &[u8],
     bytes: &[u8],
     stack: &mut [usize],
-    from: Event,
+    from: Option<Event>,
     place: u32,
-) -> Event
+) -> Option<Event>
     requires { Waits sheet.now bytes.now stack.old from }
     ensures { Waits sheet.now bytes.now stack.new result }
 {
     let mut event = from;
-    loop {
-        let Event::Record { row, rest } = event else {
-            return Event::End;
-        };
-        if place <= row.entry.place {
-            return Event::Record {
-                row: row,
-                rest: rest,
-            };
+    while let Some(waiting) = event {
+        if place <= waiting.row.entry.place {
+            return event;
         }
-        show_alone(sheet, bytes, row);
-        event = next(sheet, options_type, bytes, stack, rest);
+        show_alone(sheet, bytes, waiting.row);
+        event = read_on(sheet, options_type, bytes, stack, waiting.rest);
     }
+    None
 }
 
 // What waits of the older behind a place: the record there has been shown.
@@ -60,43 +55,32 @@ fn behind(
     options_type: &[u8],
     bytes: &[u8],
     stack: &mut [usize],
-    event: Event,
+    event: Option<Event>,
     place: u32,
-) -> Event
+) -> Option<Event>
     requires { Waits sheet.now bytes.now stack.old event }
     ensures { Waits sheet.now bytes.now stack.new result }
 {
-    let Event::Record { row, rest } = event else {
-        return Event::End;
-    };
-    if row.entry.place != place {
-        return Event::Record {
-            row: row,
-            rest: rest,
-        };
+    let waiting = event?;
+    if waiting.row.entry.place != place {
+        return event;
     }
-    next(sheet, options_type, bytes, stack, rest)
+    read_on(sheet, options_type, bytes, stack, waiting.rest)
 }
 
 // The older's record beside the newer's, where it is the same one.
-fn show_beside(sheet: &[u8], bytes: &[u8], row: Row, event: Event) {
-    let Event::Record {
-        row: other,
-        rest: _,
-    } = event
-    else {
-        show_word(MINUS);
-        return;
-    };
-    if (other.entry.place == row.entry.place) & (other.level == row.level) {
-        show_entry(sheet, bytes, other.entry);
-    } else {
-        show_word(MINUS);
+fn show_beside(sheet: &[u8], bytes: &[u8], row: Row, event: Option<Event>) {
+    if let Some(other) = event {
+        if (other.row.entry.place == row.entry.place) & (other.row.level == row.level) {
+            show_entry(sheet, bytes, other.row.entry);
+            return;
+        }
     }
+    show_word(MINUS);
 }
 
 // The line of a record of the newer and what waits of the older.
-fn show_pair(newer: &[u8], older: &[u8], bytes: &[u8], row: Row, event: Event) {
+fn show_pair(newer: &[u8], older: &[u8], bytes: &[u8], row: Row, event: Option<Event>) {
     indent(row.level);
     show_entry(newer, bytes, row.entry);
     show_word(BAR);
@@ -112,8 +96,8 @@ fn show_line(
     bytes: &[u8],
     stack: &mut [usize],
     row: Row,
-    from: Event,
-) -> Event
+    from: Option<Event>,
+) -> Option<Event>
     requires { Waits older.now bytes.now stack.old from }
     ensures { Waits older.now bytes.now stack.new result }
 {
@@ -132,22 +116,19 @@ fn show_from(
     bytes: &[u8],
     stack: &mut [usize],
     other: &mut [usize],
-    first: Event,
-    beside: Event,
+    first: Option<Event>,
+    beside: Option<Event>,
 )
     requires waits { Waits newer.now bytes.now stack.old first }
     requires waits_2 { Waits older.now bytes.now other.old beside }
 {
     let mut left = first;
     let mut right = beside;
-    loop {
-        let Event::Record { row, rest } = left else {
-            show_before(older, options_type, bytes, other, right, PAST);
-            return;
-        };
-        left = next(newer, options_type, bytes, stack, rest);
-        right = show_line(newer, older, options_type, bytes, other, row, right);
+    while let Some(event) = left {
+        left = read_on(newer, options_type, bytes, stack, event.rest);
+        right = show_line(newer, older, options_type, bytes, other, event.row, right);
     }
+    show_before(older, options_type, bytes, other, right, PAST);
 }
 
 // The lines of all records of either sheet, of each up to its first fault, with room for the levels of both.

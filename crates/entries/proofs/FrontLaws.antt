@@ -22,7 +22,7 @@ use Rattle.sheet.specs.declared.declaration.Declaration.{Declaration}
 use Rattle.lookups.specs.Lookups.{Lookups, Message}
 use Rattle.entries.specs.declared.Entry.{Entry}
 use Rattle.entries.specs.declared.Front.{Front}
-use Rattle.entries.specs.declared.Front.TheVariants.{Leaf, Wrong}
+use Rattle.entries.specs.declared.Front.TheVariants.{Leaf}
 use Rattle.entries.specs.Item.{Item, some, wrong, declared, entered, entry, plain, by_declaration, by_tag, item}
 use Rattle.entries.specs.inner.Fronts.{unknown_of, on_message, entered_of, entry_of, known_front, known_of, by_declared, behind_tag}
 use Rattle.entries.specs.inner.Fronts.{Shows, leaf, inside, wrongly}
@@ -32,7 +32,7 @@ use Rattle.scope.specs.declared.lookup.LookupScope.{LookupScope}
 use Rattle.varint.specs.declared.Read.{Read}
 
 -- ---- behind a good tag of n bytes
-shows-either : {A : Type 0} (s : List ℕ) (at : ℕ) (f : A → Front) (b : Bool) (i j : Item) (x y : A) → Shows s at i (f x) → Shows s at j (f y)
+shows-either : {A : Type 0} (s : List ℕ) (at : ℕ) (f : A → Result Front Refusal) (b : Bool) (i j : Item) (x y : A) → Shows s at i (f x) → Shows s at j (f y)
     → Shows s at (elim b [ true ↦ i | false ↦ j ]) (f (elim b [ true ↦ x | false ↦ y ]))
 shows-either s at f true i j x y p q = p
 shows-either s at f false i j x y p q = q
@@ -59,7 +59,7 @@ module _ (L : Lookups) (s : List ℕ) (m : Message) (at : ℕ) (bs : List ℕ) (
     same-entry : there ≡ here
     same-entry = rw (add_assoc, drop-drop)
 
-    shows-leaf : Shows s at (some (here ∷ []) (n + x.before + x.size)) (Leaf there (at + n + x.before + x.size))
+    shows-leaf : Shows s at (some (here ∷ []) (n + x.before + x.size)) (Ok (Leaf there (at + n + x.before + x.size)))
     shows-leaf = let q : at + n + x.before + x.size ≡ at + (n + x.before + x.size) = omega arith in rw (same-entry, q) leaf
 
     shows-inside : Shows s at (entered here (text s d.shape.path) (n + x.before) x.size (L.message (text s d.shape.path)))
@@ -125,7 +125,7 @@ module _ (L : Lookups) (s : List ℕ) (m : Message) (bs : List ℕ) (at end : �
       (shows-declared L s m at left x.value x.next (declared s m (number_of x.value)) (payload_at (wire_type_of x.value) (drop x.next left)))
 
   module _ (v : Option Read) (p : v ≡ varint_at bs at end) where
-    pub front-no-tag : v ≡ None → Shows s at (item L s m at left) (Wrong BadBytes)
+    pub front-no-tag : v ≡ None → Shows s at (item L s m at left) (Err BadBytes)
     unfolding varint_at
     front-no-tag q = rw (item-no-tag L s m at left (placed-bad at (read_varint left) (sym q ∙ p))) wrongly
 
@@ -134,10 +134,10 @@ module _ (L : Lookups) (s : List ℕ) (m : Message) (bs : List ℕ) (at end : �
       unfolding varint_at
       tag_read = placed-read left at y (read_varint left) refl (sym q ∙ p)
 
-      pub front-bad-tag : b ≡ false → Shows s at (item L s m at left) (Wrong BadBytes)
+      pub front-bad-tag : b ≡ false → Shows s at (item L s m at left) (Err BadBytes)
       front-bad-tag h = rw (item-bad-tag L s m at left (read y.value tag_read.size) tag_read.read (sym g ∙ h)) wrongly
 
-      pub front-good : b ≡ true → (r : Front) → r ≡ behind_tag L s m bs y.value y.next end → Shows s at (item L s m at left) r
+      pub front-good : b ≡ true → (r : Result Front Refusal) → r ≡ behind_tag L s m bs y.value y.next end → Shows s at (item L s m at left) r
       front-good h r e =
           subst (Shows s at (item L s m at left)) (sym (e ∙ ap (λ (x : ℕ). behind_tag L s m bs y.value x end) tag_read.place))
           (shows-behind (read y.value tag_read.size) tag_read.read (sym g ∙ h))

@@ -24,7 +24,6 @@ use Rattle.lookups.specs.Lookups.{walking}
 use Rattle.lookups.proofs.LookupLaws.{message-lies}
 use Rattle.entries.specs.declared.Entry.{Entry}
 use Rattle.entries.specs.declared.Front.{Front}
-use Rattle.entries.specs.declared.Front.TheVariants.{Wrong}
 use Rattle.entries.specs.Item.{declared}
 use Rattle.entries.specs.inner.Fronts.{message, unknown_of, on_message, entered_of, entry_of, known_front, known_of, by_declared}
 use Rattle.entries.specs.inner.Fronts.{behind_tag, FrontLies}
@@ -86,13 +85,13 @@ module _ (s name : List ℕ) (k : ℕ) (place : LookupScope) (l : InSheet s plac
   pub path-within : d.shape.path.to ≤ length s
   path-within = (numbered-places s name k place l d a c g).path.inside
 
-pub lies-wrong : (s : List ℕ) (at end : ℕ) (w : Refusal) → FrontLies s at end (Wrong w)
+pub lies-wrong : (s : List ℕ) (at end : ℕ) (w : Refusal) → FrontLies s at end (Err w)
 unfolding FrontLies
 lies-wrong s at end w = tt
 
 pub lies-good : (s name : List ℕ) (place : LookupScope) → InSheet s place → (bs : List ℕ) (at end : ℕ)
     → (v : Option Read) → v ≡ varint_at bs at end → (x : Read) → v ≡ Some x
-    → (r : Front) → r ≡ behind_tag (walking s) s (message name place) bs x.value x.next end → FrontLies s at end r
+    → (r : Result Front Refusal) → r ≡ behind_tag (walking s) s (message name place) bs x.value x.next end → FrontLies s at end r
 unfolding behind_tag
 lies-good s name place l bs at end v p x q r e =
     let w = wire_type_of x.value in

@@ -13,7 +13,6 @@ use Rattle.wire.specs.Tag.{number_of, wire_type_of, wire_read, tag_good}
 use Rattle.wire.proofs.TagLaws.{tag-good-le, tag-good-wire}
 use Rattle.payloads.specs.inner.Placed.{payload_in}
 use Rattle.taken.specs.declared.Taken.{Taken}
-use Rattle.taken.specs.declared.Taken.TheVariants as taken
 use Rattle.taken.specs.inner.Taking.{unknown_taken, known_taken}
 use Rattle.sheet.specs.declared.declaration.Declaration.{Declaration}
 use Rattle.scope.specs.declared.lookup.LookupScope.{LookupScope}
@@ -24,57 +23,57 @@ use Rattle.numbers.specs.Number.{declaration_of}
 use Rattle.lookups.specs.Lookups.{walking}
 use Rattle.entries.specs.declared.Entry.{Entry}
 use Rattle.entries.specs.declared.Front.{Front}
-use Rattle.entries.specs.declared.Front.TheVariants.{Leaf, Inside, Wrong}
+use Rattle.entries.specs.declared.Front.TheVariants.{Leaf, Inside}
 use Rattle.entries.specs.inner.Fronts.{message, unknown_of, entered_of, known_front, known_of, by_declared, behind_tag}
 use Rattle.entries.proofs.LiesLaws.{payload_in_laws}
 use Rattle.payloads.specs.declared.Payload.{Payload}
 
 -- ---- unknown
-module _ (k w : ℕ) (p : Option Payload) (x : Taken) (q : x ≡ unknown_taken p) where
-  pub unknown-wrong : (r : Refusal) → x ≡ taken.Wrong r → Wrong r ≡ unknown_of k w p
+module _ (k w : ℕ) (p : Option Payload) (x : Result Taken Refusal) (q : x ≡ unknown_taken p) where
+  pub unknown-wrong : (r : Refusal) → x ≡ Err r → Err r ≡ unknown_of k w p
   unfolding unknown_of
   unknown-wrong r e = rw (← q, e)
 
-  pub unknown-record : (at size v next : ℕ) → x ≡ taken.Record at size v next
-      → Leaf (record { number = k; typ = 0; wire = w; place = at; size = size; value = v; by = None }) next ≡ unknown_of k w p
+  pub unknown-record : (y : Taken) → x ≡ Ok y
+      → Ok (Leaf (record { number = k; typ = 0; wire = w; place = y.place; size = y.size; value = y.value; by = None }) y.next) ≡ unknown_of k w p
   unfolding unknown_of
-  unknown-record at size v next e = rw (← q, e)
+  unknown-record y e = rw (← q, e)
 
 pub ruleset unknown_laws = (unknown-wrong, unknown-record)
 
 -- ---- entered
 module _ (s : List ℕ) (e : Entry) (p : Span) (u : Result LookupScope Refusal) (q : u ≡ (walking s).message (text s p)) where
-  pub entered-none : (w : Refusal) → u ≡ Err w → Wrong w ≡ entered_of (walking s) s e p
+  pub entered-none : (w : Refusal) → u ≡ Err w → Err w ≡ entered_of (walking s) s e p
   unfolding entered_of
   entered-none w g = rw (← q, g)
 
-  pub entered-found : (c : LookupScope) → u ≡ Ok c → Inside e p c ≡ entered_of (walking s) s e p
+  pub entered-found : (c : LookupScope) → u ≡ Ok c → Ok (Inside e p c) ≡ entered_of (walking s) s e p
   unfolding entered_of
   entered-found c g = rw (← q, g)
 
 pub ruleset entered_laws = (entered-none, entered-found)
 
 -- ---- known
-module _ (s : List ℕ) (d : Declaration) (k w : ℕ) (p : Option Payload) (t : ℕ) (i : t ≡ d.shape.typ) (x : Taken) (q : x ≡ known_taken t w p) where
-  taken-by : (y : Taken) → x ≡ y → known_of (walking s) s d k w p ≡ known_front (walking s) s d k w y
+module _ (s : List ℕ) (d : Declaration) (k w : ℕ) (p : Option Payload) (t : ℕ) (i : t ≡ d.shape.typ) (x : Result Taken Refusal) (q : x ≡ known_taken t w p) where
+  taken-by : (y : Result Taken Refusal) → x ≡ y → known_of (walking s) s d k w p ≡ known_front (walking s) s d k w y
   unfolding known_of
   taken-by y e = rw (← e, q, i)
 
-  pub known-wrong : (r : Refusal) → x ≡ taken.Wrong r → Wrong r ≡ known_of (walking s) s d k w p
-  known-wrong r e = sym (taken-by (taken.Wrong r) e)
+  pub known-wrong : (r : Refusal) → x ≡ Err r → Err r ≡ known_of (walking s) s d k w p
+  known-wrong r e = sym (taken-by (Err r) e)
 
-  module _ (at size v next : ℕ) (e : x ≡ taken.Record at size v next) where
+  module _ (y : Taken) (e : x ≡ Ok y) where
     abbrev here : Entry
-    here = record { number = k; typ = d.shape.typ; wire = w; place = at; size = size; value = v; by = Some d }
+    here = record { number = k; typ = d.shape.typ; wire = w; place = y.place; size = y.size; value = y.value; by = Some d }
 
-    pub known-message : t ≡ TYPE_MESSAGE → (r : Front) → r ≡ entered_of (walking s) s here d.shape.path
+    pub known-message : t ≡ TYPE_MESSAGE → (r : Result Front Refusal) → r ≡ entered_of (walking s) s here d.shape.path
         → r ≡ known_of (walking s) s d k w p
     known-message m r z =
-        z ∙ rw (taken-by (taken.Record at size v next) e) (rw (eq-eqb d.shape.typ TYPE_MESSAGE (sym i ∙ m), known_front))
+        z ∙ rw (taken-by (Ok y) e) (rw (eq-eqb d.shape.typ TYPE_MESSAGE (sym i ∙ m), known_front))
 
-    pub known-leaf : (t ≡ TYPE_MESSAGE → ⊥) → Leaf here next ≡ known_of (walking s) s d k w p
+    pub known-leaf : (t ≡ TYPE_MESSAGE → ⊥) → Ok (Leaf here y.next) ≡ known_of (walking s) s d k w p
     known-leaf m =
-        rw (taken-by (taken.Record at size v next) e) (rw (ne_eqb d.shape.typ TYPE_MESSAGE (λ z. m (i ∙ z)), known_front))
+        rw (taken-by (Ok y) e) (rw (ne_eqb d.shape.typ TYPE_MESSAGE (λ z. m (i ∙ z)), known_front))
 
 pub ruleset known_laws = (known-wrong, known-message, known-leaf)
 
@@ -97,11 +96,11 @@ module _ (s name : List ℕ) (place : LookupScope) (bs : List ℕ) (t at end k :
   unfolding behind_tag
   by-declared o e = rw (← e, q, i, j)
 
-  pub behind-unknown : a ≡ None → (r : Front) → r ≡ unknown_of k w p
+  pub behind-unknown : a ≡ None → (r : Result Front Refusal) → r ≡ unknown_of k w p
       → r ≡ behind_tag (walking s) s (message name place) bs t at end
   behind-unknown g r e = e ∙ sym (by-declared None (none-declared (declaration_of s (holding s place) name k) (sym c ∙ g)))
 
-  pub behind-known : (d : Declaration) → a ≡ Some d → (r : Front) → r ≡ known_of (walking s) s d k w p
+  pub behind-known : (d : Declaration) → a ≡ Some d → (r : Result Front Refusal) → r ≡ known_of (walking s) s d k w p
       → r ≡ behind_tag (walking s) s (message name place) bs t at end
   behind-known d g r e = e ∙ sym (by-declared (Some d) (declared-some a (declaration_of s (holding s place) name k) c d g))
 

@@ -19,7 +19,7 @@ use payloads::{Payload, payload_at};
 use reply::Refusal;
 use scope::lookup::LookupScope;
 use sheet::declaration::Declaration;
-use taken::{Taken, take_known, take_unknown};
+use taken::{take_known, take_unknown};
 use types::TYPE_MESSAGE;
 use varint::{Read, varint_at};
 use wire::tag::{number_of, tag_good, wire_type_of};
@@ -43,8 +43,8 @@ pub struct Row {
     pub entry: Entry,
 }
 
-// The record at a place: one that holds nothing and where the next begins; a known message with its path and its place in the sheet, whose
-// inside is its payload; or why there is none.
+// The record at a place: one that holds nothing and where the next begins; or a known message with its path and its place in the sheet,
+// whose inside is its payload.
 #[derive(Clone, Copy)]
 pub enum Front {
     Leaf {
@@ -56,87 +56,74 @@ pub enum Front {
         path: Span,
         place: LookupScope,
     },
-    Wrong(Refusal),
 }
 
 // A record of a number that nothing declares.
-#[tactic(auto, using(crate::proofs::RecordLaws::unknown_laws))]
-fn unknown(number: u32, wire: u8, payload: Option<Payload>) -> Front
+#[tactic(auto, using(crate::proofs::RecordLaws::unknown_laws), unfolding(crate::specs::inner::Fronts::unknown_of))]
+fn unknown(number: u32, wire: u8, payload: Option<Payload>) -> Result<Front, Refusal>
     requires { PayloadIn most_option_bytes payload }
     ensures { result ≡ unknown_of number wire payload }
 {
-    match take_unknown(payload) {
-        Taken::Wrong(why) => Front::Wrong(why),
-        Taken::Record {
-            place,
-            size,
-            value,
-            next,
-        } => Front::Leaf {
-            entry: Entry {
-                number: number,
-                typ: 0,
-                wire: wire,
-                place: place,
-                size: size,
-                value: value,
-                by: None,
-            },
-            next: next,
+    let taken = take_unknown(payload)?;
+    Ok(Front::Leaf {
+        entry: Entry {
+            number: number,
+            typ: 0,
+            wire: wire,
+            place: taken.place,
+            size: taken.size,
+            value: taken.value,
+            by: None,
         },
-    }
+        next: taken.next,
+    })
 }
 
 // A known message, where its type path names one.
 #[tactic(auto, using(crate::proofs::RecordLaws::entered_laws), unfolding(crate::specs::inner::Fronts::entered_of))]
-fn entered(sheet: &[u8], entry: Entry, path: Span) -> Front
+fn entered(sheet: &[u8], entry: Entry, path: Span) -> Result<Front, Refusal>
     requires { Lies path sheet.now }
     ensures { result ≡ entered_of (walking sheet.now) sheet.now entry path }
 {
-    match lookups::message_at(sheet, path) {
-        Err(why) => Front::Wrong(why),
-        Ok(place) => Front::Inside {
-            entry: entry,
-            path: path,
-            place: place,
-        },
-    }
+    let place = lookups::message_at(sheet, path)?;
+    Ok(Front::Inside {
+        entry: entry,
+        path: path,
+        place: place,
+    })
 }
 
 // A record that this declares.
 #[tactic(auto, using(crate::proofs::RecordLaws::known_laws), unfolding(crate::specs::inner::Fronts::known_of))]
-fn known(sheet: &[u8], d: Declaration, number: u32, wire: u8, payload: Option<Payload>) -> Front
+fn known(
+    sheet: &[u8],
+    d: Declaration,
+    number: u32,
+    wire: u8,
+    payload: Option<Payload>,
+) -> Result<Front, Refusal>
     requires payload_in { PayloadIn most_option_bytes payload }
     requires lies { Lies d.shape.path sheet.now }
     ensures { result ≡ known_of (walking sheet.now) sheet.now d number wire payload }
 {
     let typ = octets::wide(d.shape.typ);
-    match take_known(typ, wire, payload) {
-        Taken::Wrong(why) => Front::Wrong(why),
-        Taken::Record {
-            place,
-            size,
-            value,
-            next,
-        } => {
-            let entry = Entry {
-                number: number,
-                typ: d.shape.typ,
-                wire: wire,
-                place: place,
-                size: size,
-                value: value,
-                by: Some(d),
-            };
-            if typ == TYPE_MESSAGE {
-                return entered(sheet, entry, d.shape.path);
-            }
-            Front::Leaf {
-                entry: entry,
-                next: next,
-            }
-        }
+    let taken = take_known(typ, wire, payload)?;
+    let entry = Entry {
+        number: number,
+        typ: d.shape.typ,
+        wire: wire,
+        place: taken.place,
+        size: taken.size,
+        value: taken.value,
+        by: Some(d),
+    };
+    if typ == TYPE_MESSAGE {
+        return entered(sheet, entry, d.shape.path);
     }
+    Ok(Front::Leaf {
+        entry: entry,
+        next: taken.next,
+    })
 }
 
 // The record behind a good tag that ends at `at`.
@@ -149,7 +136,7 @@ fn behind_tag(
     tag: u64,
     at: usize,
     end: usize,
-) -> Front
+) -> Result<Front, Refusal>
     requires in_sheet { InSheet sheet.now place }
     requires at_le_end { (at ≤ end) × (end ≤ length bytes.now) }
     requires bytes_len_bound { length bytes.now ≤ most_option_bytes }
@@ -175,7 +162,7 @@ pub fn front_at(
     bytes: &[u8],
     at: usize,
     end: usize,
-) -> Front
+) -> Result<Front, Refusal>
     requires in_sheet { InSheet sheet.now place }
     requires at_le_end { (at ≤ end) × (end ≤ length bytes.now) }
     requires bytes_len_bound { length bytes.now ≤ most_option_bytes }
@@ -184,10 +171,10 @@ pub fn front_at(
     ensures lies { FrontLies sheet.now at end result }
 {
     let Some(read) = varint_at(bytes, at, end) else {
-        return Front::Wrong(Refusal::BadBytes);
+        return Err(Refusal::BadBytes);
     };
     if !tag_good(read.value) {
-        return Front::Wrong(Refusal::BadBytes);
+        return Err(Refusal::BadBytes);
     }
     behind_tag(sheet, message, place, bytes, read.value, read.next, end)
 }

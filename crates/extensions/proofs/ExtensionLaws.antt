@@ -7,7 +7,6 @@
 --
 -- Assumes nothing.
 use Rattle.std.specs.Prelude.{◌≡◌, refl, Bool, true, false, List, [], ◌∷◌, ℕ, ◌+◌, ◌-◌, ◌≤◌, ◌<◌, eqb, length, get_or, take, drop, Ok, Option, Err, None, Some, Result}
-use Rattle.std.specs.Result.{IsErrAnd}
 use Rattle.basis.specs.Kit.{sym, ap, ◌∙◌}
 use Rattle.basis.proofs.Kit.{arith, add-one, not-true, not-false}
 use lib.ListN.{drop_of_length-le}
@@ -29,7 +28,6 @@ use Rattle.sheet.specs.declared.declaration.Declaration.{Declaration}
 use Rattle.cursor.specs.declared.Cursor.{Cursor}
 use Rattle.search.specs.declared.extension.Found.{Found}
 use Rattle.search.specs.declared.extension.Candidate.{Candidate}
-use Rattle.search.specs.declared.extension.Compared.TheVariants as comparison
 use Rattle.search.specs.declared.extension.Compared.TheVariants.{Extends, ExtendsOther}
 use Rattle.basis.specs.First.{first_some}
 use Rattle.scope.specs.Scope.{Scope, holding, declaration_named}
@@ -150,11 +148,6 @@ module _ (v : Result Candidate Refusal) (s scope name l₀ l : List ℕ) (i : �
 pub ruleset try_candidates_laws = (trying_start, trying-end, trying-within, trying-length, trying-found, trying-next)
 
 -- ---- find_extension_by_path
--- an answer is v where `?` hands on a refusal that v is
-pub handed-on : {A : Type 0} {r v : Result A Refusal} {w : Refusal} → IsErrAnd r (λ e. e ≡ w) → Err w ≡ v → r ≡ v
-handed-on {r = Ok x} h q = elim h [ ]
-handed-on {r = Err e} h q = rw h q
-
 module _ (s scope name : List ℕ) (r : Result Candidate Refusal) (q : r ≡ tried s scope name) where
   pub by-path-found : (c : Candidate) → r ≡ Ok c → Ok c.found ≡ find_extension_by_path s scope name
   unfolding find_extension_by_path
@@ -168,16 +161,16 @@ pub ruleset extension_by_path_laws = (by-path-found, by-path-refused)
 
 -- ---- ext_resolve_field_ext
 module _ (s scope m name : List ℕ) (r : Result Candidate Refusal) (q : r ≡ tried s scope name) where
-  pub resolve-refused : (w : Refusal) → r ≡ Err w → comparison.Refused w ≡ ext_resolve_field s scope m name
+  pub resolve-refused : (w : Refusal) → r ≡ Err w → Err w ≡ ext_resolve_field s scope m name
   unfolding ext_resolve_field
   resolve-refused w g = rw (← q, g)
 
   module _ (c : Candidate) (g : r ≡ Ok c) (b : Bool) (x : b ≡ is_text s m c.found.declaration.extendee) where
-    pub resolve-other : b ≡ false → ExtendsOther c ≡ ext_resolve_field s scope m name
+    pub resolve-other : b ≡ false → Ok (ExtendsOther c) ≡ ext_resolve_field s scope m name
     unfolding ext_resolve_field
     resolve-other y = rw (← q, g, ← x, y)
 
-    pub resolve_same : b ≡ true → Extends c ≡ ext_resolve_field s scope m name
+    pub resolve_same : b ≡ true → Ok (Extends c) ≡ ext_resolve_field s scope m name
     unfolding ext_resolve_field
     resolve_same y = rw (← q, g, ← x, y)
 

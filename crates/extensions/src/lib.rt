@@ -61,16 +61,11 @@ pub fn try_candidates(
     ensures { result ≡ tried s.now scope.now path.now }
 {
     let count = candidates(scope, path);
-    let mut i = 0;
-    while i < count {
+    for i in 0..count {
         let n = candidate(scope, path, i, room);
         if let Ok(found) = find_extension_by_abs_path(s, &room[..n]) {
-            return Ok(Candidate {
-                position: i,
-                found: found,
-            });
+            return Ok(Candidate { position: i, found });
         }
-        i += 1;
     }
     Err(Refusal::ExtensionNotFound)
 }
@@ -98,17 +93,13 @@ pub fn ext_resolve_field_ext(
     message: &[u8],
     path: &[u8],
     room: &mut [u8],
-) -> Compared
+) -> Result<Compared, Refusal>
     requires { (is_rel_or_empty scope.now ≡ true) × (is_path path.now ≡ true) × (most_candidate ≤ length room.old) }
     ensures { result ≡ ext_resolve_field s.now scope.now message.now path.now }
 {
-    match try_candidates(s, scope, path, room) {
-        Err(why) => Compared::Refused(why),
-        Ok(first) => {
-            if !extends(s, message, first.found.declaration) {
-                return Compared::ExtendsOther(first);
-            }
-            Compared::Extends(first)
-        }
+    let first = try_candidates(s, scope, path, room)?;
+    if !extends(s, message, first.found.declaration) {
+        return Ok(Compared::ExtendsOther(first));
     }
+    Ok(Compared::Extends(first))
 }

@@ -27,6 +27,7 @@ pub struct Span {
 // The bytes of a field before its payload.
 const HEADER: usize = 3;
 
+// The field at a place, where its header and its payload end before `end`.
 #[tactic(auto, using(crate::proofs::FieldLaws::field_laws))]
 pub fn field_at(s: &[u8], at: usize, end: usize) -> Option<Field>
     requires { (at ≤ end) × (end ≤ length s.now) }
@@ -47,7 +48,7 @@ pub fn field_at(s: &[u8], at: usize, end: usize) -> Option<Field>
     })
 }
 
-// A field of this tag, with any payload.
+// Where the payload of a field of this tag stands; the next field starts where it ends.
 #[tactic(auto, using(crate::proofs::LeafLaws::leaf_any_laws))]
 pub fn leaf_at(s: &[u8], at: usize, end: usize, tag: u8) -> Option<Span>
     requires { (at ≤ end) × (end ≤ length s.now) }
@@ -63,7 +64,7 @@ pub fn leaf_at(s: &[u8], at: usize, end: usize, tag: u8) -> Option<Span>
     })
 }
 
-// A field of this tag whose payload has this length.
+// The same of a payload that has this length.
 #[tactic(auto, using(crate::proofs::LeafLaws::sized_laws))]
 pub fn sized_at(s: &[u8], at: usize, end: usize, tag: u8, size: usize) -> Option<Span>
     requires { (at ≤ end) × (end ≤ length s.now) }

@@ -13,7 +13,7 @@ pub fn none_of(s: &[u8]) -> &[u8]
     &s[start..start]
 }
 
-// The two places of a span, where it is one of the bytes.
+// A span, where it is one of the bytes.
 #[tactic(auto, using(crate::proofs::PartLaws::part_laws))]
 pub fn span_in(s: &[u8], p: Span) -> Option<Span>
     ensures { result ≡ span_in s.now p }

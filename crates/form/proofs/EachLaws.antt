@@ -1,7 +1,7 @@
 -- The loops that judge a container's fields, whatever the judge and whatever the reader.
 --
 -- The laws, for a verdict v that is that of the fields that are left (`RestBy`), and with an index that counts them (`each-from-`):
---       each-end  at the end v is Fine
+--       each-end  at the end v is fine
 --       each-cut  where no whole field stands, v is what a cut is
 --   each-refused  a fault of the field that stands there is v
 --      each_next  where it is fine, v is the verdict of the fields from its end on

@@ -42,12 +42,11 @@ pub struct Cursor {
     pub depth: usize,
 }
 
-// What reading on comes to: a record, and where to go on; that there is none left; or the first fault.
+// What reading on comes to: a record, and where to go on.
 #[derive(Clone, Copy)]
-pub enum Event {
-    Record { row: Row, rest: Cursor },
-    End,
-    Wrong(Refusal),
+pub struct Event {
+    pub row: Row,
+    pub rest: Cursor,
 }
 
 // Words of the stack, from a place on.
@@ -56,10 +55,8 @@ fn put_words(stack: &mut [usize], at: usize, words: &[usize])
     requires { at + length words.now ≤ length stack.old }
     ensures { stack.new ≡ sets stack.old at words.now }
 {
-    let mut i = 0;
-    while i < words.len() {
+    for i in 0..words.len() {
         stack[at + i] = words[i];
-        i += 1;
     }
 }
 
@@ -151,7 +148,7 @@ fn front_in(
     index: usize,
     level: Level,
     at: usize,
-) -> Front
+) -> Result<Front, Refusal>
     requires lies_2 { Lies level.name sheet.now }
     requires in_sheet { InSheet sheet.now level.place }
     requires at_le_end { (at ≤ level.end) × (level.end ≤ length bytes.now) }
@@ -177,7 +174,7 @@ fn front_of(
     stack: &[usize],
     index: usize,
     at: usize,
-) -> Front
+) -> Result<Front, Refusal>
     requires index_lt_most_levels { index < most_levels }
     requires stack_len { length stack.now ≡ stack_words }
     requires open_at { OpenAt sheet.now bytes.now stack.now (suc index) at }
@@ -193,14 +190,20 @@ fn front_of(
 
 // A known message's record, at the level below so many: its inside is the next level.
 #[tactic(auto, using(crate::proofs::NextLaws::step_laws))]
-fn step_in(stack: &mut [usize], depth: usize, entry: Entry, path: Span, place: LookupScope) -> Event
+fn step_in(
+    stack: &mut [usize],
+    depth: usize,
+    entry: Entry,
+    path: Span,
+    place: LookupScope,
+) -> Result<Event, Refusal>
     requires depth_nonzero { (0 < depth) × (depth ≤ most_levels) }
     requires stack_len { length stack.old ≡ stack_words }
     requires size_bound { entry.place + entry.size ≤ most_option_bytes }
     ensures { StepsIn stack.old depth entry path place stack.new result }
 {
     if MOST_LEVELS <= depth {
-        return Event::Wrong(Refusal::BeyondLimit);
+        return Err(Refusal::BeyondLimit);
     }
     let at = entry.place as usize;
     let level = Level {
@@ -209,7 +212,7 @@ fn step_in(stack: &mut [usize], depth: usize, entry: Entry, path: Span, place: L
         place: place,
     };
     put_level(stack, depth, level);
-    Event::Record {
+    Ok(Event {
         row: Row {
             level: (depth - 1) as u32,
             entry: entry,
@@ -218,7 +221,7 @@ fn step_in(stack: &mut [usize], depth: usize, entry: Entry, path: Span, place: L
             at: at,
             depth: depth + 1,
         },
-    }
+    })
 }
 
 // The next record.
@@ -229,7 +232,7 @@ pub fn next(
     bytes: &[u8],
     stack: &mut [usize],
     cursor: Cursor,
-) -> Event
+) -> Result<Option<Event>, Refusal>
     requires { Open sheet.now bytes.now stack.old cursor }
     ensures { Moves sheet.now options_type.now bytes.now
         (left (walking sheet.now) sheet.now options_type.now bytes.now stack.old
@@ -237,12 +240,11 @@ pub fn next(
 {
     let depth = still_open(stack, cursor);
     if depth == 0 {
-        return Event::End;
+        return Ok(None);
     }
     let index = depth - 1;
-    match front_of(sheet, options_type, bytes, stack, index, cursor.at) {
-        Front::Wrong(why) => Event::Wrong(why),
-        Front::Leaf { entry, next: at } => Event::Record {
+    match front_of(sheet, options_type, bytes, stack, index, cursor.at)? {
+        Front::Leaf { entry, next: at } => Ok(Some(Event {
             row: Row {
                 level: index as u32,
                 entry: entry,
@@ -251,7 +253,10 @@ pub fn next(
                 at: at,
                 depth: depth,
             },
-        },
-        Front::Inside { entry, path, place } => step_in(stack, depth, entry, path, place),
+        })),
+        Front::Inside { entry, path, place } => {
+            let event = step_in(stack, depth, entry, path, place)?;
+            Ok(Some(event))
+        }
     }
 }

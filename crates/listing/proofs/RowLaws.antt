@@ -1,6 +1,6 @@
 -- Rows as words: the loop of `put_rows`.
 -- Assumes nothing.
-use Rattle.std.specs.Prelude.{◌≡◌, refl, List, [], ◌∷◌, ℕ, ◌+◌, ◌*◌, ◌^◌, ◌≤◌, ◌<◌, length, Err, Ok, Result}
+use Rattle.std.specs.Prelude.{◌≡◌, refl, List, [], ◌∷◌, ℕ, ◌+◌, ◌*◌, ◌^◌, ◌≤◌, ◌<◌, length, Err, Ok, Result, None, Some, Option}
 use Rattle.basis.specs.Kit.{sym, ap, ◌∙◌, sets}
 use Rattle.basis.proofs.Kit.{arith}
 use Rattle.reply.specs.declared.Refusal.{Refusal}
@@ -19,7 +19,6 @@ use Rattle.entries.specs.declared.Row.{Row}
 use Rattle.entries.specs.Tree.{words}
 use Rattle.levels.specs.declared.Cursor.{Cursor}
 use Rattle.levels.specs.declared.Event.{Event}
-use Rattle.levels.specs.declared.Event.TheVariants.{Record, End, Wrong}
 use Rattle.levels.specs.inner.Left.{flat, left, Open, Starts, Moves}
 use Rattle.levels.proofs.StartLaws.{start-open, start_left}
 use Rattle.levels.proofs.MovesLaws.{moved_open, moved-rest, moved-further, moved-less, moved-end, moved-wrong}
@@ -60,25 +59,25 @@ module _ (s type bs : List ℕ) (whole : Outcome Row) (st : List ℕ) (c : Curso
   pub rowing-length : length m ≡ length l
   rowing-length = front_length _ _ 0 l m n u.laid
 
-  module _ (st' : List ℕ) (r : Event)
+  module _ (st' : List ℕ) (r : Result (Option Event) Refusal)
       (k : Moves s type bs (left (walking s) s type bs st c.depth c.at) c.at st' r) where
-    pub rowing-end : r ≡ End → Puts (worded whole) 0 l m (Ok n)
+    pub rowing-end : r ≡ Ok None → Puts (worded whole) 0 l m (Ok n)
     rowing-end g = front-done _ _ 0 l m n u.laid (ap worded (moved-end s type bs _ c.at st' r k g))
 
-    pub rowing-wrong : (w : Refusal) → r ≡ Wrong w → (x : Cause) → x ≡ bare w → Puts (worded whole) 0 l m (Err x)
+    pub rowing-wrong : (w : Refusal) → r ≡ Err w → (x : Cause) → x ≡ bare w → Puts (worded whole) 0 l m (Err x)
     rowing-wrong w g x e =
         front-refused _ _ 0 l m n u.laid x (ap worded (moved-wrong s type bs _ c.at st' r k w g) ∙ ap refused (sym e))
 
-    module _ (x : Row) (d : Cursor) (g : r ≡ Record x d) where
-      pub rowing-next : (l' : List ℕ) → l' ≡ sets m n (words x) → (n' : ℕ) → n' ≡ n + 8 → Rowing s type bs whole st' d l l' n'
-      rowing-next l' e n' i =
-          let after = left (walking s) s type bs st' d.depth d.at in
-          let row : worded (left (walking s) s type bs st c.depth c.at) ≡ push (words x) (worded after) =
-          ap worded (moved-rest s type bs _ c.at st' r k x d g) ∙ worded-push x after in
+    module _ (e : Event) (g : r ≡ Ok (Some e)) where
+      pub rowing-next : (l' : List ℕ) → l' ≡ sets m n (words e.row) → (n' : ℕ) → n' ≡ n + 8 → Rowing s type bs whole st' e.rest l l' n'
+      rowing-next l' q n' i =
+          let after = left (walking s) s type bs st' e.rest.depth e.rest.at in
+          let row : worded (left (walking s) s type bs st c.depth c.at) ≡ push (words e.row) (worded after) =
+          ap worded (moved-rest s type bs _ c.at st' r k e g) ∙ worded-push e.row after in
           record {
-            opens = moved_open s type bs _ c.at st' r k x d g;
-            few = omega (arith, i, u.few, moved-further s type bs _ c.at st' r k x d g);
-            laid = rw i (front-put _ _ 0 l m n u.laid (words x) (worded after) l' row e);
+            opens = moved_open s type bs _ c.at st' r k e g;
+            few = omega (arith, i, u.few, moved-further s type bs _ c.at st' r k e g);
+            laid = rw i (front-put _ _ 0 l m n u.laid (words e.row) (worded after) l' row q);
           }
 
 pub refused-few : (most : ℕ) (c : Cause) → WroteAtMost most (Err c)

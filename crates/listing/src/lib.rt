@@ -17,7 +17,7 @@ ghost use Rattle.listing.specs.Listing.{listing_tested, listing};
 ghost use Rattle.listing.specs.inner.Worded.{worded, WroteAtMost};
 ghost use Rattle.listing.specs.inner.Admitted.{counted, admitted};
 
-use levels::{Event, STACK_WORDS, next, start};
+use levels::{STACK_WORDS, next, start};
 use payload::check_bytes;
 use reply::{Answer, Cause, Refusal};
 use requestform::check_options_type;
@@ -45,11 +45,11 @@ fn put_rows(
     let mut n = 0;
     loop {
         match next(sheet, options_type, bytes, stack, cursor) {
-            Event::End => return Ok(n),
-            Event::Wrong(why) => return Err(reply::bare(why)),
-            Event::Record { row, rest } => {
-                n = put_row(out, n, row);
-                cursor = rest;
+            Ok(None) => return Ok(n),
+            Err(why) => return Err(reply::bare(why)),
+            Ok(Some(event)) => {
+                n = put_row(out, n, event.row);
+                cursor = event.rest;
             }
         }
     }

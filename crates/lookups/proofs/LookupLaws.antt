@@ -40,7 +40,7 @@ module _ (s : List ℕ) (c : LookupScope) (l : InSheet s c) (n : List ℕ) where
     field-path-within = field-places.path.inside
 
 -- ---- an extension
-module _ (s scope m n : List ℕ) (r : Compared) (q : r ≡ (walking s).extension scope m n) (c : Candidate) (g : r ≡ Extends c) where
+module _ (s scope m n : List ℕ) (r : Result Compared Refusal) (q : r ≡ (walking s).extension scope m n) (c : Candidate) (g : r ≡ Ok (Extends c)) where
   extension-places : Places (length s) c.found.declaration
   extension-places = (extends-lies s scope m n r q c g).places
 

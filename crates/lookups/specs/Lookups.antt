@@ -26,7 +26,7 @@ use Rattle.reply.specs.declared.Refusal.{Refusal}
 pub record Lookups : Type 0 where
   pub message : (path : List ℕ) → Result LookupScope Refusal
   pub enumeration : (path : List ℕ) → Result Span Refusal
-  pub extension : (scope message name : List ℕ) → Compared
+  pub extension : (scope message name : List ℕ) → Result Compared Refusal
 
 abbrev pub walking : (sheet : List ℕ) → Lookups
 walking s = record {

@@ -2,7 +2,7 @@
 // several cases, each answered in its turn. On 0 it says what it read.
 #![tactic(auto)]
 
-ghost use Rattle.std.specs.Prelude.{◌≤◌, length};
+ghost use Rattle.std.specs.Prelude.{◌≤◌, length, IfSome};
 
 use console::input::MOST_BYTES;
 use console::output::{number, text};
@@ -76,39 +76,20 @@ fn has_request(s: &[u8], at: usize) -> bool {
     s[at] == REQUEST
 }
 
-// One case, and where the next one starts; 0 where the input is no such fields.
+// One case, and where the next one starts, none where the input is no such fields.
 #[tactic(auto, using(crate::proofs::CaseLaws::case_laws))]
-fn check_case(s: &[u8], at: usize) -> usize
+fn check_case(s: &[u8], at: usize) -> Option<usize>
     requires { at ≤ length s.now }
-    ensures { result ≤ length s.now }
+    ensures { IfSome result (λ next. next ≤ length s.now) }
 {
-    let Some(sheet) = console::input::field_of(s, at, SHEET) else {
-        return 0;
-    };
+    let sheet = console::input::field_of(s, at, SHEET)?;
     if !has_request(s, sheet.to) {
         check_sheet(&s[sheet.from..sheet.to]);
-        return sheet.to;
+        return Some(sheet.to);
     }
-    let Some(request) = console::input::field_of(s, sheet.to, REQUEST) else {
-        return 0;
-    };
+    let request = console::input::field_of(s, sheet.to, REQUEST)?;
     check_both(&s[sheet.from..sheet.to], &s[request.from..request.to]);
-    request.to
-}
-
-// All cases, of which there has to be one.
-fn check_cases(s: &[u8]) {
-    let mut at = 0;
-    loop {
-        let next = check_case(s, at);
-        if next <= at {
-            return;
-        }
-        if next == s.len() {
-            return;
-        }
-        at = next;
-    }
+    Some(request.to)
 }
 
 // Standard input, read into a lent buffer.
@@ -117,7 +98,8 @@ fn run_over(buffer: &mut [u8]) {
     let Some(n) = console::input::read(buffer) else {
         return;
     };
-    check_cases(&buffer[..n]);
+    let s = &buffer[..n];
+    console::input::each_case(s.len(), |at| check_case(s, at));
 }
 
 fn main() {

@@ -2,9 +2,9 @@
 // turn. On 0 it says which extension the path finds.
 #![tactic(auto)]
 
-ghost use Rattle.std.specs.Prelude.{◌≤◌, length};
+ghost use Rattle.std.specs.Prelude.{◌≤◌, length, IfSome};
 
-use console::input::{MOST_BYTES, field_of};
+use console::input::{MOST_BYTES, each_case, field_of};
 use console::output::{number, text};
 
 const SHEET: u8 = 0x40;
@@ -72,42 +72,21 @@ fn answer(sheet: &[u8], scope: &[u8], path: &[u8]) {
     }
 }
 
-// One case, and where the next one starts; 0 where the input is no such fields.
+// One case, and where the next one starts, none where the input is no such fields.
 #[tactic(auto, using(crate::proofs::CaseLaws::case_laws))]
-fn find_case(s: &[u8], at: usize) -> usize
+fn find_case(s: &[u8], at: usize) -> Option<usize>
     requires { at ≤ length s.now }
-    ensures { result ≤ length s.now }
+    ensures { IfSome result (λ next. next ≤ length s.now) }
 {
-    let Some(sheet) = field_of(s, at, SHEET) else {
-        return 0;
-    };
-    let Some(scope) = field_of(s, sheet.to, SCOPE) else {
-        return 0;
-    };
-    let Some(path) = field_of(s, scope.to, PATH) else {
-        return 0;
-    };
+    let sheet = field_of(s, at, SHEET)?;
+    let scope = field_of(s, sheet.to, SCOPE)?;
+    let path = field_of(s, scope.to, PATH)?;
     answer(
         &s[sheet.from..sheet.to],
         &s[scope.from..scope.to],
         &s[path.from..path.to],
     );
-    path.to
-}
-
-// All cases, of which there has to be one.
-fn find_cases(s: &[u8]) {
-    let mut at = 0;
-    loop {
-        let next = find_case(s, at);
-        if next <= at {
-            return;
-        }
-        if next == s.len() {
-            return;
-        }
-        at = next;
-    }
+    Some(path.to)
 }
 
 // Standard input, read into a lent buffer.
@@ -116,7 +95,8 @@ fn run_over(buffer: &mut [u8]) {
     let Some(n) = console::input::read(buffer) else {
         return;
     };
-    find_cases(&buffer[..n]);
+    let s = &buffer[..n];
+    each_case(s.len(), |at| find_case(s, at));
 }
 
 fn main() {

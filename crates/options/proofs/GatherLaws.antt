@@ -5,7 +5,8 @@
 --                                            to is what the options that are left come to after them
 --
 -- Assumes nothing.
-use Rattle.std.specs.Prelude.{◌≡◌, refl, List, [], ℕ, ◌+◌, ◌-◌, ◌≤◌, ◌<◌, length, drop, None, Some, Option}
+use Rattle.std.specs.Prelude.{◌≡◌, refl, List, [], ℕ, ◌+◌, ◌-◌, ◌≤◌, ◌<◌, length, drop, None, Some, Option, Err, Ok, Result}
+use Rattle.std.specs.Result.{IsErrAnd}
 use Rattle.basis.specs.Kit.{sym, ap, ◌∙◌}
 use Rattle.basis.proofs.Kit.{arith}
 use native.Mathlib.Nat.{add-zero}
@@ -30,11 +31,11 @@ use Rattle.known.proofs.NotedLaws.{noted-start, noted-none, noted-set}
 use Rattle.options.specs.declared.settle.Start.{Start}
 use Rattle.reply.specs.declared.Cause.{Cause}
 use Rattle.options.specs.declared.settle.Settling.{Settling}
-use Rattle.options.specs.declared.settle.Settling.TheVariants.{Gives, Fails}
+use Rattle.options.specs.declared.Tally.{Tally}
 use Rattle.options.specs.Settle.{Settled, known, others, fails}
-use Rattle.options.specs.inner.Settling.{message_of, settled_at, others_of, note_in, set_recs, settling_of, Started, Settleable}
+use Rattle.options.specs.inner.Settling.{message_of, settled_at, others_of, note_in, set_recs, settling, settling_of, Started, Settleable}
 use Rattle.options.specs.Options.{Gathered, stopped, next, gather}
-use Rattle.options.specs.inner.Gathering.{options_of, gathered_by, made_at, FineFrom, Gathers, gives, stops}
+use Rattle.options.specs.inner.Gathering.{options_of, gathered_by, made_at, FineFrom, tally, Gathers, gives, stops}
 use Rattle.options.proofs.ReachedLaws.{Reached, reached-start, reached-end, reached-cut, reached-parts, reached-few, reached-fits}
 use Rattle.options.proofs.ReachedLaws.{reached-first, reached-made, reached-next, reached-size}
 use Rattle.options.proofs.SetLaws.{set-few}
@@ -87,7 +88,7 @@ module _ (L : Lookups) (s r : List ℕ) (h : Start) (l m ns₀ ns : List ℕ) (a
   pub gathering-notes : length ns ≡ length ns₀
   gathering-notes = u.kept
 
-  pub gathering-end : length r ≤ i → Gathers (made_at L s r h) (bytes_most (length r)) (gathered_by L s r h) at l m ns (Gives n p)
+  pub gathering-end : length r ≤ i → Gathers (made_at L s r h) (bytes_most (length r)) (gathered_by L s r h) at l m ns (Ok (tally n p))
   gathering-end e =
       rw (u.whole, reached-end r h n i u.reached e)
       (gives u.laid u.noted u.reached.count
@@ -97,7 +98,7 @@ module _ (L : Lookups) (s r : List ℕ) (h : Start) (l m ns₀ ns : List ℕ) (a
   gathering-noted o = omega (arith, reached-few r h n i u.reached o, u.kept, u.places)
 
   module _ (o : i < length r) (f : Option Field) (q : f ≡ field_at r i (length r)) where
-    pub gathering-cut : f ≡ None → Gathers (made_at L s r h) (bytes_most (length r)) (gathered_by L s r h) at l m ns (Gives n p)
+    pub gathering-cut : f ≡ None → Gathers (made_at L s r h) (bytes_most (length r)) (gathered_by L s r h) at l m ns (Ok (tally n p))
     gathering-cut g = reached-cut r h n i u.reached o f q g
 
     module _ (here : Field) (g : f ≡ Some here) where
@@ -126,22 +127,23 @@ module _ (L : Lookups) (s r : List ℕ) (h : Start) (l m ns₀ ns : List ℕ) (a
           ∙ ap (gather_from L s r h n u.knowns u.rest) (reached-first r h n i u.reached o f q here g)
           ∙ ap (λ z. next n u.knowns u.rest z (λ ks x. gather_from L s r h (n + 1) ks x (drop (n + 1) (options_of r h)))) (sym w)
 
-      module _ (m' : List ℕ) (y : Settling) where
+      module _ (m' : List ℕ) (y : Result Settling Cause) where
         refused-by : (v : Settled) → v ≡ settled_at L s r h here.from here.to → (stop : Cause)
-            → Emits (settling_of n (note_in v)) (others_of v) (bytes_most (here.to - here.from)) m p m' y → y ≡ Fails stop → gathered_by L s r h ≡ stopped stop
+            → Emits (settling_of n (note_in v)) (others_of v) (bytes_most (here.to - here.from)) m p m' y → y ≡ Err stop → gathered_by L s r h ≡ stopped stop
         unfolding settling_of
         refused-by (known k) w stop b z = let c = b.answer in never cc
         refused-by (others x) w stop b z = let c = b.answer in never cc
         refused-by (fails k) w stop b z = let c = b.answer in gathering-whole (fails k) w ∙ cc
 
-        next-by : (v : Settled) → v ≡ settled_at L s r h here.from here.to → (note z : ℕ) (ns' : List ℕ)
-            → Emits (settling_of n (note_in v)) (others_of v) (bytes_most (here.to - here.from)) m p m' y → y ≡ Gives note z → ns' ≡ noted n note ns
-            → Gathering L s r h l m' ns₀ ns' at z (n + 1) here.to
+        next-by : (v : Settled) → v ≡ settled_at L s r h here.from here.to → (t : Settling) (ns' : List ℕ)
+            → Emits (settling_of n (note_in v)) (others_of v) (bytes_most (here.to - here.from)) m p m' y → y ≡ Ok t → ns' ≡ noted n t.note ns
+            → Gathering L s r h l m' ns₀ ns' at t.next (n + 1) here.to
         unfolding settling_of
-        next-by (known k) w note z ns' b d j =
+        next-by (known k) w t ns' b d j =
             let c = b.answer in
-            let x : note ≡ note_of k = cc in
-            let y : z ≡ p + length (encode nil) = cc in
+            let same : t ≡ settling (note_of k) (p + length (encode nil)) = cc in
+            let x : t.note ≡ note_of k = ap (λ (g : Settling). g.note) same in
+            let y : t.next ≡ p + length (encode nil) = ap (λ (g : Settling). g.next) same in
             let size = set-few L s r h here.from here.to (field-ordered r i (length r) f q here g) (reached-parts r h n i u.reached o f q here g) in
             let own : length (encode k.made) ≤ bytes_most (here.to - here.from) = rw (← w) at size in
             record {
@@ -149,40 +151,47 @@ module _ (L : Lookups) (s r : List ℕ) (h : Start) (l m ns₀ ns : List ℕ) (a
               rest = u.rest;
               reached = reached-next r h n i u.reached o f q here g;
               laid = rw (append-nil-right u.rest) at
-                  (laid_more l m m' at p z u.rest nil u.laid (record { next = y; left = b.left nil refl }));
+                  (laid_more l m m' at p t.next u.rest nil u.laid (record { next = y; left = b.left nil refl }));
               noted = noted-set (made_at L s r h) ns n u.knowns u.noted (gathering-noted o) k
-                  (reached-made r h n i u.reached o f q here g L s ∙ ap set_recs (sym w)) note x ns' j;
-              kept = ap length j ∙ noted-length n note ns ∙ u.kept;
+                  (reached-made r h n i u.reached o f q here g L s ∙ ap set_recs (sym w)) t.note x ns' j;
+              kept = ap length j ∙ noted-length n t.note ns ∙ u.kept;
               places = u.places;
               whole = gathering-whole (known k) w;
               few = omega (arith, u.few, own, known-few k u.knowns, reached-size r h n i u.reached o f q here g);
             }
-        next-by (others x) w note z ns' b d j =
+        next-by (others x) w t ns' b d j =
             let c = b.answer in
-            let y : z ≡ p + length (encode x) = cc in
-            let none : note ≡ 0 = cc in
+            let same : t ≡ settling 0 (p + length (encode x)) = cc in
+            let y : t.next ≡ p + length (encode x) = ap (λ (g : Settling). g.next) same in
+            let none : t.note ≡ 0 = ap (λ (g : Settling). g.note) same in
             record {
               knowns = u.knowns;
               rest = append u.rest x;
               reached = reached-next r h n i u.reached o f q here g;
-              laid = laid_more l m m' at p z u.rest x u.laid (record { next = y; left = b.left x refl });
+              laid = laid_more l m m' at p t.next u.rest x u.laid (record { next = y; left = b.left x refl });
               noted = noted-none (made_at L s r h) ns n u.knowns u.noted (gathering-noted o) ns' (rw none at j);
-              kept = ap length j ∙ noted-length n note ns ∙ u.kept;
+              kept = ap length j ∙ noted-length n t.note ns ∙ u.kept;
               places = u.places;
               whole = gathering-whole (others x) w;
               few = omega (arith, u.few, b.few x refl, append-size u.rest x, reached-size r h n i u.reached o f q here g);
             }
-        next-by (fails k) w note z ns' b d j = let c = b.answer in never cc
+        next-by (fails k) w t ns' b d j = let c = b.answer in never cc
 
         module _ (b : Emits (settling_of n (note_in (settled_at L s r h here.from here.to))) (others_of (settled_at L s r h here.from here.to)) (bytes_most (here.to - here.from)) m p m' y)
           where
-            pub gathering-refused : (stop : Cause) → y ≡ Fails stop
-                → Gathers (made_at L s r h) (bytes_most (length r)) (gathered_by L s r h) at l m' ns y
-            gathering-refused stop z = rw (refused-by (settled_at L s r h here.from here.to) refl stop b z, z) stops
+            pub gathering-refused : (stop : Cause) → y ≡ Err stop
+                → Gathers (made_at L s r h) (bytes_most (length r)) (gathered_by L s r h) at l m' ns (Err stop)
+            gathering-refused stop z = rw (refused-by (settled_at L s r h here.from here.to) refl stop b z) stops
 
-            pub gathering-next : (note z : ℕ) → y ≡ Gives note z → (ns' : List ℕ) → ns' ≡ noted n note ns
-                → Gathering L s r h l m' ns₀ ns' at z (n + 1) here.to
-            gathering-next note z d ns' j = next-by (settled_at L s r h here.from here.to) refl note z ns' b d j
+            pub gathering-next : (t : Settling) → y ≡ Ok t → (ns' : List ℕ) → ns' ≡ noted n t.note ns
+                → Gathering L s r h l m' ns₀ ns' at t.next (n + 1) here.to
+            gathering-next t d ns' j = next-by (settled_at L s r h here.from here.to) refl t ns' b d j
+
+-- what `?` hands on
+pub stopped-on : {made : ℕ → Recs} {k : ℕ} {g : Gathered} {at : ℕ} {l l' ns : List ℕ} {y : Result Tally Cause} {e : Cause}
+    → IsErrAnd y (λ x. x ≡ e) → Gathers made k g at l l' ns (Err e) → Gathers made k g at l l' ns y
+stopped-on {y = Ok t} h u = elim h [ ]
+stopped-on {y = Err e} h u = rw h u
 
 pub ruleset gather_laws = (
   gathering-start,

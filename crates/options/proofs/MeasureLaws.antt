@@ -23,11 +23,10 @@ use Rattle.known.specs.inner.Notes.{Noted}
 use Rattle.options.specs.declared.settle.Start.{Start}
 use Rattle.reply.specs.declared.Cause.{Cause}
 use Rattle.reply.specs.Reply.{bare}
-use Rattle.options.specs.declared.settle.Settling.{Settling}
-use Rattle.options.specs.declared.settle.Settling.TheVariants.{Gives, Fails}
+use Rattle.options.specs.declared.Tally.{Tally}
 use Rattle.options.specs.inner.Settling.{Started}
 use Rattle.options.specs.Options.{Gathered, gathered, stopped}
-use Rattle.options.specs.inner.Gathering.{gathered_by, made_at, knowns_of, FineFrom, Gathers, gives, stops}
+use Rattle.options.specs.inner.Gathering.{gathered_by, made_at, knowns_of, FineFrom, tally, Gathers, gives, stops}
 use Rattle.options.specs.Steps.{Steps, absent, refused, steps_in, steps_of, resolving_by, resolving_tested}
 use Rattle.options.specs.inner.Measuring.{Open, Opens, at, none, lost, rest_of, Counted, Tallies, Measures, fine as measured, refuses}
 use Rattle.options.specs.inner.Measuring as measuring
@@ -44,16 +43,15 @@ pub record Gave (made : ℕ → Recs) (k : ℕ) (g : Gathered) (at : ℕ) (l l' 
   pub count : n ≤ most_options
   pub few : length (encode (append (known_recs knowns) rest)) ≤ k
 
-pub gathers-gave : {made : ℕ → Recs} {k : ℕ} {g : Gathered} {at : ℕ} {l l' ns : List ℕ} {y : Settling} → Gathers made k g at l l' ns y
-    → (n next : ℕ) → y ≡ Gives n next → Gave made k g at l l' ns n next
-gathers-gave (gives {ks} {x} {at} {n} {next} a b c d) m p e =
-    let i : n ≡ m = cc in
-    let j : next ≡ p = cc in
-    rw (← i, ← j) (record { knowns = ks; rest = x; is = refl; laid = a; noted = b; count = c; few = d })
-gathers-gave stops m p e = never cc
+pub gathers-gave : {made : ℕ → Recs} {k : ℕ} {g : Gathered} {at : ℕ} {l l' ns : List ℕ} {y : Result Tally Cause} → Gathers made k g at l l' ns y
+    → (t : Tally) → y ≡ Ok t → Gave made k g at l l' ns t.count t.end
+gathers-gave (gives {ks} {x} {at} {n} {next} a b c d) t e =
+    let i : tally n next ≡ t = cc in
+    rw (← i) (record { knowns = ks; rest = x; is = refl; laid = a; noted = b; count = c; few = d })
+gathers-gave stops t e = never cc
 
-pub gathers-stopped : {made : ℕ → Recs} {k : ℕ} {g : Gathered} {at : ℕ} {l l' ns : List ℕ} {y : Settling} → Gathers made k g at l l' ns y
-    → (e : Cause) → y ≡ Fails e → g ≡ stopped e
+pub gathers-stopped : {made : ℕ → Recs} {k : ℕ} {g : Gathered} {at : ℕ} {l l' ns : List ℕ} {y : Result Tally Cause} → Gathers made k g at l l' ns y
+    → (e : Cause) → y ≡ Err e → g ≡ stopped e
 gathers-stopped (gives a b c d) w z = never cc
 gathers-stopped (stops {e}) w z = let i : e ≡ w = cc in ap stopped i
 
@@ -61,15 +59,15 @@ gathers-stopped (stops {e}) w z = let i : e ≡ w = cc in ap stopped i
 pub room-from : (s r : List ℕ) (h : Start) → Started s r h → Roomy 0 (length r) r
 room-from s r h k = record { room = omega (arith, k.short) }
 
-pub gathers-tallies : (s r : List ℕ) (h : Start) (l l' ns : List ℕ) (y : Settling)
+pub gathers-tallies : (s r : List ℕ) (h : Start) (l l' ns : List ℕ) (y : Result Tally Cause)
     → Gathers (made_at (walking s) s r h) (bytes_most (length r)) (gathered_by (walking s) s r h) 0 l l' ns y → Tallies s r ns h y
 gathers-tallies s r h l l' ns y u = record {
   stops = λ e z. gathers-stopped u e z;
-  counts = λ n o z.
-      let g = gathers-gave u n o z in
+  counts = λ t z.
+      let g = gathers-gave u t z in
       record { knowns = g.knowns; rest = g.rest; gathers = g.is; noted = g.noted; count = g.count; few = g.few };
-  others = λ n o z.
-      let g = gathers-gave u n o z in
+  others = λ t z.
+      let g = gathers-gave u t z in
       g.laid.next ∙ zero-add (length (encode g.rest)) ∙ sym (ap (λ (x : Gathered). length (encode (rest_of x))) g.is);
 }
 
@@ -97,36 +95,36 @@ laid-length bs m m' p c = c.next ∙ zero-add (length bs)
 pub ruleset known_length_laws = (room-from, counted-count, counted-noted, counted-few, laid-length)
 
 -- ---- measure_from
-module _ (s r ns : List ℕ) (h : Start) (y : Settling) (u : Tallies s r ns h y) where
-  pub tallied-refused : (e : Cause) → y ≡ Fails e → Measures s r (steps_in (gathered_by (walking s) s r h)) ns (Err e)
+module _ (s r ns : List ℕ) (h : Start) (y : Result Tally Cause) (u : Tallies s r ns h y) where
+  pub tallied-refused : (e : Cause) → y ≡ Err e → Measures s r (steps_in (gathered_by (walking s) s r h)) ns (Err e)
   tallied-refused e z = rw (u.stops e z) refuses
 
-  module _ (n o : ℕ) (z : y ≡ Gives n o) where
-    pub tallied-counted : Counted s r ns h n
-    tallied-counted = u.counts n o z
+  module _ (t : Tally) (z : y ≡ Ok t) where
+    pub tallied-counted : Counted s r ns h t.count
+    tallied-counted = u.counts t z
 
     module _ (p : ℕ) (q : p ≡ length (encode (known_recs (knowns_of (gathered_by (walking s) s r h))))) (g : Started s r h) where
-      sum_is : p + o ≡ length (encode (append (known_recs tallied-counted.knowns) tallied-counted.rest))
+      sum_is : p + t.end ≡ length (encode (append (known_recs tallied-counted.knowns) tallied-counted.rest))
       sum_is =
           let k = tallied-counted in
           omega (
             arith,
             q,
-            u.others n o z,
+            u.others t z,
             ap (λ (x : Gathered). length (encode (known_recs (knowns_of x)))) k.gathers,
             ap (λ (x : Gathered). length (encode (rest_of x))) k.gathers,
             ap length (encode-append (known_recs k.knowns) k.rest),
             length-append (encode (known_recs k.knowns)) (encode k.rest),
           )
 
-      pub tallied-sum : Fits w64 (p + o)
+      pub tallied-sum : Fits w64 (p + t.end)
       tallied-sum = record { fits = omega (arith, sum_is, tallied-counted.few, g.short) }
 
-      pub tallied-length : Fits w32 (p + o)
+      pub tallied-length : Fits w32 (p + t.end)
       tallied-length = record { fits = omega (arith, sum_is, tallied-counted.few, g.short) }
 
       pub tallied-fine : FineFrom r h
-          → Measures s r (steps_in (gathered_by (walking s) s r h)) ns (Ok (Some (record { start = h; count = n; length = p + o })))
+          → Measures s r (steps_in (gathered_by (walking s) s r h)) ns (Ok (Some (record { start = h; count = t.count; length = p + t.end })))
       tallied-fine b = measured (record { counted = tallied-counted; started = g; fine = b; length-is = sum_is })
 
 pub ruleset measure_from_laws = (tallied-refused, tallied-counted, tallied-sum, tallied-length, tallied-fine)

@@ -1,6 +1,6 @@
 -- What was measured, written: the second run lays what the first measured.
 -- Assumes nothing.
-use Rattle.std.specs.Prelude.{◌≡◌, List, ℕ, length}
+use Rattle.std.specs.Prelude.{◌≡◌, List, ℕ, length, Result}
 use Rattle.basis.specs.Kit.{sym, ap, ◌∙◌, sets}
 use Rattle.basis.proofs.Kit.{arith}
 use mathlib.Core.Path.{subst}
@@ -12,7 +12,8 @@ use Rattle.records.specs.inner.Emits.{Roomy}
 use Rattle.records.proofs.RecsLaws.{encode-append}
 use Rattle.lookups.specs.Lookups.{walking}
 use Rattle.known.specs.Known.{Known, known_recs}
-use Rattle.options.specs.declared.settle.Settling.{Settling}
+use Rattle.options.specs.declared.Tally.{Tally}
+use Rattle.reply.specs.declared.Cause.{Cause}
 use Rattle.options.specs.inner.Settling.{Started}
 use Rattle.options.specs.Options.{Gathered, gathered}
 use Rattle.options.specs.inner.Gathering.{gathered_by, made_at, knowns_of, FineFrom, Gathers, gives, stops}
@@ -24,7 +25,7 @@ record Relaid (at : ℕ) (l l' : List ℕ) (x : Recs) : Type 0 where
   next : ℕ
   laid : Laid l at (encode x) l' next
 
-gathers-laid : {made : ℕ → Recs} {k : ℕ} {g : Gathered} {at : ℕ} {l l' ns : List ℕ} {y : Settling} → Gathers made k g at l l' ns y
+gathers-laid : {made : ℕ → Recs} {k : ℕ} {g : Gathered} {at : ℕ} {l l' ns : List ℕ} {y : Result Tally Cause} → Gathers made k g at l l' ns y
     → (ks : List Known) (x : Recs) → g ≡ gathered ks x → Relaid at l l' x
 gathers-laid (gives {ks} {x} {at} {n} {next} a b c d) ks' x' e = let i : x ≡ x' = cc in rw (← i) (record { next = next; laid = a })
 gathers-laid stops ks' x' e = never cc
@@ -52,7 +53,7 @@ module _ (s r ns : List ℕ) (m : Measured) (k : Ready s r ns m) where
       → Roomy p (length r) r
   write-next l l' p a = record { room = omega (arith, k.started.short, a.next, counted-few s r ns m.start m.count k.counted) }
 
-  pub records-put : (l l₁ l₂ : List ℕ) (p q : ℕ) (ns' : List ℕ) (y : Settling)
+  pub records-put : (l l₁ l₂ : List ℕ) (p q : ℕ) (ns' : List ℕ) (y : Result Tally Cause)
       → Laid l 0 (encode (known_recs (knowns_of (gathered_by (walking s) s r m.start)))) l₁ p
       → Gathers (made_at (walking s) s r m.start) q (gathered_by (walking s) s r m.start) p l₁ l₂ ns' y
       → l₂ ≡ sets l 0 (encode (all_of (gathered_by (walking s) s r m.start)))

@@ -13,8 +13,8 @@ ghost use Rattle.options.specs.Steps.{steps_in, steps_of, resolving_tested};
 ghost use Rattle.options.specs.inner.Measuring.{all_of, Opens, Counted, Tallies, Ready, Measures};
 ghost use Rattle.reply.specs.Verdicts.{fine};
 
-use crate::settle::{Settling, Start};
-use crate::{gather, put_known};
+use crate::settle::Start;
+use crate::{Tally, gather, put_known};
 use reply::{Cause, bare};
 use request::heading::heading_of;
 
@@ -38,24 +38,28 @@ fn open(sheet: &[u8], request: &[u8]) -> Result<Option<Start>, Cause>
     if request.len() <= heading.options {
         return Ok(None);
     }
-    let scope = heading.scope;
     let options_type = heading.options_type;
     let from = options_type.from;
     let to = options_type.to;
     match lookups::message(sheet, &request[from..to]) {
         Err(why) => Err(bare(why)),
         Ok(place) => Ok(Some(Start {
-            scope: scope,
-            options_type: options_type,
+            scope: heading.scope,
+            options_type,
             options: heading.options,
-            place: place,
+            place,
         })),
     }
 }
 
 // What the options come to, and how many bytes the others have: they are gathered in no room to speak of.
 #[tactic(auto, using(crate::proofs::MeasureLaws::gather_length_laws))]
-fn gather_length(sheet: &[u8], request: &[u8], start: Start, notes: &mut [usize]) -> Settling
+fn gather_length(
+    sheet: &[u8],
+    request: &[u8],
+    start: Start,
+    notes: &mut [usize],
+) -> Result<Tally, Cause>
     requires started { Started sheet.now request.now start }
     requires fine_from { FineFrom request.now start }
     requires most_options_in_bounds { most_options ≤ length notes.old }
@@ -93,20 +97,13 @@ fn measure_from(
     ensures { Measures sheet.now request.now
         (steps_in (gathered_by (walking sheet.now) sheet.now request.now start)) notes.new result }
 {
-    match gather_length(sheet, request, start, notes) {
-        Settling::Fails(cause) => Err(cause),
-        Settling::Gives {
-            note: count,
-            next: others,
-        } => {
-            let known = known_length(sheet, request, start, notes, count);
-            Ok(Some(Measured {
-                start: start,
-                count: count,
-                length: (known + others) as u32,
-            }))
-        }
-    }
+    let tally = gather_length(sheet, request, start, notes)?;
+    let known = known_length(sheet, request, start, notes, tally.count);
+    Ok(Some(Measured {
+        start,
+        count: tally.count,
+        length: (known + tally.end) as u32,
+    }))
 }
 
 // The verdict on a fine request.
@@ -159,5 +156,5 @@ pub fn put_records(
 {
     let start = measured.start;
     let next = put_known(sheet, request, start, notes, measured.count, out, 0);
-    gather(sheet, request, start, notes, out, next);
+    let _ = gather(sheet, request, start, notes, out, next);
 }

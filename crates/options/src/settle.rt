@@ -33,12 +33,11 @@ pub struct Start {
     pub place: LookupScope,
 }
 
-// What an option comes to: the note of the builtin that it sets, its number and 1, or 0 where it sets none, and the place after what it wrote;
-// or why the request is refused, and where.
+// What an option comes to: the note of the builtin that it sets, its number and 1, or 0 where it sets none, and the place after what it wrote.
 #[derive(Clone, Copy)]
-pub enum Settling {
-    Gives { note: usize, next: usize },
-    Fails(Cause),
+pub struct Settling {
+    pub note: usize,
+    pub next: usize,
 }
 
 // The part that is the whole name of a builtin: a single direct one.
@@ -88,17 +87,17 @@ fn built_at(sheet: &[u8], request: &[u8], start: Start, part: Part, to: usize) -
 
 // What is answered of a builtin: nothing is written yet.
 #[tactic(auto, using(crate::proofs::settle::SettleLaws::settled_built_laws))]
-fn settled_built(built: Built, option: usize, at: usize) -> Settling
+fn settled_built(built: Built, option: usize, at: usize) -> Result<Settling, Cause>
     requires { option ≤ most_options }
     ensures { result ≡ settling_of option (note_in (settled_built [] built)) at (others_of (settled_built [] built)) }
 {
     match built {
-        Built::Skipped => Settling::Gives { note: 0, next: at },
-        Built::Sets(shape, _) => Settling::Gives {
+        Built::Skipped => Ok(Settling { note: 0, next: at }),
+        Built::Sets(shape, _) => Ok(Settling {
             note: shape.number as usize + 1,
             next: at,
-        },
-        Built::Wrong(why) => Settling::Fails(cause_at(option, Fault { part: 0, why })),
+        }),
+        Built::Wrong(why) => Err(cause_at(option, Fault { part: 0, why })),
     }
 }
 
@@ -113,7 +112,7 @@ fn settle_named(
     to: usize,
     out: &mut [u8],
     at: usize,
-) -> Settling
+) -> Result<Settling, Cause>
     requires { Settleable sheet.now request.now start option from to at }
     ensures { Emits (settling_of option 0) (option_made (walking sheet.now) sheet.now request.now
         (text request.now start.scope) 0 (message_of request.now start) from to) (bytes_most (to - from))
@@ -135,11 +134,8 @@ fn settle_named(
         out,
         at,
     ) {
-        Ok(next) => Settling::Gives {
-            note: 0,
-            next: next,
-        },
-        Err(fault) => Settling::Fails(cause_at(option, fault)),
+        Ok(next) => Ok(Settling { note: 0, next }),
+        Err(fault) => Err(cause_at(option, fault)),
     }
 }
 
@@ -154,7 +150,7 @@ pub fn settle(
     to: usize,
     out: &mut [u8],
     at: usize,
-) -> Settling
+) -> Result<Settling, Cause>
     requires { Settleable sheet.now request.now start option from to at }
     ensures { Emits (settling_of option (note_in (settled_at (walking sheet.now) sheet.now request.now
         start from to)))

@@ -2,9 +2,9 @@
 // answered in its turn. On 0 it prints the eight words of each record, and then each record once more for people.
 #![tactic(auto)]
 
-ghost use Rattle.std.specs.Prelude.{◌≤◌, length};
+ghost use Rattle.std.specs.Prelude.{◌≤◌, length, IfSome};
 
-use console::input::{MOST_BYTES, field_of};
+use console::input::{MOST_BYTES, each_case, field_of};
 
 const SHEET: u8 = 0x40;
 
@@ -25,56 +25,40 @@ fn answer_over(sheet: &[u8], options_type: &[u8], bytes: &[u8], words: &mut [u32
     }
 }
 
-// The case at a place, and where the next one starts; 0 where the input is no such fields.
+// The answer for these, with room for its words.
+fn answer_case(sheet: &[u8], options_type: &[u8], bytes: &[u8]) {
+    let mut words = [0u32; ROOM];
+    answer_over(sheet, options_type, bytes, &mut words);
+}
+
+// The case at a place, and where the next one starts, none where the input is no such fields.
 #[tactic(auto, using(crate::proofs::CaseLaws::case_laws))]
-fn list_case(s: &[u8], at: usize, words: &mut [u32]) -> usize
+fn list_case(s: &[u8], at: usize) -> Option<usize>
     requires { at ≤ length s.now }
-    ensures { result ≤ length s.now }
+    ensures { IfSome result (λ next. next ≤ length s.now) }
 {
-    let Some(sheet) = field_of(s, at, SHEET) else {
-        return 0;
-    };
-    let Some(options_type) = field_of(s, sheet.to, OPTIONS_TYPE) else {
-        return 0;
-    };
-    let Some(bytes) = field_of(s, options_type.to, OPTION_BYTES) else {
-        return 0;
-    };
-    answer_over(
+    let sheet = field_of(s, at, SHEET)?;
+    let options_type = field_of(s, sheet.to, OPTIONS_TYPE)?;
+    let bytes = field_of(s, options_type.to, OPTION_BYTES)?;
+    answer_case(
         &s[sheet.from..sheet.to],
         &s[options_type.from..options_type.to],
         &s[bytes.from..bytes.to],
-        words,
     );
-    bytes.to
-}
-
-// All cases, of which there has to be one.
-fn list_cases(s: &[u8], words: &mut [u32]) {
-    let mut at = 0;
-    loop {
-        let next = list_case(s, at, words);
-        if next <= at {
-            return;
-        }
-        if next == s.len() {
-            return;
-        }
-        at = next;
-    }
+    Some(bytes.to)
 }
 
 // Standard input, read into a lent buffer.
 #[tactic(auto, using(crate::proofs::CaseLaws::case_laws))]
-fn run_over(buffer: &mut [u8], words: &mut [u32]) {
+fn run_over(buffer: &mut [u8]) {
     let Some(n) = console::input::read(buffer) else {
         return;
     };
-    list_cases(&buffer[..n], words);
+    let s = &buffer[..n];
+    each_case(s.len(), |at| list_case(s, at));
 }
 
 fn main() {
     let mut buffer = [0u8; MOST_BYTES];
-    let mut words = [0u32; ROOM];
-    run_over(&mut buffer, &mut words);
+    run_over(&mut buffer);
 }

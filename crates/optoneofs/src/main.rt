@@ -2,9 +2,9 @@
 // of declaration, 49 the words (4 bytes each); several of these one after the other are several cases, each answered in its turn.
 #![tactic(auto)]
 
-ghost use Rattle.std.specs.Prelude.{◌≤◌, length};
+ghost use Rattle.std.specs.Prelude.{◌≤◌, length, IfSome};
 
-use console::input::{MOST_BYTES, field_of};
+use console::input::{MOST_BYTES, each_case, field_of};
 use inputs::words::MOST_PAYLOAD_WORDS;
 use limits::MOST_WORDS;
 
@@ -25,39 +25,35 @@ fn lower(numbering: u32, payload: &[u8]) {
 
 // The words at a place, in a numbering, and where the next case starts; 0 where the input is no such field.
 #[tactic(auto, using(console::proofs::InputLaws::input_laws))]
-fn lower_words(numbering: u32, s: &[u8], at: usize) -> usize
+fn lower_words(numbering: u32, s: &[u8], at: usize) -> Option<usize>
     requires { at ≤ length s.now }
-    ensures { result ≤ length s.now }
+    ensures { IfSome result (λ next. next ≤ length s.now) }
 {
-    let Some(words) = field_of(s, at, WORDS) else {
-        return 0;
-    };
+    let words = field_of(s, at, WORDS)?;
     if !console::input::has_words(WORDS, words.from, words.to) {
-        return 0;
+        return None;
     }
     lower(numbering, &s[words.from..words.to]);
-    words.to
+    Some(words.to)
 }
 
 // The same, of a case that starts with its numbering.
 #[tactic(auto, using(console::proofs::InputLaws::input_laws))]
-fn lower_numbered(s: &[u8], at: usize) -> usize
+fn lower_numbered(s: &[u8], at: usize) -> Option<usize>
     requires { at ≤ length s.now }
-    ensures { result ≤ length s.now }
+    ensures { IfSome result (λ next. next ≤ length s.now) }
 {
-    let Some(given) = field_of(s, at, NUMBERING) else {
-        return 0;
-    };
+    let given = field_of(s, at, NUMBERING)?;
     if !console::input::has_size(NUMBERING, given.from, given.to, 4) {
-        return 0;
+        return None;
     }
     lower_words(octets::u32_at(s, given.from), s, given.to)
 }
 
-// The case at a place, and where the next one starts; 0 where the input is no such fields.
-fn lower_case(s: &[u8], at: usize) -> usize
+// The case at a place, and where the next one starts, none where the input is no such fields.
+fn lower_case(s: &[u8], at: usize) -> Option<usize>
     requires { at ≤ length s.now }
-    ensures { result ≤ length s.now }
+    ensures { IfSome result (λ next. next ≤ length s.now) }
 {
     if at < s.len() {
         if s[at] == NUMBERING {
@@ -67,28 +63,14 @@ fn lower_case(s: &[u8], at: usize) -> usize
     lower_words(oneofs::DECLARED, s, at)
 }
 
-// All cases, of which there has to be one.
-fn lower_cases(s: &[u8]) {
-    let mut at = 0;
-    loop {
-        let next = lower_case(s, at);
-        if next <= at {
-            return;
-        }
-        if next == s.len() {
-            return;
-        }
-        at = next;
-    }
-}
-
 // Standard input, read into a lent buffer.
 #[tactic(auto, using(console::proofs::InputLaws::input_laws))]
 fn run_over(buffer: &mut [u8]) {
     let Some(n) = console::input::read(buffer) else {
         return;
     };
-    lower_cases(&buffer[..n]);
+    let s = &buffer[..n];
+    each_case(s.len(), |at| lower_case(s, at));
 }
 
 fn main() {

@@ -53,7 +53,7 @@ pub record Steady (L : Lookups) (s : List ℕ) : Type 0 where
   pub field : (m : Message) → L.message m.name ≡ Ok m.place → (n : List ℕ) (d : Declaration) → field_named s n m.place ≡ Some d
       → Usable L s m d
   pub extension : (m : Message) → L.message m.name ≡ Ok m.place → (scope n : List ℕ) (c : Candidate)
-      → L.extension scope m.name n ≡ Extends c → Usable L s m c.found.declaration
+      → L.extension scope m.name n ≡ Ok (Extends c) → Usable L s m c.found.declaration
   pub value : (n : List ℕ) (vs : Span) (v : Value) → value_in s n vs ≡ Some v → v.number < 2 ^ 32
 
 every-among : {A : Type 0} {P : A → Type 0} {x : A} {xs : List A} → Every P xs → Among x xs → P x
@@ -222,7 +222,7 @@ module _ (s : List ℕ) (fine : judge_sheet s ≡ fine) where
           range = fields-each InRange items (found-holds s (Each InRange) (inside-each InRange) ranged m.name m.place at) d k;
         }
 
-    extension-usable : (scope n : List ℕ) (c : Candidate) → (walking s).extension scope m.name n ≡ Extends c
+    extension-usable : (scope n : List ℕ) (c : Candidate) → (walking s).extension scope m.name n ≡ Ok (Extends c)
         → Usable (walking s) s m c.found.declaration
     extension-usable scope n c q =
         let d = c.found.declaration in

@@ -1,7 +1,7 @@
 -- What the option steps promise, each statement below its sentence: found first, tested second, of the resolver itself, and the first refused
 -- option ends the work. `s` is the sheet, `r` the request, `scope` the request's scope, `m` the message reached, `p` a part of a name.
 -- Assumes nothing.
-use Rattle.std.specs.Prelude.{◌≡◌, refl, true, false, List, [], ◌∷◌, ◌++◌, ℕ, ◌+◌, Err, Ok}
+use Rattle.std.specs.Prelude.{◌≡◌, refl, true, false, List, [], ◌∷◌, ◌++◌, ℕ, ◌+◌, Err, Ok, Result}
 use Rattle.basis.specs.Kit.{sym, ap, ◌∙◌}
 use Rattle.basis.specs.Among.{Among}
 use Rattle.basis.proofs.Never.{never}
@@ -13,7 +13,7 @@ use Rattle.field.specs.Leaf.{text}
 use Rattle.scope.specs.Scope.{extends}
 use Rattle.search.specs.declared.extension.Candidate.{Candidate}
 use Rattle.search.specs.declared.extension.Compared.{Compared}
-use Rattle.search.specs.declared.extension.Compared.TheVariants.{Extends, ExtendsOther, Refused}
+use Rattle.search.specs.declared.extension.Compared.TheVariants.{Extends, ExtendsOther}
 use Rattle.search.specs.Lookup.{tried, ext_resolve_field}
 use Rattle.search.specs.Answers.{Undeclared, AnswersAt}
 use Rattle.search.proofs.Theorems.{tried-answers, extendee-other, other-tried, other-extendee}
@@ -44,21 +44,21 @@ pub record Mismatch (s scope : List ℕ) (m : Message) (name : List ℕ) (l : La
   pub declares : AnswersAt s scope name first
   pub other : extends s m.name first.found.declaration ≡ false
 
-extension-inv : (u : Compared) (w : Refusal) → step_extension u ≡ Err (NoExtension w) → u ≡ Refused w
-extension-inv (Extends c) w e = never cc
-extension-inv (ExtendsOther c) w e = never cc
-extension-inv (Refused v) w e = let y : v ≡ w = cc in ap Refused y
+extension-inv : (u : Result Compared Refusal) (w : Refusal) → step_extension u ≡ Err (NoExtension w) → u ≡ Err w
+extension-inv (Ok (Extends c)) w e = never cc
+extension-inv (Ok (ExtendsOther c)) w e = never cc
+extension-inv (Err v) w e = let y : v ≡ w = cc in ap Err y
 
-other-inv : (u : Compared) (c : Candidate) → step_extension u ≡ Err (OtherMessage c) → u ≡ ExtendsOther c
-other-inv (Extends d) c e = never cc
-other-inv (ExtendsOther d) c e = let y : d ≡ c = cc in ap ExtendsOther y
-other-inv (Refused v) c e = never cc
+other-inv : (u : Result Compared Refusal) (c : Candidate) → step_extension u ≡ Err (OtherMessage c) → u ≡ Ok (ExtendsOther c)
+other-inv (Ok (Extends d)) c e = never cc
+other-inv (Ok (ExtendsOther d)) c e = let y : d ≡ c = cc in ap (λ (x : Candidate). Ok (ExtendsOther x)) y
+other-inv (Err v) c e = never cc
 
 module _ (s r scope : List ℕ) (m : Message) (p : Part) (x : p.extension ≡ true) where
   abbrev name : List ℕ
   name = text r p.name
 
-  abbrev searched : Compared
+  abbrev searched : Result Compared Refusal
   searched = ext_resolve_field s scope m.name name
 
   step_is : step_of (walking s) s r scope m p ≡ step_extension searched
@@ -71,7 +71,7 @@ module _ (s r scope : List ℕ) (m : Message) (p : Part) (x : p.extension ≡ tr
   part-not-found h NoField e g = never cc
   part-not-found h (OtherMessage c) e g = never cc
   part-not-found h (NoExtension w) e g =
-      not-found-none s scope m.name name h (extension-inv searched w (sym step_is ∙ e) ∙ ap Refused g)
+      not-found-none s scope m.name name h (extension-inv searched w (sym step_is ∙ e) ∙ ap Err g)
 
   -- and wherever none does.
   pub part-undeclared : ((q : Path) → Among q (candidates scope (text r p.name)) → Undeclared s q)

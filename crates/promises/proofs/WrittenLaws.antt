@@ -209,12 +209,12 @@ module _ (L : Lookups) (s r : List ℕ) (steady : Steady L s) where
     unfolding step_of
     step-usable m h p d = go p.extension
       where
-        by-extension : (x : Compared) → L.extension scope m.name (text r p.name) ≡ x → step_extension x ≡ Ok d → Usable L s m d
-        by-extension (comparison.Extends c) q e =
+        by-extension : (x : Result Compared Refusal) → L.extension scope m.name (text r p.name) ≡ x → step_extension x ≡ Ok d → Usable L s m d
+        by-extension (Ok (comparison.Extends c)) q e =
             let same : d ≡ c.found.declaration = cc in
             rw same (steady.extension m h scope (text r p.name) c q)
-        by-extension (comparison.ExtendsOther c) q e = never cc
-        by-extension (comparison.Refused w) q e = never cc
+        by-extension (Ok (comparison.ExtendsOther c)) q e = never cc
+        by-extension (Err w) q e = never cc
 
         by-field : (x : Option Declaration) → field_named s (text r p.name) m.place ≡ x → told (Err NoField) Ok x ≡ Ok d
             → Usable L s m d

@@ -1,4 +1,4 @@
--- What a writer of records answers and leaves: one set of laws for every enum that a writer answers.
+-- What a writer of records answers and leaves: one set of laws for every Result that a writer answers.
 -- Assumes nothing.
 use Rattle.std.specs.Prelude.{◌≡◌, refl, List, ℕ, ◌+◌, ◌≤◌, length, Err, Ok, Result}
 use Rattle.std.specs.Result.{IsErrAnd}
@@ -11,7 +11,7 @@ use Rattle.records.specs.Records.{Recs, nil, encode}
 use Rattle.records.specs.Made.{Made, made, wrong}
 use Rattle.records.specs.inner.Emits.{wrote_of, Emits}
 
--- the enum has a case `next` for a place and another, `stop`, for what is wrong, and `answers` gives these
+-- an answer has a case `next` for a place and another, `stop`, for what is wrong, and `answers` gives these
 pub record Tells {W A : Type 0} (answers : ℕ → Made W → A) (next : ℕ → A) (stop : W → A) : Type 0 where
   pub makes : (at : ℕ) (x : Recs) → answers at (made x) ≡ next (at + length (encode x))
   pub stops : (at : ℕ) (w : W) → answers at (wrong w) ≡ stop w
@@ -77,5 +77,5 @@ pub hands-on : {W E : Type 0} {answers : ℕ → Made W → Result ℕ E} {m : M
 hands-on {y = Ok x} h u = elim h [ ]
 hands-on {y = Err e} h u = rw h u
 
--- a search over these wants the `Tells` of the writer's enum in its list too
+-- a search over these wants the `Tells` of the writer's answer in its list too
 pub ruleset emits_laws = (emits-next, emits-refused, refuses, emits-laid, writes-none, emits-more)

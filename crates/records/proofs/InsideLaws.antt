@@ -1,4 +1,4 @@
--- A message's record: what it holds is written behind the shortest head, and then enclosed. One set of laws for every enum that a writer
+-- A message's record: what it holds is written behind the shortest head, and then enclosed. One set of laws for every Result that a writer
 -- answers.
 -- Assumes nothing.
 use Rattle.std.specs.Prelude.{◌≡◌, List, ℕ, ◌+◌, ◌-◌, ◌^◌, ◌≤◌, ◌<◌, length}
@@ -54,5 +54,5 @@ module _ (at j f : ℕ) (r : List ℕ) (o : Roomy at (3 + j) r) (few : f ≤ 11)
   pub inside-fits : Fits w64 (at + f)
   inside-fits = record { fits = omega (arith, o.room, few) }
 
--- a search over these wants the `Tells` of the writer's enum in its list too
+-- a search over these wants the `Tells` of the writer's answer in its list too
 pub ruleset inside_laws = (inside-refused, inside-start, inside-few, inside-enclosed, inside-room, inside-fits)

@@ -1,6 +1,6 @@
 -- 01's examples P2 to P7, as one table under one statement, which the checker computes.
 -- Assumes nothing.
-use Rattle.std.specs.Prelude.{◌≡◌, refl, List, [], ◌∷◌, ◌++◌, map, ℕ}
+use Rattle.std.specs.Prelude.{◌≡◌, refl, List, [], ◌∷◌, ◌++◌, map, ℕ, Result, Ok, Err}
 use Prim.Native.String.{String}
 use Rattle.octets.specs.Octets.{big_at, same_bytes}
 use Rattle.octets.specs.Ascii.{ascii}
@@ -13,8 +13,9 @@ use Rattle.candidates.specs.Candidates.{ancestors}
 use Rattle.candidates.specs.Candidates.{candidates}
 use Rattle.sheet.specs.Declaration.{has_type_path, type_path_at, shape_at, extension_at, message_field_at, value_at}
 use Rattle.sheet.specs.Tree.{value_in, item_in, items_in, file_in, tree_of}
+use Rattle.reply.specs.declared.Refusal.{Refusal}
 use Rattle.search.specs.declared.extension.Compared.{Compared}
-use Rattle.search.specs.declared.extension.Compared.TheVariants.{Extends, ExtendsOther, Refused}
+use Rattle.search.specs.declared.extension.Compared.TheVariants.{Extends, ExtendsOther}
 use Rattle.scopes.specs.Scopes.{scopes}
 use Rattle.search.specs.Lookup.{found_at, tried, ext_resolve_field}
 use Rattle.sheet.proofs.Sheets.{file, message, extension}
@@ -50,10 +51,10 @@ data Reply : Type 0 where
   other : (position number : ℕ) → Reply
   refused : ℕ → Reply
 
-abbrev reply : Compared → Reply
-reply (Extends c) = found c.position c.found.declaration.shape.number
-reply (ExtendsOther c) = other c.position c.found.declaration.shape.number
-reply (Refused w) = refused (number w)
+abbrev reply : Result Compared Refusal → Reply
+reply (Ok (Extends c)) = found c.position c.found.declaration.shape.number
+reply (Ok (ExtendsOther c)) = other c.position c.found.declaration.shape.number
+reply (Err w) = refused (number w)
 
 record Example : Type 0 where
   sheet : List ℕ

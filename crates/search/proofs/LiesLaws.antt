@@ -64,11 +64,11 @@ module _ (s scope name : List ℕ) (r : Result Candidate Refusal) (q : r ≡ tri
   tried-ordered = places-ordered tried-places
 
 -- what `ext_resolve_field_ext` answers, of the message asked for or of another
-module _ (s scope m name : List ℕ) (r : Compared) (q : r ≡ ext_resolve_field s scope m name) (c : Candidate) where
-  pub extends-lies : r ≡ Extends c → FoundLies s c.found
+module _ (s scope m name : List ℕ) (r : Result Compared Refusal) (q : r ≡ ext_resolve_field s scope m name) (c : Candidate) where
+  pub extends-lies : r ≡ Ok (Extends c) → FoundLies s c.found
   unfolding ext_resolve_field
   extends-lies g = tried-lies s scope name _ refl c (compared-extends s m c (tried s scope name) (sym q ∙ g))
 
-  pub other-lies : r ≡ ExtendsOther c → FoundLies s c.found
+  pub other-lies : r ≡ Ok (ExtendsOther c) → FoundLies s c.found
   unfolding ext_resolve_field
   other-lies g = tried-lies s scope name _ refl c (compared-other s m c (tried s scope name) (sym q ∙ g))

@@ -13,7 +13,6 @@ use Rattle.candidates.specs.Candidates.{candidates, candidate}
 use Rattle.candidates.proofs.CandidateLaws.{candidates-abs, candidates-length-rel, candidate-rel}
 use Rattle.search.specs.declared.extension.Found.{Found}
 use Rattle.search.specs.declared.extension.Candidate.{Candidate}
-use Rattle.search.specs.declared.extension.Compared.TheVariants as comparison
 use Rattle.search.specs.declared.extension.Compared.TheVariants.{Extends, ExtendsOther}
 use Rattle.scope.specs.Scope.{Scope}
 use Rattle.scopes.specs.Scopes.{scopes}
@@ -82,57 +81,57 @@ found-tried s scope name c e = rw e
 -- with its position and its extension, and the extendee says no more than whether it is one of the message asked for;
 module _ (s scope m name : List ℕ) (c : Candidate) where
   pub extendee-same : tried s scope name ≡ Ok c → extends s m c.found.declaration ≡ true
-      → ext_resolve_field s scope m name ≡ Extends c
+      → ext_resolve_field s scope m name ≡ Ok (Extends c)
   unfolding ext_resolve_field
   extendee-same e h = rw (e, h)
 
   pub extendee-other : tried s scope name ≡ Ok c → extends s m c.found.declaration ≡ false
-      → ext_resolve_field s scope m name ≡ ExtendsOther c
+      → ext_resolve_field s scope m name ≡ Ok (ExtendsOther c)
   unfolding ext_resolve_field
   extendee-other e h = rw (e, h)
 
   -- and neither is said of anything else.
-  pub same-tried : ext_resolve_field s scope m name ≡ Extends c → tried s scope name ≡ Ok c
+  pub same-tried : ext_resolve_field s scope m name ≡ Ok (Extends c) → tried s scope name ≡ Ok c
   unfolding ext_resolve_field
   same-tried e = compared-extends s m c (tried s scope name) e
 
-  pub other-tried : ext_resolve_field s scope m name ≡ ExtendsOther c → tried s scope name ≡ Ok c
+  pub other-tried : ext_resolve_field s scope m name ≡ Ok (ExtendsOther c) → tried s scope name ≡ Ok c
   unfolding ext_resolve_field
   other-tried e = compared-other s m c (tried s scope name) e
 
-  pub same-extendee : ext_resolve_field s scope m name ≡ Extends c → extends s m c.found.declaration ≡ true
+  pub same-extendee : ext_resolve_field s scope m name ≡ Ok (Extends c) → extends s m c.found.declaration ≡ true
   unfolding ext_resolve_field
   same-extendee e = extended-same c (extends s m c.found.declaration) (rw (same-tried e) at e)
 
-  pub other-extendee : ext_resolve_field s scope m name ≡ ExtendsOther c → extends s m c.found.declaration ≡ false
+  pub other-extendee : ext_resolve_field s scope m name ≡ Ok (ExtendsOther c) → extends s m c.found.declaration ≡ false
   unfolding ext_resolve_field
   other-extendee e = extended-other c (extends s m c.found.declaration) (rw (other-tried e) at e)
 
 -- Where no candidate answers, nothing is compared: that refusal is the answer, and there alone one is given.
 pub refusal-same : (s scope m name : List ℕ) (w : Refusal) → tried s scope name ≡ Err w
-    → ext_resolve_field s scope m name ≡ comparison.Refused w
+    → ext_resolve_field s scope m name ≡ Err w
 unfolding ext_resolve_field
 refusal-same s scope m name w e = rw e
 
-pub refused-tried : (s scope m name : List ℕ) (w : Refusal) → ext_resolve_field s scope m name ≡ comparison.Refused w
+pub refused-tried : (s scope m name : List ℕ) (w : Refusal) → ext_resolve_field s scope m name ≡ Err w
     → tried s scope name ≡ Err w
 unfolding ext_resolve_field
 refused-tried s scope m name w e = compared-refused s m (tried s scope name) w e
 
 -- So an extension part that is reached gets ExtensionNotFound exactly when none of 01's scopes at its candidate paths declares that name,
 pub not-found-none : (s scope m name : List ℕ) → is_path name ≡ true
-    → ext_resolve_field s scope m name ≡ comparison.Refused ExtensionNotFound → (p : Path) → Among p (candidates scope name) → Undeclared s p
+    → ext_resolve_field s scope m name ≡ Err ExtensionNotFound → (p : Path) → Among p (candidates scope name) → Undeclared s p
 unfolding find_extension_by_path
 not-found-none s scope m name h e = nowhere-none s scope name h (rw (refused-tried s scope m name ExtensionNotFound e))
 
 pub none-not-found : (s scope m name : List ℕ) → ((p : Path) → Among p (candidates scope name) → Undeclared s p)
-    → ext_resolve_field s scope m name ≡ comparison.Refused ExtensionNotFound
+    → ext_resolve_field s scope m name ≡ Err ExtensionNotFound
 unfolding find_extension_by_path
 none-not-found s scope m name h =
     refusal-same s scope m name ExtensionNotFound (resolved-tried (tried s scope name) ExtensionNotFound (none-nowhere s scope name h))
 
 -- and no other refusal.
-pub refusal-not-found : (s scope m name : List ℕ) (w : Refusal) → ext_resolve_field s scope m name ≡ comparison.Refused w
+pub refusal-not-found : (s scope m name : List ℕ) (w : Refusal) → ext_resolve_field s scope m name ≡ Err w
     → w ≡ ExtensionNotFound
 unfolding find_extension_by_path
 refusal-not-found s scope m name w e = refused-not-found s scope name w (rw (refused-tried s scope m name w e))

@@ -10,7 +10,6 @@ use Rattle.path.specs.Path.{Path}
 use Rattle.candidates.specs.Candidates.{candidates}
 use Rattle.search.specs.declared.extension.Found.{Found}
 use Rattle.search.specs.declared.extension.Candidate.{Candidate}
-use Rattle.search.specs.declared.extension.Compared.TheVariants as comparison
 use Rattle.search.specs.declared.extension.Compared.TheVariants.{Extends, ExtendsOther}
 use Rattle.scope.specs.Scope.{extends}
 use Rattle.search.specs.Lookup.{found_at, found_among, or_not_found, tried, resolved, find_extension_by_path, extended, compared}
@@ -47,36 +46,36 @@ resolved-tried (Ok c) w q = never cc
 resolved-tried (Err v) w q = let u : v ≡ w = cc in rw u
 
 module _ (s m : List ℕ) where
-  pub compared-refused : (t : Result Candidate Refusal) (w : Refusal) → compared s m t ≡ comparison.Refused w → t ≡ Err w
+  pub compared-refused : (t : Result Candidate Refusal) (w : Refusal) → compared s m t ≡ Err w → t ≡ Err w
   compared-refused (Err v) w q = let u : v ≡ w = cc in rw u
   compared-refused (Ok d) w q = go (extends s m d.found.declaration) q
     where
-      go : (b : Bool) → extended b d ≡ comparison.Refused w → Ok d ≡ Err w
+      go : (b : Bool) → extended b d ≡ Err w → Ok d ≡ Err w
       go true q = never cc
       go false q = never cc
 
   module _ (c : Candidate) where
-    pub compared-extends : (t : Result Candidate Refusal) → compared s m t ≡ Extends c → t ≡ Ok c
+    pub compared-extends : (t : Result Candidate Refusal) → compared s m t ≡ Ok (Extends c) → t ≡ Ok c
     compared-extends (Err w) q = never cc
     compared-extends (Ok d) q = go (extends s m d.found.declaration) q
       where
-        go : (b : Bool) → extended b d ≡ Extends c → ◌≡◌ {A = Result Candidate Refusal} (Ok d) (Ok c)
+        go : (b : Bool) → extended b d ≡ Ok (Extends c) → ◌≡◌ {A = Result Candidate Refusal} (Ok d) (Ok c)
         go true q = let u : d ≡ c = cc in rw u
         go false q = never cc
 
-    pub compared-other : (t : Result Candidate Refusal) → compared s m t ≡ ExtendsOther c → t ≡ Ok c
+    pub compared-other : (t : Result Candidate Refusal) → compared s m t ≡ Ok (ExtendsOther c) → t ≡ Ok c
     compared-other (Err w) q = never cc
     compared-other (Ok d) q = go (extends s m d.found.declaration) q
       where
-        go : (b : Bool) → extended b d ≡ ExtendsOther c → ◌≡◌ {A = Result Candidate Refusal} (Ok d) (Ok c)
+        go : (b : Bool) → extended b d ≡ Ok (ExtendsOther c) → ◌≡◌ {A = Result Candidate Refusal} (Ok d) (Ok c)
         go true q = never cc
         go false q = let u : d ≡ c = cc in rw u
 
-pub extended-same : (c : Candidate) (b : Bool) → extended b c ≡ Extends c → b ≡ true
+pub extended-same : (c : Candidate) (b : Bool) → extended b c ≡ Ok (Extends c) → b ≡ true
 extended-same c true q = refl
 extended-same c false q = never cc
 
-pub extended-other : (c : Candidate) (b : Bool) → extended b c ≡ ExtendsOther c → b ≡ false
+pub extended-other : (c : Candidate) (b : Bool) → extended b c ≡ Ok (ExtendsOther c) → b ≡ false
 extended-other c true q = never cc
 extended-other c false q = refl
 

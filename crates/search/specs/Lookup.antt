@@ -24,7 +24,6 @@ use Rattle.scope.specs.Scope.{Scope, declaration_named, extends}
 use Rattle.search.specs.declared.extension.Found.{Found}
 use Rattle.search.specs.declared.extension.Candidate.{Candidate}
 use Rattle.search.specs.declared.extension.Compared.{Compared}
-use Rattle.search.specs.declared.extension.Compared.TheVariants as comparison
 use Rattle.search.specs.declared.extension.Compared.TheVariants.{Extends, ExtendsOther}
 use Rattle.scopes.specs.Scopes.{scopes}
 
@@ -59,13 +58,13 @@ unfoldable pub find_extension_by_path : (s scope name : List ℕ) → Result Fou
 find_extension_by_path s scope name = resolved (tried s scope name)
 
 -- "Only then is the extendee compared; a mismatch ends the search." [SEARCH-7]
-abbrev pub extended : (fits : Bool) (c : Candidate) → Compared
-extended true c = Extends c
-extended false c = ExtendsOther c
+abbrev pub extended : (fits : Bool) (c : Candidate) → Result Compared Refusal
+extended true c = Ok (Extends c)
+extended false c = Ok (ExtendsOther c)
 
-abbrev pub compared : (s m : List ℕ) → Result Candidate Refusal → Compared
+abbrev pub compared : (s m : List ℕ) → Result Candidate Refusal → Result Compared Refusal
 compared s m (Ok c) = extended (extends s m c.found.declaration) c
-compared s m (Err w) = comparison.Refused w
+compared s m (Err w) = Err w
 
-unfoldable pub ext_resolve_field : (s scope m name : List ℕ) → Compared
+unfoldable pub ext_resolve_field : (s scope m name : List ℕ) → Result Compared Refusal
 ext_resolve_field s scope m name = compared s m (tried s scope name)

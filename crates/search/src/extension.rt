@@ -1,5 +1,4 @@
 // What a look-up of an extension comes to.
-use reply::Refusal;
 use sheet::declaration::Declaration;
 
 // An extension that was found, and the index of its file.
@@ -16,11 +15,10 @@ pub struct Candidate {
     pub found: Found,
 }
 
-// What the search for an extension of a message comes to: the candidate that answers; the one that answers where it extends another
-// message, with which the search ends; or why none answers.
+// What the search for an extension of a message comes to: the candidate that answers; or the one that answers where it extends another
+// message, with which the search ends.
 #[derive(Clone, Copy)]
 pub enum Compared {
     Extends(Candidate),
     ExtendsOther(Candidate),
-    Refused(Refusal),
 }

@@ -15,7 +15,7 @@ use Rattle.scope.specs.declared.lookup.LookupScope.{LookupScope}
 use Rattle.scope.specs.inner.Answers.{InSheet, declared}
 use Rattle.search.specs.declared.extension.Candidate.{Candidate}
 use Rattle.search.specs.declared.extension.Compared.{Compared}
-use Rattle.search.specs.declared.extension.Compared.TheVariants.{Extends, ExtendsOther, Refused}
+use Rattle.search.specs.declared.extension.Compared.TheVariants.{Extends, ExtendsOther}
 use Rattle.request.specs.declared.name.Part.{Part}
 use Rattle.constantform.specs.Leaves.{good_part}
 use Rattle.lookups.specs.Lookups.{Lookups, walking, field_named}
@@ -26,21 +26,21 @@ use Rattle.steps.specs.Steps.{step_extension, step_of}
 use Rattle.steps.specs.inner.Reached.{message, StepLies}
 
 -- ---- step_extension
-module _ (v : Compared) where
-  pub searched-refused : (w : Refusal) → v ≡ Refused w → Err (NoExtension w) ≡ step_extension v
+module _ (v : Result Compared Refusal) where
+  pub searched-refused : (w : Refusal) → v ≡ Err w → Err (NoExtension w) ≡ step_extension v
   searched-refused w g = sym (ap step_extension g)
 
-  pub searched-other : (c : Candidate) → v ≡ ExtendsOther c → Err (OtherMessage c) ≡ step_extension v
+  pub searched-other : (c : Candidate) → v ≡ Ok (ExtendsOther c) → Err (OtherMessage c) ≡ step_extension v
   searched-other c g = sym (ap step_extension g)
 
-  pub searched-extends : (c : Candidate) → v ≡ Extends c → Ok c.found.declaration ≡ step_extension v
+  pub searched-extends : (c : Candidate) → v ≡ Ok (Extends c) → Ok c.found.declaration ≡ step_extension v
   searched-extends c g = sym (ap step_extension g)
 
 pub ruleset searched_laws = (searched-refused, searched-other, searched-extends)
 
 -- ---- an extension part
 module _ (L : Lookups) (s r scope n : List ℕ) (c : LookupScope) (p : Part) where
-  pub step-extension : p.extension ≡ true → (v : Compared) → v ≡ L.extension scope n (text r p.name) → (u : Result Declaration Lack)
+  pub step-extension : p.extension ≡ true → (v : Result Compared Refusal) → v ≡ L.extension scope n (text r p.name) → (u : Result Declaration Lack)
       → u ≡ step_extension v → u ≡ step_of L s r scope (message n c) p
   unfolding step_of
   step-extension x v q u e = e ∙ sym (rw (step_of, x, q) refl)
@@ -75,16 +75,16 @@ module _ (s : List ℕ) where
   lies-found : (d : Declaration) → Lies d.shape.path s → StepLies s (Ok d)
   lies-found d l = record { lies = λ x e. let y : d ≡ x = cc in subst (λ (z : Declaration). Lies z.shape.path s) y l }
 
-  pub lies-extension : (scope m n : List ℕ) (v : Compared) → v ≡ (walking s).extension scope m n → (u : Result Declaration Lack) → u ≡ step_extension v
+  pub lies-extension : (scope m n : List ℕ) (v : Result Compared Refusal) → v ≡ (walking s).extension scope m n → (u : Result Declaration Lack) → u ≡ step_extension v
       → StepLies s u
   lies-extension scope m n v q u e = subst (StepLies s) (sym e) (go v q)
     where
-      go : (v : Compared) → v ≡ (walking s).extension scope m n → StepLies s (step_extension v)
-      go (Refused w) q = lies-lack (NoExtension w)
-      go (ExtendsOther c) q = lies-lack (OtherMessage c)
-      go (Extends c) q =
+      go : (v : Result Compared Refusal) → v ≡ (walking s).extension scope m n → StepLies s (step_extension v)
+      go (Err w) q = lies-lack (NoExtension w)
+      go (Ok (ExtendsOther c)) q = lies-lack (OtherMessage c)
+      go (Ok (Extends c)) q =
           lies-found c.found.declaration
-          (extension-path-ordered s scope m n (Extends c) q c refl, extension-path-within s scope m n (Extends c) q c refl)
+          (extension-path-ordered s scope m n (Ok (Extends c)) q c refl, extension-path-within s scope m n (Ok (Extends c)) q c refl)
 
   pub lies-field : (c : LookupScope) → InSheet s c → (n : List ℕ) (v : Option Declaration) → v ≡ declared (field_named s n c)
       → (u : Result Declaration Lack) → v ≡ result_ok u → StepLies s u

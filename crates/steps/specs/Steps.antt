@@ -13,7 +13,7 @@ use Rattle.reply.specs.declared.Refusal.{Refusal}
 use Rattle.reply.specs.declared.Refusal.TheVariants.{WrongExtensionType, UnknownFieldName}
 use Rattle.field.specs.Leaf.{text}
 use Rattle.search.specs.declared.extension.Compared.{Compared}
-use Rattle.search.specs.declared.extension.Compared.TheVariants.{Extends, ExtendsOther, Refused}
+use Rattle.search.specs.declared.extension.Compared.TheVariants.{Extends, ExtendsOther}
 use Rattle.request.specs.declared.name.Part.{Part}
 use Rattle.lookups.specs.Lookups.{Lookups, Message, field_named}
 use Rattle.steps.specs.declared.Lack.{Lack}
@@ -27,10 +27,10 @@ why_of NoField = UnknownFieldName
 why_of (NoExtension w) = w
 why_of (OtherMessage c) = WrongExtensionType
 
-abbrev pub step_extension : Compared → Result Declaration Lack
-step_extension (Extends c) = Ok c.found.declaration
-step_extension (ExtendsOther c) = Err (OtherMessage c)
-step_extension (Refused w) = Err (NoExtension w)
+abbrev pub step_extension : Result Compared Refusal → Result Declaration Lack
+step_extension (Ok (Extends c)) = Ok c.found.declaration
+step_extension (Ok (ExtendsOther c)) = Err (OtherMessage c)
+step_extension (Err w) = Err (NoExtension w)
 
 module _ (L : Lookups) (s r scope : List ℕ) where
   -- "a direct part as a field, an extension part by search from the request's scope" [STEP-5, STEP-6]

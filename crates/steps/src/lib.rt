@@ -47,16 +47,13 @@ pub enum Reach {
 
 // What an extension part comes to, by what its search comes to.
 #[tactic(auto, using(crate::proofs::StepLaws::searched_laws))]
-fn step_extension(searched: Compared) -> Result<Declaration, Lack>
+fn step_extension(searched: Result<Compared, Refusal>) -> Result<Declaration, Lack>
     ensures { result ≡ step_extension searched }
 {
     match searched {
-        Compared::Refused(why) => Err(Lack::NoExtension(why)),
-        Compared::ExtendsOther(first) => Err(Lack::OtherMessage(first)),
-        Compared::Extends(first) => {
-            let declaration = first.found.declaration;
-            Ok(declaration)
-        }
+        Err(why) => Err(Lack::NoExtension(why)),
+        Ok(Compared::ExtendsOther(first)) => Err(Lack::OtherMessage(first)),
+        Ok(Compared::Extends(first)) => Ok(first.found.declaration),
     }
 }
 

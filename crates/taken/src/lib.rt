@@ -9,52 +9,49 @@ use payloads::{Payload, value_of};
 use reply::Refusal;
 use types::wire_of;
 
-// Place and size of the payload, the value, and where the next record begins; or why there is no such record.
+// Place and size of the payload, the value, and where the next record begins.
 #[derive(Clone, Copy)]
-pub enum Taken {
-    Record {
-        place: u32,
-        size: u32,
-        value: u64,
-        next: usize,
-    },
-    Wrong(Refusal),
+pub struct Taken {
+    pub place: u32,
+    pub size: u32,
+    pub value: u64,
+    pub next: usize,
 }
 
 // Of a number that nothing declares.
 #[tactic(auto, using(crate::proofs::TakenLaws::unknown_laws))]
-pub fn take_unknown(payload: Option<Payload>) -> Taken
+pub fn take_unknown(payload: Option<Payload>) -> Result<Taken, Refusal>
     requires { PayloadIn most_option_bytes payload }
     ensures { result ≡ unknown_taken payload }
 {
     let Some(payload) = payload else {
-        return Taken::Wrong(Refusal::BadBytes);
+        return Err(Refusal::BadBytes);
     };
     let next = payload.at + payload.size;
-    Taken::Record {
+    Ok(Taken {
         place: payload.at as u32,
         size: payload.size as u32,
         value: 0,
         next: next,
-    }
+    })
 }
 
 // Of a number that is declared by this type.
 #[tactic(auto, using(crate::proofs::TakenLaws::known_laws))]
-pub fn take_known(typ: usize, wire: u8, payload: Option<Payload>) -> Taken
+pub fn take_known(typ: usize, wire: u8, payload: Option<Payload>) -> Result<Taken, Refusal>
     requires { PayloadIn most_option_bytes payload }
     ensures { result ≡ known_taken typ wire payload }
 {
     if wire_of(typ) != wire {
-        return Taken::Wrong(Refusal::WireMismatch);
+        return Err(Refusal::WireMismatch);
     }
     let Some(payload) = payload else {
-        return Taken::Wrong(Refusal::BadBytes);
+        return Err(Refusal::BadBytes);
     };
-    Taken::Record {
+    Ok(Taken {
         place: payload.at as u32,
         size: payload.size as u32,
         value: value_of(typ, payload.number),
         next: payload.at + payload.size,
-    }
+    })
 }

@@ -159,7 +159,7 @@ fn put_pairs(
     Ok(p)
 }
 
-// The field that a pair names, where it has a constant.
+// The shape of the field that a pair names; none where its name is of another kind, or it has no constant.
 #[tactic(auto, using(crate::proofs::PairLaws::target_laws))]
 fn target_of(
     sheet: &[u8],

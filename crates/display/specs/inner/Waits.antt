@@ -4,17 +4,13 @@
 --        rest_of bs e ==  how many bytes are left after it, and one; 0 where e is no record
 --
 -- Assumes nothing.
-use Rattle.std.specs.Prelude.{◌≡◌, List, ℕ, suc, ◌-◌, length}
-use Rattle.entries.specs.declared.Row.{Row}
-use Rattle.levels.specs.declared.Cursor.{Cursor}
+use Rattle.std.specs.Prelude.{◌≡◌, List, ℕ, suc, ◌-◌, length, Option, None, Some}
 use Rattle.levels.specs.declared.Event.{Event}
-use Rattle.levels.specs.declared.Event.TheVariants.{Record, End, Wrong}
 use Rattle.levels.specs.inner.Left.{Open}
 
-pub record Waits (s bs stack : List ℕ) (e : Event) : Type 0 where
-  pub opens : (x : Row) (c : Cursor) → e ≡ Record x c → Open s bs stack c
+pub record Waits (s bs stack : List ℕ) (e : Option Event) : Type 0 where
+  pub opens : (x : Event) → e ≡ Some x → Open s bs stack x.rest
 
-abbrev pub rest_of : (bs : List ℕ) → Event → ℕ
-rest_of bs (Record x c) = suc (length bs - c.at)
-rest_of bs End = 0
-rest_of bs (Wrong w) = 0
+abbrev pub rest_of : (bs : List ℕ) → Option Event → ℕ
+rest_of bs (Some x) = suc (length bs - x.rest.at)
+rest_of bs None = 0

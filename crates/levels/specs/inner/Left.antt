@@ -8,12 +8,13 @@
 --            Open st c <-> so it is at the cursor c, and there are not too many of them
 --     Settles st at d r <-> of d levels r are open after those that end at the place are closed
 --          Starts p bs st c <-> the cursor c is at the start of bs, the outermost level is the message at the place p
+--              event x c ==  the record x, with the cursor c to go on at
 --   StepsIn st d e p q st' r <-> the record e, a message of the path p and place q, was stepped into from d levels, or lies too deep
 --      Moves o at st r <-> of the rows o that were left at a place the answer r is the first, and the others are left now; or there is none, or
 --                          a fault
 --
 -- Assumes nothing.
-use Rattle.std.specs.Prelude.{◌≡◌, List, [], ◌∷◌, ℕ, zero, suc, ◌+◌, ◌-◌, ◌*◌, ◌≤◌, ◌<◌, length}
+use Rattle.std.specs.Prelude.{◌≡◌, List, [], ◌∷◌, ℕ, zero, suc, ◌+◌, ◌-◌, ◌*◌, ◌≤◌, ◌<◌, length, Option, None, Some, Result, Err, Ok}
 use Rattle.basis.specs.Kit.{sets}
 use Rattle.limits.specs.Figures.{most_option_bytes, most_levels}
 use Rattle.octets.specs.Octets.{part}
@@ -31,7 +32,6 @@ use Rattle.entries.specs.Tree.{row, rows}
 use Rattle.entries.specs.Reading.{Listed, listed, refused, records_from, reading}
 use Rattle.levels.specs.declared.Cursor.{Cursor}
 use Rattle.levels.specs.declared.Event.{Event}
-use Rattle.levels.specs.declared.Event.TheVariants.{Record, End, Wrong}
 use Rattle.levels.specs.inner.Stack.{level_words, stack_words, words_of, level_at, message_in}
 
 abbrev pub flat : (level : ℕ) → Listed → Outcome Row
@@ -74,14 +74,18 @@ pub data Settles (stack : List ℕ) (at : ℕ) : (depth still : ℕ) → Type 0 
   stays_open : {l : ℕ} → at < (level_at stack l).end → Settles stack at (suc l) (suc l)
   closes : {l r : ℕ} → (level_at stack l).end ≤ at → Settles stack at l r → Settles stack at (suc l) r
 
-pub data StepsIn (stack : List ℕ) (depth : ℕ) (e : Entry) (p : Span) (q : LookupScope) : (after : List ℕ) → Event → Type 0 where
-  too-deep : most_levels ≤ depth → StepsIn stack depth e p q stack (Wrong BeyondLimit)
+abbrev pub event : Row → Cursor → Event
+event x c = record { row = x; rest = c }
+
+pub data StepsIn (stack : List ℕ) (depth : ℕ) (e : Entry) (p : Span) (q : LookupScope) : (after : List ℕ) → Result Event Refusal → Type 0 where
+  too-deep : most_levels ≤ depth → StepsIn stack depth e p q stack (Err BeyondLimit)
   steps-in : {after : List ℕ} → depth < most_levels
       → after ≡ sets stack (depth * level_words) (words_of (record { end = e.place + e.size; name = p; place = q }))
-      → StepsIn stack depth e p q after (Record (row (depth - 1) e) (record { at = e.place; depth = depth + 1 }))
+      → StepsIn stack depth e p q after (Ok (event (row (depth - 1) e) (record { at = e.place; depth = depth + 1 })))
 
-pub data Moves (s type bs : List ℕ) (before : Outcome Row) (at : ℕ) (stack : List ℕ) : Event → Type 0 where
-  moves : {x : Row} {c : Cursor} → Open s bs stack c → before ≡ push (x ∷ []) (left (walking s) s type bs stack c.depth c.at)
-      → at < c.at → Moves s type bs before at stack (Record x c)
-  ends : before ≡ give [] → Moves s type bs before at stack End
-  wrongs : {w : Refusal} → before ≡ refuse w → Moves s type bs before at stack (Wrong w)
+pub data Moves (s type bs : List ℕ) (before : Outcome Row) (at : ℕ) (stack : List ℕ) : Result (Option Event) Refusal → Type 0 where
+  moves : {e : Event} → Open s bs stack e.rest
+      → before ≡ push (e.row ∷ []) (left (walking s) s type bs stack e.rest.depth e.rest.at)
+      → at < e.rest.at → Moves s type bs before at stack (Ok (Some e))
+  ends : before ≡ give [] → Moves s type bs before at stack (Ok None)
+  wrongs : {w : Refusal} → before ≡ refuse w → Moves s type bs before at stack (Err w)

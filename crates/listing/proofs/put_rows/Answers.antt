@@ -3,14 +3,14 @@
 use Rattle.listing.proofs.RowLaws.{rowing_laws}
 use Rattle.listing.proofs.put_rows.Goals as goal
 
-pub loop-why-init : goal.loop-why-init
-loop-why-init c = search rowing_laws
+pub loop-event-init : goal.loop-event-init
+loop-event-init c = search rowing_laws
 
-pub returns-in-End-clause-puts : goal.returns-in-End-clause-puts
-returns-in-End-clause-puts c = search rowing_laws
+pub returns-in-Ok-None-clause-puts : goal.returns-in-Ok-None-clause-puts
+returns-in-Ok-None-clause-puts c = search (rowing_laws, rw c.in-Ok-None.field-0-is at c.in-Ok-None.is)
 
-pub returns-in-End-clause-few : goal.returns-in-End-clause-few
-returns-in-End-clause-few c = search rowing_laws
+pub returns-in-Ok-None-clause-few : goal.returns-in-Ok-None-clause-few
+returns-in-Ok-None-clause-few c = search rowing_laws
 
-pub returns-in-Wrong-clause-puts : goal.returns-in-Wrong-clause-puts
-returns-in-Wrong-clause-puts c = search rowing_laws
+pub returns-in-Err-clause-puts : goal.returns-in-Err-clause-puts
+returns-in-Err-clause-puts c = search rowing_laws

@@ -6,9 +6,9 @@ use Rattle.levels.specs.inner.Left.{left}
 use Rattle.listing.proofs.RowLaws.{Rowing}
 use Rattle.listing.proofs.put_rows.Given as goal
 
-abbrev pub invariant-loop-why : goal.invariant-loop-why
-invariant-loop-why l =
+abbrev pub invariant-loop-event : goal.invariant-loop-event
+invariant-loop-event l =
     Rowing l.sheet l.options_type l.bytes (left (walking l.sheet) l.sheet l.options_type l.bytes l.initial.stack l.initial.cursor.depth l.initial.cursor.at) l.stack l.cursor l.initial.out l.out l.n
 
-abbrev pub decreases-loop-why : goal.decreases-loop-why
-decreases-loop-why l = length l.bytes - l.cursor.at
+abbrev pub decreases-loop-event : goal.decreases-loop-event
+decreases-loop-event l = length l.bytes - l.cursor.at

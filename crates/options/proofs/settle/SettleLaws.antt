@@ -35,55 +35,53 @@ use Rattle.reply.specs.declared.Where.TheVariants as wheres
 use Rattle.reply.specs.declared.Cause.{Cause}
 use Rattle.options.specs.declared.settle.Start.{Start}
 use Rattle.options.specs.declared.settle.Settling.{Settling}
-use Rattle.options.specs.declared.settle.Settling.TheVariants.{Gives, Fails}
 use Rattle.options.specs.Settle.{settled_built, settled, builtin_part, settle}
 use Rattle.faults.specs.Faults.{fault_at, cause_at}
-use Rattle.options.specs.inner.Settling.{message_of, settled_at, parted, others_of, note_in, set_recs, settling_of, Started, Settleable}
+use Rattle.options.specs.inner.Settling.{message_of, settled_at, parted, others_of, note_in, set_recs, settling, settling_of, Started, Settleable}
 
 -- ---- settled_built
 module _ (b : Built) (i at : ℕ) where
-  pub built-skipped : b ≡ Skipped → Gives 0 at ≡ settling_of i (note_in (settled_built [] b)) at (others_of (settled_built [] b))
+  pub built-skipped : b ≡ Skipped → Ok (settling 0 at) ≡ settling_of i (note_in (settled_built [] b)) at (others_of (settled_built [] b))
   unfolding settling_of encode
   built-skipped g = rw (g, add-zero at) refl
 
   pub built-sets : (h : Shape) (y : Body) → b ≡ Sets h y
-      → Gives (h.number + 1) at ≡ settling_of i (note_in (settled_built [] b)) at (others_of (settled_built [] b))
+      → Ok (settling (h.number + 1) at) ≡ settling_of i (note_in (settled_built [] b)) at (others_of (settled_built [] b))
   unfolding settling_of encode
   built-sets h y g = rw (g, add-zero at) refl
 
   pub built-wrong : (w : Refusal) → b ≡ Wrong w → (y : Cause) → y ≡ cause_at i (fault_at 0 w)
-      → Fails y ≡ settling_of i (note_in (settled_built [] b)) at (others_of (settled_built [] b))
+      → Err y ≡ settling_of i (note_in (settled_built [] b)) at (others_of (settled_built [] b))
   unfolding settling_of
   built-wrong w g y e = rw (g, e) refl
 
 pub ruleset settled_built_laws = (built-skipped, built-sets, built-wrong)
 
 -- ---- settle_named
-fault-inv : (i : ℕ) (f g : Fault) → Fails (cause_at i f) ≡ Fails (cause_at i g) → f ≡ g
-fault-inv i f g e =
-    let s : cause_at i f ≡ cause_at i g = cc in
+fault-inv : (i : ℕ) (f g : Fault) → cause_at i f ≡ cause_at i g → f ≡ g
+fault-inv i f g s =
     let p : wheres.Option i f.part ≡ wheres.Option i g.part = ap (λ (x : Cause). x.place) s in
     let n : f.part ≡ g.part = cc in
     let w : f.why ≡ g.why = ap (λ (x : Cause). x.why) s in
     ap (λ (x : ℕ). record { part = x; why = f.why }) n ∙ ap (λ (x : Refusal). record { part = g.part; why = x }) w
 
-pub settling-tells : (i n : ℕ) → Tells (settling_of i n) (Gives n) (λ f. Fails (cause_at i f))
+pub settling-tells : (i n : ℕ) → Tells (settling_of i n) (λ p. Ok (settling n p)) (λ f. Err (cause_at i f))
 unfolding settling_of
 settling-tells i n = record {
   makes = λ at x. refl;
   stops = λ at w. refl;
-  next-inv = λ m k e. cc;
-  stop-inv = λ v w e. fault-inv i v w e;
+  next-inv = λ m k e. let s : settling n m ≡ settling n k = cc in ap (λ (p : Settling). p.next) s;
+  stop-inv = λ v w e. let s : cause_at i v ≡ cause_at i w = cc in fault-inv i v w s;
   apart = λ k w e. never cc;
 }
 
 module _ (m : Made Fault) (k : ℕ) (l : List ℕ) (at : ℕ) (l' : List ℕ) (y : Result ℕ Fault) (u : Emits stepped_of m k l at l' y) (i : ℕ) where
-  pub named-next : (n : ℕ) → y ≡ Ok n → Emits (settling_of i 0) m k l at l' (Gives 0 n)
+  pub named-next : (n : ℕ) → y ≡ Ok n → Emits (settling_of i 0) m k l at l' (Ok (settling 0 n))
   named-next n g =
       let x = emits-next stepped-tells m n u g in
       emits-laid (settling-tells i 0) x.recs n x.laid x.is x.few refl
 
-  pub named-refused : (f : Fault) → y ≡ Err f → (z : Cause) → z ≡ cause_at i f → Emits (settling_of i 0) m k l at l' (Fails z)
+  pub named-refused : (f : Fault) → y ≡ Err f → (z : Cause) → z ≡ cause_at i f → Emits (settling_of i 0) m k l at l' (Err z)
   named-refused f g z e = rw e (refuses (settling-tells i 0) f (emits-refused stepped-tells m f u g) refl)
 
 module _ (s r : List ℕ) (h : Start) (option from to at : ℕ) (k : Settleable s r h option from to at) where
@@ -201,7 +199,7 @@ module _ (L : Lookups) (s r : List ℕ) (h : Start) (from to : ℕ) (v : Option 
   unfolding settled_at settle option_of option_made
   named-settled g = rw (of_none (builtin_part (parts_in (walk r from to))) (sym q ∙ g)) refl
 
-  pub settle-named : v ≡ None → (i k : ℕ) (l : List ℕ) (at : ℕ) (l' : List ℕ) (y : Settling)
+  pub settle-named : v ≡ None → (i k : ℕ) (l : List ℕ) (at : ℕ) (l' : List ℕ) (y : Result Settling Cause)
       → Emits (settling_of i 0) (option_made L s r (text r h.scope) 0 (message_of r h) from to) k l at l' y
       → Emits (settling_of i (note_in (settled_at L s r h from to))) (others_of (settled_at L s r h from to)) k l at l' y
   settle-named g i k l at l' y u =
@@ -227,7 +225,7 @@ module _ (L : Lookups) (s r : List ℕ) (h : Start) (from to : ℕ) (v : Option 
         rw (of_some (builtin_part (parts_in (walk r from to))) p (sym q ∙ g))
         (ap (λ (x : ℕ). settled_built r (builtin_of L s r (message_of r h) (text r p.name) (constant_at r x to))) ends ∙ ap (settled_built r) (sym e))
 
-    pub settle-built : (i k : ℕ) (l : List ℕ) (at : ℕ) (y : Settling)
+    pub settle-built : (i k : ℕ) (l : List ℕ) (at : ℕ) (y : Result Settling Cause)
         → y ≡ settling_of i (note_in (settled_built [] b)) at (others_of (settled_built [] b))
         → Emits (settling_of i (note_in (settled_at L s r h from to))) (others_of (settled_at L s r h from to)) k l at l y
     unfolding encode

@@ -9,11 +9,12 @@
 --              held_from v ns i os ==  the record of the first of the options os, the i-th first, whose note is v
 --             held_by L s r h ns v ==  that of all the options
 --                    FineFrom r h <-> the options stand in the request r, and are fine
+--                     tally n e ==  the answer of n options, whose records end at e
 --   Gathers made k g at l l' ns y <-> the options came to g, and y was answered: where they are gathered, the other records are laid over
 --                                    l, from `at` on, the notes ns are those of the known builtins, and all have at most k bytes
 --
 -- Assumes nothing.
-use Rattle.std.specs.Prelude.{◌≡◌, List, [], ◌∷◌, ℕ, ◌+◌, ◌≤◌, eqb, length, get_or}
+use Rattle.std.specs.Prelude.{◌≡◌, List, [], ◌∷◌, ℕ, ◌+◌, ◌≤◌, eqb, length, get_or, Ok, Err, Result}
 use Rattle.std.proofs.Math.ListN.{get_elem?}
 use mathlib.Core.Option as option
 use Rattle.basis.specs.First.{only_if}
@@ -31,8 +32,7 @@ use Rattle.known.specs.Known.{Known, known_recs}
 use Rattle.known.specs.inner.Notes.{Noted}
 use Rattle.options.specs.declared.settle.Start.{Start}
 use Rattle.reply.specs.declared.Cause.{Cause}
-use Rattle.options.specs.declared.settle.Settling.{Settling}
-use Rattle.options.specs.declared.settle.Settling.TheVariants.{Gives, Fails}
+use Rattle.options.specs.declared.Tally.{Tally}
 use Rattle.options.specs.Settle.{settle}
 use Rattle.options.specs.inner.Settling.{message_of, set_recs}
 use Rattle.options.specs.Options.{Gathered, gathered, stopped, gather}
@@ -70,7 +70,10 @@ pub record FineFrom (r : List ℕ) (h : Start) : Type 0 where
   pub inside : h.options ≤ length r
   pub fine : each_from BadRequest (judge_option r) 0 (walk r h.options (length r)) ≡ fine
 
-pub data Gathers (made : ℕ → Recs) (k : ℕ) : Gathered → (at : ℕ) (l l' ns : List ℕ) → Settling → Type 0 where
+abbrev pub tally : (count end : ℕ) → Tally
+tally n e = record { count = n; end = e }
+
+pub data Gathers (made : ℕ → Recs) (k : ℕ) : Gathered → (at : ℕ) (l l' ns : List ℕ) → Result Tally Cause → Type 0 where
   gives : {ks : List Known} {x : Recs} {at n next : ℕ} {l l' ns : List ℕ} → Laid l at (encode x) l' next → Noted made ns n ks
-      → n ≤ most_options → length (encode (append (known_recs ks) x)) ≤ k → Gathers made k (gathered ks x) at l l' ns (Gives n next)
-  stops : {e : Cause} {at : ℕ} {l l' ns : List ℕ} → Gathers made k (stopped e) at l l' ns (Fails e)
+      → n ≤ most_options → length (encode (append (known_recs ks) x)) ≤ k → Gathers made k (gathered ks x) at l l' ns (Ok (tally n next))
+  stops : {e : Cause} {at : ℕ} {l l' ns : List ℕ} → Gathers made k (stopped e) at l l' ns (Err e)

@@ -18,8 +18,7 @@ use Rattle.known.specs.Known.{Known, known_recs}
 use Rattle.known.specs.inner.Notes.{Noted}
 use Rattle.options.specs.declared.settle.Start.{Start}
 use Rattle.reply.specs.declared.Cause.{Cause}
-use Rattle.options.specs.declared.settle.Settling.{Settling}
-use Rattle.options.specs.declared.settle.Settling.TheVariants.{Gives, Fails}
+use Rattle.options.specs.declared.Tally.{Tally}
 use Rattle.options.specs.inner.Settling.{Started}
 use Rattle.options.specs.Options.{Gathered, gathered, stopped}
 use Rattle.options.specs.inner.Gathering.{gathered_by, made_at, FineFrom}
@@ -53,10 +52,10 @@ pub record Counted (s r ns : List ℕ) (h : Start) (n : ℕ) : Type 0 where
   pub few : length (encode (append (known_recs knowns) rest)) ≤ bytes_most (length r)
 
 -- what the loop over the options answered of them
-pub record Tallies (s r ns : List ℕ) (h : Start) (y : Settling) : Type 0 where
-  pub stops : (e : Cause) → y ≡ Fails e → gathered_by (walking s) s r h ≡ stopped e
-  pub counts : (n o : ℕ) → y ≡ Gives n o → Counted s r ns h n
-  pub others : (n o : ℕ) → y ≡ Gives n o → o ≡ length (encode (rest_of (gathered_by (walking s) s r h)))
+pub record Tallies (s r ns : List ℕ) (h : Start) (y : Result Tally Cause) : Type 0 where
+  pub stops : (e : Cause) → y ≡ Err e → gathered_by (walking s) s r h ≡ stopped e
+  pub counts : (t : Tally) → y ≡ Ok t → Counted s r ns h t.count
+  pub others : (t : Tally) → y ≡ Ok t → t.end ≡ length (encode (rest_of (gathered_by (walking s) s r h)))
 
 pub record Ready (s r ns : List ℕ) (m : Measured) : Type 0 where
   pub counted : Counted s r ns m.start m.count

@@ -6,13 +6,14 @@
 --                  others_of v ==  what an option writes among the other records: a builtin nothing
 --                    note_in v ==  the note of the builtin that it sets, its number and 1; 0 where it sets none
 --                   set_recs v ==  the record of the builtin that it sets
+--                 settling n p ==  the answer of the note n and the place p
 --         settling_of i n at m ==  what is answered of the i-th option: its note n and the place after its records, or its fault
 --               Started s r h <-> what the options were started by lies in the sheet s and the request r, the scope is a path or empty, and
 --                                 the request is no longer than 01 allows
 --   Settleable s r h i a e at <-> the i-th option, whose payload is from a to e, can be settled, and its records written from `at` on
 --
 -- Assumes nothing.
-use Rattle.std.specs.Prelude.{◌≡◌, true, List, ℕ, ◌+◌, ◌-◌, ◌≤◌, length, Option, Some, None}
+use Rattle.std.specs.Prelude.{◌≡◌, true, List, ℕ, ◌+◌, ◌-◌, ◌≤◌, length, Option, Some, None, Ok, Err, Result}
 use Rattle.basis.specs.First.{told}
 use Rattle.limits.specs.Figures.{most_options, most_request}
 use Rattle.path.specs.Path.{is_rel_or_empty}
@@ -29,7 +30,7 @@ use Rattle.known.specs.inner.Notes.{note_of}
 use Rattle.faults.specs.declared.Fault.{Fault}
 use Rattle.options.specs.declared.settle.Start.{Start}
 use Rattle.options.specs.declared.settle.Settling.{Settling}
-use Rattle.options.specs.declared.settle.Settling.TheVariants.{Gives, Fails}
+use Rattle.reply.specs.declared.Cause.{Cause}
 use Rattle.options.specs.Settle.{Settled, known, others, fails, settle}
 use Rattle.faults.specs.Faults.{cause_at}
 
@@ -57,9 +58,12 @@ set_recs (known k) = k.made
 set_recs (others x) = nil
 set_recs (fails f) = nil
 
-unfoldable pub settling_of : (option note at : ℕ) → Made Fault → Settling
-settling_of i n at (made x) = Gives n (at + length (encode x))
-settling_of i n at (wrong f) = Fails (cause_at i f)
+abbrev pub settling : (note next : ℕ) → Settling
+settling n p = record { note = n; next = p }
+
+unfoldable pub settling_of : (option note at : ℕ) → Made Fault → Result Settling Cause
+settling_of i n at (made x) = Ok (settling n (at + length (encode x)))
+settling_of i n at (wrong f) = Err (cause_at i f)
 
 pub record Started (s r : List ℕ) (h : Start) : Type 0 where
   pub place : InSheet s h.place

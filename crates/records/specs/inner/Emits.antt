@@ -1,4 +1,4 @@
--- What a writer of records answers and leaves. Two writers answer enums of their own, so what they answer is a parameter.
+-- What a writer of records answers and leaves. Writers answer different Results, so what they answer is a parameter.
 --
 --                      InBody b r <-> the span that the body b holds, where it holds one, is one of r
 --                     bytes_most n ==  how many bytes n bytes of a request come to at the most

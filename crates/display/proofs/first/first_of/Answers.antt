@@ -3,5 +3,5 @@
 use Rattle.display.proofs.WaitsLaws.{first_laws}
 use Rattle.display.proofs.first.first_of.Goals as goal
 
-pub next-requires : goal.next-requires
-next-requires c = search first_laws
+pub read_on-requires : goal.read_on-requires
+read_on-requires c = search first_laws

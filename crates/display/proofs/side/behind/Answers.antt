@@ -3,5 +3,5 @@
 use Rattle.display.proofs.WaitsLaws.{waits_laws}
 use Rattle.display.proofs.side.behind.Goals as goal
 
-pub next-requires : goal.next-requires
-next-requires c = search waits_laws
+pub read_on-requires : goal.read_on-requires
+read_on-requires c = search (waits_laws, c.in_ok-waiting.was)

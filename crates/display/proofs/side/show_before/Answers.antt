@@ -3,5 +3,5 @@
 use Rattle.display.proofs.WaitsLaws.{waits_laws}
 use Rattle.display.proofs.side.show_before.Goals as goal
 
-pub next-event-requires : goal.next-event-requires
-next-event-requires c = search waits_laws
+pub read_on-event-requires : goal.read_on-event-requires
+read_on-event-requires c = search waits_laws

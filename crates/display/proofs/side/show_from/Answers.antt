@@ -3,5 +3,5 @@
 use Rattle.display.proofs.WaitsLaws.{waits_laws}
 use Rattle.display.proofs.side.show_from.Goals as goal
 
-pub next-left-requires : goal.next-left-requires
-next-left-requires c = search waits_laws
+pub read_on-left-requires : goal.read_on-left-requires
+read_on-left-requires c = search waits_laws
