@@ -26,7 +26,6 @@ use Rattle.records.specs.Made.{Made, made, wrong, holding}
 use Rattle.lookups.specs.Lookups.{Lookups, Message}
 use Rattle.values.specs.Values.{on, records}
 use Rattle.builtins.specs.declared.Built.{Built}
-use Rattle.builtins.specs.declared.Built.TheVariants.{Skipped, Sets, Wrong}
 use Rattle.builtins.specs.Builtins.{builtin_of}
 use Rattle.steps.specs.Steps.{why_of, step_of}
 use Rattle.faults.specs.declared.Fault.{Fault}
@@ -147,11 +146,11 @@ module _ (L : Lookups) (s r scope : List ℕ) where
 
   -- ---- what an option comes to
   module _ (m : Message) (o : tree.Option) (f : Fault) where
-    built-fault : (p : Part) → builtin_part o.parts ≡ Some p → (v : Built)
+    built-fault : (p : Part) → builtin_part o.parts ≡ Some p → (v : Result (Option Built) Refusal)
         → builtin_of L s r m (text r p.name) o.constant ≡ v → settled_built r v ≡ fails f → FaultOf L s r scope m o f
-    built-fault p g Skipped h e = never cc
-    built-fault p g (Sets x y) h e = never cc
-    built-fault p g (Wrong w) h e =
+    built-fault p g (Ok None) h e = never cc
+    built-fault p g (Ok (Some x)) h e = never cc
+    built-fault p g (Err w) h e =
         let y : fault_at 0 w ≡ f = cc in
         subst (FaultOf L s r scope m o) y (builtin g h)
 
