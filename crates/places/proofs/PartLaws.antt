@@ -26,7 +26,6 @@ use Rattle.records.specs.Made.{Made, made, wrong, holding}
 use Rattle.lookups.specs.Lookups.{Lookups, Message}
 use Rattle.values.specs.Values.{on, records}
 use Rattle.builtins.specs.declared.Built.{Built}
-use Rattle.builtins.specs.declared.Built.TheVariants.{Skipped, Sets, Wrong}
 use Rattle.builtins.specs.Builtins.{builtin_of}
 use Rattle.steps.specs.Steps.{why_of, step_of}
 use Rattle.faults.specs.declared.Fault.{Fault}
@@ -146,12 +145,17 @@ module _ (L : Lookups) (s r scope : List ℕ) where
         (λ n. option-fault (i + 1) n (q ∷ ps) f) (step_of L s r scope m p) refl e
 
   -- ---- what an option comes to
+<<<<<<< HEAD
   module _ (m : Message) (o : RequestOption) (f : Fault) where
     built-fault : (p : Part) → builtin_part o.parts ≡ Some p → (v : Built)
+=======
+  module _ (m : Message) (o : tree.Option) (f : Fault) where
+    built-fault : (p : Part) → builtin_part o.parts ≡ Some p → (v : Result (Option Built) Refusal)
+>>>>>>> 7aa424471f64e611020e5f47a051bb95bfaff69a
         → builtin_of L s r m (text r p.name) o.constant ≡ v → settled_built r v ≡ fails f → FaultOf L s r scope m o f
-    built-fault p g Skipped h e = never cc
-    built-fault p g (Sets x y) h e = never cc
-    built-fault p g (Wrong w) h e =
+    built-fault p g (Ok None) h e = never cc
+    built-fault p g (Ok (Some x)) h e = never cc
+    built-fault p g (Err w) h e =
         let y : fault_at 0 w ≡ f = cc in
         subst (FaultOf L s r scope m o) y (builtin g h)
 
