@@ -145,13 +145,8 @@ module _ (L : Lookups) (s r scope : List ℕ) where
         (λ n. option-fault (i + 1) n (q ∷ ps) f) (step_of L s r scope m p) refl e
 
   -- ---- what an option comes to
-<<<<<<< HEAD
   module _ (m : Message) (o : RequestOption) (f : Fault) where
-    built-fault : (p : Part) → builtin_part o.parts ≡ Some p → (v : Built)
-=======
-  module _ (m : Message) (o : tree.Option) (f : Fault) where
     built-fault : (p : Part) → builtin_part o.parts ≡ Some p → (v : Result (Option Built) Refusal)
->>>>>>> 7aa424471f64e611020e5f47a051bb95bfaff69a
         → builtin_of L s r m (text r p.name) o.constant ≡ v → settled_built r v ≡ fails f → FaultOf L s r scope m o f
     built-fault p g (Ok None) h e = never cc
     built-fault p g (Ok (Some x)) h e = never cc
