@@ -25,7 +25,6 @@ use Rattle.lookups.specs.Lookups.{Lookups, Message, field_named}
 use Rattle.scalars.specs.Scalars.{unsupported}
 use Rattle.values.specs.Values.{on}
 use Rattle.builtins.specs.declared.Built.{Built}
-use Rattle.builtins.specs.declared.Built.TheVariants.{Skipped, Sets, Wrong}
 use Rattle.builtins.specs.Builtins.{repeated, is_skipped, built_of, builtin_on, builtin_field, builtin_of}
 use Rattle.steps.specs.declared.Lack.TheVariants.{NoField}
 use Rattle.steps.specs.Steps.{why_of, step_extension, step_of}
@@ -43,10 +42,10 @@ use Rattle.alone.proofs.ValueLaws.{scalar-same, records-same}
 use Rattle.scope.specs.declared.lookup.LookupScope.{LookupScope}
 use Rattle.steps.specs.declared.Lack.{Lack}
 
-pub data SameBuilt : Built → Built → Type 0 where
-  both-skipped : SameBuilt Skipped Skipped
-  both-set : {h h' : Shape} {b b' : Body} → SameBuilt (Sets h b) (Sets h' b')
-  both-bad : (why : Refusal) → SameBuilt (Wrong why) (Wrong why)
+pub data SameBuilt : Result (Option Built) Refusal → Result (Option Built) Refusal → Type 0 where
+  both-skipped : SameBuilt (Ok None) (Ok None)
+  both-set : {b b' : Built} → SameBuilt (Ok (Some b)) (Ok (Some b'))
+  both-bad : (why : Refusal) → SameBuilt (Err why) (Err why)
 
 pub data SameWhole {r r' : List ℕ} (w : Twin r r') : Option Part → Option Part → Type 0 where
   no_whole : SameWhole w None None
@@ -134,7 +133,7 @@ module _ {r r' : List ℕ} (w : Twin r r') (L : Lookups) (s : List ℕ) where
     settled_same both-made = refl
     settled_same (both-wrong f) = refl
 
-    settled-built : {b b' : Built} → SameBuilt b b' → fault_of (settled_built r b) ≡ fault_of (settled_built r' b')
+    settled-built : {b b' : Result (Option Built) Refusal} → SameBuilt b b' → fault_of (settled_built r b) ≡ fault_of (settled_built r' b')
     settled-built both-skipped = refl
     settled-built both-set = refl
     settled-built (both-bad why) = refl

@@ -2,7 +2,7 @@
 -- has.
 -- Assumes nothing.
 use Rattle.std.specs.Prelude.{◌≡◌, refl, Bool, true, false, List, ℕ, ◌+◌, ◌-◌, ◌≤◌, eqb, length, drop, Option, None, Some, Err, Ok, Result}
-use Rattle.basis.specs.Kit.{sym, ◌∙◌}
+use Rattle.basis.specs.Kit.{sym, ap, ◌∙◌}
 use Rattle.basis.proofs.Kit.{arith}
 use Rattle.basis.proofs.Never.{never}
 use native.Mathlib.Nat.{add-zero}
@@ -29,28 +29,27 @@ use Rattle.scalars.specs.Scalars.{unsupported, scalar_on}
 use Rattle.scalars.proofs.BodyLaws.{bytes_of, body-inside}
 use Rattle.scalars.proofs.ReadLaws.{read-inside}
 use Rattle.builtins.specs.declared.Built.{Built}
-use Rattle.builtins.specs.declared.Built.TheVariants.{Skipped, Sets, Wrong}
-use Rattle.builtins.specs.Builtins.{repeated, is_skipped, built_of, builtin_on, builtin_field, builtin_of, built_recs}
+use Rattle.builtins.specs.Builtins.{repeated, is_skipped, built, built_of, builtin_on, builtin_field, builtin_of, built_recs}
 use Rattle.builtins.specs.inner.Inside.{InBuilt}
 use Rattle.builtins.proofs.BuiltinLaws.{plain, inside, held_plain, held-other}
 
 -- ---- put_builtin
-module _ (r : List ℕ) (x : Built) where
+module _ (r : List ℕ) (x : Result (Option Built) Refusal) where
   nothing-laid : (l : List ℕ) (at : ℕ) → Laid l at (encode nil) l at
   unfolding encode
   nothing-laid l at = record { next = sym (add-zero at); left = refl }
 
-  pub put-skipped : x ≡ Skipped → (l : List ℕ) (at : ℕ) → Laid l at (encode (built_recs r x)) l at
+  pub put-skipped : x ≡ Ok None → (l : List ℕ) (at : ℕ) → Laid l at (encode (built_recs r x)) l at
   put-skipped g l at = rw g (nothing-laid l at)
 
-  pub put_wrong : (w : Refusal) → x ≡ Wrong w → (l : List ℕ) (at : ℕ) → Laid l at (encode (built_recs r x)) l at
+  pub put_wrong : (w : Refusal) → x ≡ Err w → (l : List ℕ) (at : ℕ) → Laid l at (encode (built_recs r x)) l at
   put_wrong w g l at = rw g (nothing-laid l at)
 
-  module _ (h : Shape) (b : Body) (g : x ≡ Sets h b) where
-    pub put-sets : (l l' : List ℕ) (at n : ℕ) → Laid l at (encode (record_of r h b)) l' n → Laid l at (encode (built_recs r x)) l' n
+  module _ (y : Built) (g : x ≡ Ok (Some y)) where
+    pub put-sets : (l l' : List ℕ) (at n : ℕ) → Laid l at (encode (record_of r y.shape y.body)) l' n → Laid l at (encode (built_recs r x)) l' n
     put-sets l l' at n a = rw g a
 
-    pub put-inside : InBuilt x r → InBody b r
+    pub put-inside : InBuilt x r → InBody y.body r
     unfolding InBuilt
     put-inside i = rw g at i
 
@@ -77,24 +76,26 @@ module _ (L : Lookups) (s r : List ℕ) (h : Shape) (b : Body) where
   on-read t a e (Some c) q g = record { constant = c; held = q; fits = sym (held_fits (inside r) c g) }
 
   module _ (k : Constants) where
-    shape-sets : (x : Shape) (y : Result Body Refusal) → built_of x y ≡ Sets h b → (x ≡ h) × (y ≡ Ok b)
-    shape-sets x (Ok c) g = (cc, cc)
+    shape-sets : (x : Shape) (y : Result Body Refusal) → built_of x y ≡ Ok (Some (built h b)) → (x ≡ h) × (y ≡ Ok b)
+    shape-sets x (Ok c) g =
+        let same : built x c ≡ built h b = cc in
+        (ap (λ (z : Built). z.shape) same, ap (λ (z : Built). Ok z.body) same)
     shape-sets x (Err w) g = never cc
 
-    field-sets : (o : Option Declaration) → builtin_field L s r k o ≡ Sets h b → builtin_on L s r h k ≡ Ok b
+    field-sets : (o : Option Declaration) → builtin_field L s r k o ≡ Ok (Some (built h b)) → builtin_on L s r h k ≡ Ok b
     field-sets None g = never cc
     field-sets (Some d) g = go (eqb d.shape.label repeated) _ g
       where
-        go : (z : Bool) (w : Refusal) → elim z [ true ↦ Wrong w | false ↦ built_of d.shape (builtin_on L s r d.shape k) ] ≡ Sets h b
+        go : (z : Bool) (w : Refusal) → ◌≡◌ {A = Result (Option Built) Refusal} (elim z [ true ↦ Err w | false ↦ built_of d.shape (builtin_on L s r d.shape k) ]) (Ok (Some (built h b)))
             → builtin_on L s r h k ≡ Ok b
         go true w g = never cc
         go false w g = let y = shape-sets d.shape (builtin_on L s r d.shape k) g in rw y.0 at y.1
 
-    of-sets : (m : Message) (n : List ℕ) → builtin_of L s r m n k ≡ Sets h b → builtin_on L s r h k ≡ Ok b
+    of-sets : (m : Message) (n : List ℕ) → builtin_of L s r m n k ≡ Ok (Some (built h b)) → builtin_on L s r h k ≡ Ok b
     unfolding builtin_of
     of-sets m n g = go (is_skipped m.name n) g
       where
-        go : (z : Bool) → elim z [ true ↦ Skipped | false ↦ builtin_field L s r k (field_named s n m.place) ] ≡ Sets h b
+        go : (z : Bool) → ◌≡◌ {A = Result (Option Built) Refusal} (elim z [ true ↦ Ok None | false ↦ builtin_field L s r k (field_named s n m.place) ]) (Ok (Some (built h b)))
             → builtin_on L s r h k ≡ Ok b
         go true g = never cc
         go false g = field-sets (field_named s n m.place) g
@@ -110,27 +111,27 @@ module _ (L : Lookups) (s r : List ℕ) (h : Shape) (t a e : ℕ) where
       rw z (omega (arith, bytes-few h.number h.typ (text r (span a e)), length-take (e - a) (drop a r)))
 
 module _ (L : Lookups) (s r : List ℕ) (m : Message) (n : List ℕ) (t a e : ℕ) where
-  read_of : (h : Shape) (b : Body) → Sets h b ≡ builtin_of L s r m n (constant_in most_constants r unnamed t a e no_constant)
+  read_of : (h : Shape) (b : Body) → Ok (Some (built h b)) ≡ builtin_of L s r m n (constant_in most_constants r unnamed t a e no_constant)
       → Read L s r h t a e b
   read_of h b q =
       let c = constant_in most_constants r unnamed t a e no_constant in
       on-read L s r h b t a e (constant_of r t a e) refl (of-sets L s r h b c m n (sym q))
 
-  pub built-inside : (x : Built) → x ≡ builtin_of L s r m n (constant_in most_constants r unnamed t a e no_constant)
+  pub built-inside : (x : Result (Option Built) Refusal) → x ≡ builtin_of L s r m n (constant_in most_constants r unnamed t a e no_constant)
       → a ≤ e → e ≤ length r → InBuilt x r
   unfolding InBuilt
-  built-inside Skipped q i j = tt
-  built-inside (Wrong w) q i j = tt
-  built-inside (Sets h b) q i j =
-      let k = read_of h b q in
+  built-inside (Ok None) q i j = tt
+  built-inside (Err w) q i j = tt
+  built-inside (Ok (Some y)) q i j =
+      let k = read_of y.shape y.body q in
       let c = k.constant in
-      body-inside L s r UnsupportedExtensionType h c (Ok b) k.fits b refl (read-inside r t a e i j (Some c) k.held c refl)
+      body-inside L s r UnsupportedExtensionType y.shape c (Ok y.body) k.fits y.body refl (read-inside r t a e i j (Some c) k.held c refl)
 
-  pub built-few : (x : Built) → x ≡ builtin_of L s r m n (constant_in most_constants r unnamed t a e no_constant)
+  pub built-few : (x : Result (Option Built) Refusal) → x ≡ builtin_of L s r m n (constant_in most_constants r unnamed t a e no_constant)
       → length (encode (built_recs r x)) ≤ bytes_most (3 + (e - a))
   unfolding encode
-  built-few Skipped q = omega arith
-  built-few (Wrong w) q = omega arith
-  built-few (Sets h b) q = read-few L s r h t a e b (read_of h b q)
+  built-few (Ok None) q = omega arith
+  built-few (Err w) q = omega arith
+  built-few (Ok (Some y)) q = read-few L s r y.shape t a e y.body (read_of y.shape y.body q)
 
 pub ruleset built_laws = (built-inside, built-few)

@@ -1,6 +1,6 @@
 -- Closed cases of builtins, which the checker computes: of each rule one that holds, one at its border, one just past it.
 -- Assumes nothing.
-use Rattle.std.specs.Prelude.{◌≡◌, refl, true, false, List, [], ◌∷◌, ◌++◌, map, ℕ, length, None, Some, Err, Ok, Result}
+use Rattle.std.specs.Prelude.{◌≡◌, refl, true, false, List, [], ◌∷◌, ◌++◌, map, ℕ, length, None, Some, Err, Ok, Result, Option}
 use lib.ListN.{replicate}
 use Rattle.octets.specs.Octets.{same_bytes, big_at}
 use Rattle.octets.specs.Ascii.{ascii}
@@ -23,8 +23,7 @@ use Rattle.lookups.specs.Lookups.{Lookups, walking}
 use Rattle.scalars.specs.Scalars.{is_small, is_signed, is_integer, most_of, pattern_of}
 use Rattle.scalars.specs.Scalars.{unsupported, integer_on, string_on, bool_on, ident_on, scalar_on}
 use Rattle.builtins.specs.declared.Built.{Built}
-use Rattle.builtins.specs.declared.Built.TheVariants.{Skipped, Sets, Wrong}
-use Rattle.builtins.specs.Builtins.{field_options, is_skipped, builtin_on, builtin_field, builtin_of}
+use Rattle.builtins.specs.Builtins.{field_options, is_skipped, builtin_on, builtin_field, builtin_of, built}
 use Rattle.records.specs.declared.Body.{Body}
 use Rattle.reply.specs.declared.Refusal.{Refusal}
 
@@ -86,24 +85,24 @@ unfolding on
 misfits = refl
 
 -- ---- the field: none, of each label, and a repeated one whose constant doesn't fit
-unfoldable at : (label typ : ℕ) → Built
+unfoldable at : (label typ : ℕ) → Result (Option Built) Refusal
 unfolding scalar_on bool_on
 at l t =
     builtin_field one-enum sheet request (single (BoolOf true)) (Some (record { name = span 0 0; extendee = span 0 0; shape = shape l t }))
 
 fields :
     builtin_field one-enum sheet request no_constant None ∷ at 1 TYPE_BOOL ∷ at 2 TYPE_BOOL ∷ at 3 TYPE_BOOL ∷ at 3 TYPE_STRING ∷ []
-    ≡ Wrong BuiltinOptionNotFound ∷ Sets (shape 1 TYPE_BOOL) (Bits 1) ∷ Sets (shape 2 TYPE_BOOL) (Bits 1)
-    ∷ Wrong BuiltinOptionPointsToNonSingularField ∷ Wrong BuiltinOptionPointsToNonSingularField ∷ []
+    ≡ Err BuiltinOptionNotFound ∷ Ok (Some (built (shape 1 TYPE_BOOL) (Bits 1))) ∷ Ok (Some (built (shape 2 TYPE_BOOL) (Bits 1)))
+    ∷ Err BuiltinOptionPointsToNonSingularField ∷ Err BuiltinOptionPointsToNonSingularField ∷ []
 unfolding at
 fields = refl
 
 -- ---- skipped with any constant, where there is no such field
-unfoldable of : (message : List ℕ) → Built
+unfoldable of : (message : List ℕ) → Result (Option Built) Refusal
 unfolding builtin_of is_skipped same_bytes items_in walk_by field_at
 of m = builtin_of one-enum [] request (record { name = m; place = record { file = 0; message = true; body = span 0 0; left = 1 } })
     (ascii "default") no_constant
 
-messages : map of (field_options ∷ ascii "google.protobuf.FileOptions" ∷ []) ≡ Skipped ∷ Wrong BuiltinOptionNotFound ∷ []
+messages : map of (field_options ∷ ascii "google.protobuf.FileOptions" ∷ []) ≡ Ok None ∷ Err BuiltinOptionNotFound ∷ []
 unfolding of
 messages = refl

@@ -24,8 +24,7 @@ use Rattle.lookups.proofs.LookupLaws.{field-path-ordered, field-path-within}
 use Rattle.scalars.specs.Scalars.{unsupported, scalar_on}
 use Rattle.scalars.proofs.ReadLaws.{read-inside}
 use Rattle.builtins.specs.declared.Built.{Built}
-use Rattle.builtins.specs.declared.Built.TheVariants.{Skipped, Sets, Wrong}
-use Rattle.builtins.specs.Builtins.{repeated, is_skipped, built_of, builtin_on, builtin_field, builtin_of}
+use Rattle.builtins.specs.Builtins.{repeated, is_skipped, built_of, builtin_on, builtin_field, builtin_of, built}
 
 -- ---- is_plain
 -- the types that a builtin may have
@@ -97,24 +96,24 @@ pub ruleset on_laws = (on_none, on-plain, on-other, read-inside)
 
 -- ---- builtin_field
 module _ (L : Lookups) (s r : List ℕ) (d : Declaration) (c : Constants) where
-  pub field-repeated : d.shape.label ≡ repeated → Wrong BuiltinOptionPointsToNonSingularField ≡ builtin_field L s r c (Some d)
+  pub field-repeated : d.shape.label ≡ repeated → Err BuiltinOptionPointsToNonSingularField ≡ builtin_field L s r c (Some d)
   field-repeated e = rw (eq-eqb d.shape.label repeated e, builtin_field)
 
   module _ (o : d.shape.label ≡ repeated → ⊥) (x : Result Body Refusal) (q : x ≡ builtin_on L s r d.shape c) where
     field_is : built_of d.shape x ≡ builtin_field L s r c (Some d)
     field_is = rw (ne_eqb d.shape.label repeated o, builtin_field) (ap (built_of d.shape) q)
 
-    pub field_fits : (b : Body) → x ≡ Ok b → Sets d.shape b ≡ builtin_field L s r c (Some d)
+    pub field_fits : (b : Body) → x ≡ Ok b → Ok (Some (built d.shape b)) ≡ builtin_field L s r c (Some d)
     field_fits b g = sym (ap (built_of d.shape) g) ∙ field_is
 
-    pub field-misfit : (w : Refusal) → x ≡ Err w → Wrong w ≡ builtin_field L s r c (Some d)
+    pub field-misfit : (w : Refusal) → x ≡ Err w → Err w ≡ builtin_field L s r c (Some d)
     field-misfit w g = sym (ap (built_of d.shape) g) ∙ field_is
 
 pub ruleset field_laws = (field-repeated, field_fits, field-misfit)
 
 -- ---- builtin_of
 module _ (L : Lookups) (s r m : List ℕ) (p : LookupScope) (n : List ℕ) (c : Constants) (b : Bool) (q : b ≡ is_skipped m n) where
-  pub of-skipped : b ≡ true → Skipped ≡ builtin_of L s r (record { name = m; place = p }) n c
+  pub of-skipped : b ≡ true → Ok None ≡ builtin_of L s r (record { name = m; place = p }) n c
   unfolding builtin_of
   of-skipped g = simp (builtin_of, ← q, g)
 
@@ -123,10 +122,10 @@ module _ (L : Lookups) (s r m : List ℕ) (p : LookupScope) (n : List ℕ) (c : 
     unfolding builtin_of
     of_field = simp (builtin_of, ← q, g)
 
-    pub of_none : x ≡ None → Wrong BuiltinOptionNotFound ≡ builtin_of L s r (record { name = m; place = p }) n c
+    pub of_none : x ≡ None → Err BuiltinOptionNotFound ≡ builtin_of L s r (record { name = m; place = p }) n c
     of_none e = sym (ap (builtin_field L s r c) (declared-none x (field_named s n p) y e)) ∙ of_field
 
-    pub of-found : (d : Declaration) → x ≡ Some d → (z : Built) → z ≡ builtin_field L s r c (Some d)
+    pub of-found : (d : Declaration) → x ≡ Some d → (z : Result (Option Built) Refusal) → z ≡ builtin_field L s r c (Some d)
         → z ≡ builtin_of L s r (record { name = m; place = p }) n c
     of-found d e z o = o ∙ sym (ap (builtin_field L s r c) (declared-some x (field_named s n p) y d e)) ∙ of_field
 

@@ -3,6 +3,7 @@
 --            field_options ==  the full name of the options type on which two names are skipped
 --           is_skipped m n <=> the name n is one of them, and m that type
 --          builtin_on h c ==  the constant c on a builtin of the shape h
+--             built h b ==  the body b on the field of the shape h
 --          built_of h x ==  what comes of it
 --      builtin_of m n c ==  the constant c on the builtin of the name n of the message m
 --       built_recs r b ==  the record of a builtin that is set
@@ -21,7 +22,6 @@ use Rattle.records.specs.Records.{Recs, nil, record_of}
 use Rattle.lookups.specs.Lookups.{Lookups, Message, field_named}
 use Rattle.scalars.specs.Scalars.{scalar_on, unsupported}
 use Rattle.builtins.specs.declared.Built.{Built}
-use Rattle.builtins.specs.declared.Built.TheVariants.{Skipped, Sets, Wrong}
 use Rattle.records.specs.declared.Body.{Body}
 use Rattle.reply.specs.declared.Refusal.{Refusal}
 
@@ -36,9 +36,12 @@ field_options = ascii "google.protobuf.FieldOptions"
 unfoldable pub is_skipped : (message name : List ℕ) → Bool
 is_skipped m n = same_bytes m field_options && (same_bytes n (ascii "default") || same_bytes n (ascii "json_name"))
 
-abbrev pub built_of : Shape → Result Body Refusal → Built
-built_of h (Err w) = Wrong w
-built_of h (Ok b) = Sets h b
+abbrev pub built : Shape → Body → Built
+built h b = record { shape = h; body = b }
+
+abbrev pub built_of : Shape → Result Body Refusal → Result (Option Built) Refusal
+built_of h (Err w) = Err w
+built_of h (Ok b) = Ok (Some (built h b))
 
 module _ (L : Lookups) (s r : List ℕ) where
   -- "be bool, enum or string with a matching constant; a misfit or unlisted enum name is 12, a string not UTF-8 is 15" [BUILTIN-4,
@@ -53,20 +56,20 @@ module _ (L : Lookups) (s r : List ℕ) where
   builtin_on h (message n inside rest) = unsupported
 
   -- "Else the field must exist, not be repeated" [BUILTIN-2, BUILTIN-3]
-  abbrev pub builtin_field : Constants → Option Declaration → Built
-  builtin_field c None = Wrong BuiltinOptionNotFound
+  abbrev pub builtin_field : Constants → Option Declaration → Result (Option Built) Refusal
+  builtin_field c None = Err BuiltinOptionNotFound
   builtin_field c (Some d) = elim (eqb d.shape.label repeated) [
-    | true ↦ Wrong BuiltinOptionPointsToNonSingularField
+    | true ↦ Err BuiltinOptionPointsToNonSingularField
     | false ↦ built_of d.shape (builtin_on d.shape c)
   ]
 
-  unfoldable pub builtin_of : Message → (name : List ℕ) → Constants → Built
+  unfoldable pub builtin_of : Message → (name : List ℕ) → Constants → Result (Option Built) Refusal
   builtin_of m n c = elim (is_skipped m.name n) [
-    | true ↦ Skipped
+    | true ↦ Ok None
     | false ↦ builtin_field c (field_named s n m.place)
   ]
 
-abbrev pub built_recs : (request : List ℕ) → Built → Recs
-built_recs r Skipped = nil
-built_recs r (Sets h b) = record_of r h b
-built_recs r (Wrong w) = nil
+abbrev pub built_recs : (request : List ℕ) → Result (Option Built) Refusal → Recs
+built_recs r (Ok None) = nil
+built_recs r (Ok (Some x)) = record_of r x.shape x.body
+built_recs r (Err w) = nil

@@ -23,12 +23,11 @@ use scope::lookup::LookupScope;
 use sheet::declaration::{Declaration, Shape};
 use types::{TYPE_BOOL, TYPE_ENUM, TYPE_STRING};
 
-// What a builtin comes to: nothing is asked of it, it sets its field, or why not.
+// A builtin that sets its field: the field's shape, and what its constant comes to.
 #[derive(Clone, Copy)]
-pub enum Built {
-    Skipped,
-    Sets(Shape, Body),
-    Wrong(Refusal),
+pub struct Built {
+    pub shape: Shape,
+    pub body: Body,
 }
 
 // descriptor.proto's label LABEL_REPEATED.
@@ -88,7 +87,7 @@ fn builtin_field(
     tag: u8,
     from: usize,
     to: usize,
-) -> Built
+) -> Result<Option<Built>, Refusal>
     requires lies { Lies found.shape.path sheet.now }
     requires from_le_to { (from ≤ to) × (to ≤ length request.now) }
     ensures { result ≡ builtin_field (walking sheet.now) sheet.now request.now
@@ -96,15 +95,13 @@ fn builtin_field(
 {
     let shape = found.shape;
     if shape.label == REPEATED {
-        return Built::Wrong(Refusal::BuiltinOptionPointsToNonSingularField);
+        return Err(Refusal::BuiltinOptionPointsToNonSingularField);
     }
-    match builtin_on(sheet, request, shape, tag, from, to) {
-        Ok(body) => Built::Sets(shape, body),
-        Err(why) => Built::Wrong(why),
-    }
+    let body = builtin_on(sheet, request, shape, tag, from, to)?;
+    Ok(Some(Built { shape, body }))
 }
 
-// What the constant comes to on the builtin of that name: the message is the options type, and stands at the place.
+// What the constant comes to on the builtin of that name, none where the name is skipped: the message is the options type, and stands at the place.
 #[tactic(auto, using(crate::proofs::BuiltinLaws::of_laws))]
 pub fn builtin_of(
     sheet: &[u8],
@@ -115,7 +112,7 @@ pub fn builtin_of(
     tag: u8,
     from: usize,
     to: usize,
-) -> Built
+) -> Result<Option<Built>, Refusal>
     requires in_sheet { InSheet sheet.now place }
     requires lies { Lies name request.now }
     requires from_le_to { (from ≤ to) × (to ≤ length request.now) }
@@ -126,24 +123,29 @@ pub fn builtin_of(
     let a = name.from;
     let e = name.to;
     if is_skipped(message, &request[a..e]) {
-        return Built::Skipped;
+        return Ok(None);
     }
-    let Some(found) = lookups::field_named(sheet, place, &request[a..e]) else {
-        return Built::Wrong(Refusal::BuiltinOptionNotFound);
-    };
+    let found = lookups::field_named(sheet, place, &request[a..e]).ok_or(
+        Refusal::BuiltinOptionNotFound,
+    )?;
     builtin_field(sheet, request, found, tag, from, to)
 }
 
 // The record of a builtin that is set.
 #[tactic(auto, using(crate::proofs::BuiltLaws::put_laws), unfolding(records::specs::Records::encode))]
-pub fn put_builtin(request: &[u8], built: Built, out: &mut [u8], at: usize) -> usize
+pub fn put_builtin(
+    request: &[u8],
+    built: Result<Option<Built>, Refusal>,
+    out: &mut [u8],
+    at: usize,
+) -> usize
     requires in_built { InBuilt built request.now }
     requires request_bound { at + length request.now < 2 ^ 62 }
     ensures { Laid out.old at (encode (built_recs request.now built)) out.new result }
 {
     match built {
-        Built::Skipped => at,
-        Built::Wrong(_) => at,
-        Built::Sets(shape, body) => put_record(request, shape, body, out, at),
+        Ok(None) => at,
+        Ok(Some(built)) => put_record(request, built.shape, built.body, out, at),
+        Err(_) => at,
     }
 }

@@ -33,7 +33,7 @@ use Rattle.lookups.specs.Lookups.{Lookups, Message, walking}
 use Rattle.lookups.proofs.LookupLaws.{message-lies}
 use Rattle.steps.specs.declared.Lack.{Lack}
 use Rattle.steps.specs.declared.Reach.{Reach}
-use Rattle.steps.specs.declared.Reach.TheVariants.{Constant, Inside, Nothing, Fails}
+use Rattle.steps.specs.declared.Reach.TheVariants.{Constant, Inside, Nothing}
 use Rattle.steps.specs.Steps.{why_of, step_of}
 use Rattle.steps.specs.inner.Reached.{message, entered, left_on, followed, behind}
 use Rattle.steps.proofs.StepLaws.{step-path-ordered, step-path-within}
@@ -45,11 +45,11 @@ use Rattle.naming.specs.inner.Naming.{behind_part, step_part, Namable, Declares,
 use Rattle.naming.proofs.KeyLaws.{key-noted, keys-before, keys-fewer, keys-last}
 
 -- ---- what parts left on a declaration lead to
-abbrev of_reach : (s : List ℕ) (part : ℕ) → Reach → (Message → Named) → Named
-of_reach s i (Constant h at) f = group
-of_reach s i Nothing f = group
-of_reach s i (Fails w) f = refused_at i w
-of_reach s i (Inside h p at) f = f (message (text s h.path) p)
+abbrev of_reach : (s : List ℕ) (part : ℕ) → Result Reach Refusal → (Message → Named) → Named
+of_reach s i (Ok (Constant h at)) f = group
+of_reach s i (Ok Nothing) f = group
+of_reach s i (Err w) f = refused_at i w
+of_reach s i (Ok (Inside h p at)) f = f (message (text s h.path) p)
 
 record EnteredOn (s : List ℕ) (h : Shape) (at : ℕ) (h' : Shape) (p : LookupScope) (x : ℕ) : Type 0 where
   pub shape : h' ≡ h
@@ -57,25 +57,25 @@ record EnteredOn (s : List ℕ) (h : Shape) (at : ℕ) (h' : Shape) (p : LookupS
   pub place : InSheet s p
 
 module _ (L : Lookups) (s : List ℕ) (h : Shape) (at : ℕ) where
-  left-no-constant : {C : Type 0} (h' : Shape) (x : ℕ) → left_on L s h at ≡ Constant h' x → C
+  left-no-constant : {C : Type 0} (h' : Shape) (x : ℕ) → left_on L s h at ≡ Ok (Constant h' x) → C
   unfolding left_on
   left-no-constant {C} h' x e = go (eqb h.typ TYPE_MESSAGE) (eqb h.typ TYPE_GROUP) (L.message (text s h.path)) e
     where
       go : (b c : Bool) (u : Result LookupScope Refusal)
-          → elim b [ true ↦ entered h at u | false ↦ elim c [ true ↦ Nothing | false ↦ Fails ExtensionIsNotMessage ] ] ≡ Constant h' x → C
+          → ◌≡◌ {A = Result Reach Refusal} (elim b [ true ↦ entered h at u | false ↦ elim c [ true ↦ Ok Nothing | false ↦ Err ExtensionIsNotMessage ] ]) (Ok (Constant h' x)) → C
       go true c (Err w) e = nothing_left cc
       go true c (Ok p) e = nothing_left cc
       go false true u e = nothing_left cc
       go false false u e = nothing_left cc
 
-entered_on : (s : List ℕ) (h : Shape) (at : ℕ) (h' : Shape) (p : LookupScope) (x : ℕ) → left_on (walking s) s h at ≡ Inside h' p x
+entered_on : (s : List ℕ) (h : Shape) (at : ℕ) (h' : Shape) (p : LookupScope) (x : ℕ) → left_on (walking s) s h at ≡ Ok (Inside h' p x)
     → EnteredOn s h at h' p x
 unfolding left_on
 entered_on s h at h' p x e =
     go (eqb h.typ TYPE_MESSAGE) (eqb h.typ TYPE_GROUP) ((walking s).message (text s h.path)) refl e
   where
     go : (b c : Bool) (u : Result LookupScope Refusal) → u ≡ (walking s).message (text s h.path)
-        → elim b [ true ↦ entered h at u | false ↦ elim c [ true ↦ Nothing | false ↦ Fails ExtensionIsNotMessage ] ] ≡ Inside h' p x
+        → ◌≡◌ {A = Result Reach Refusal} (elim b [ true ↦ entered h at u | false ↦ elim c [ true ↦ Ok Nothing | false ↦ Err ExtensionIsNotMessage ] ]) (Ok (Inside h' p x))
         → EnteredOn s h at h' p x
     go true c (Err w) q e = nothing_left cc
     go true c (Ok y) q e =
@@ -94,7 +94,7 @@ module _ (L : Lookups) (s q : List ℕ) (i : ℕ) (d : Declaration) (at : ℕ) (
             | true ↦ on_message i (text s d.shape.path) u f
             | false ↦ elim c [ true ↦ group | false ↦ refused_at i ExtensionIsNotMessage ]
           ]
-          ≡ of_reach s i (elim b [ true ↦ entered d.shape at u | false ↦ elim c [ true ↦ Nothing | false ↦ Fails ExtensionIsNotMessage ] ]) f
+          ≡ of_reach s i (elim b [ true ↦ entered d.shape at u | false ↦ elim c [ true ↦ Ok Nothing | false ↦ Err ExtensionIsNotMessage ] ]) f
       go true c (Err w) = refl
       go true c (Ok p) = refl
       go false true u = refl
@@ -117,18 +117,18 @@ module _ (L : Lookups) (s q : List ℕ) (i : ℕ) (d : Declaration) (at : ℕ) (
       go false true u = refl
       go false false u = refl
 
-module _ (L : Lookups) (s q : List ℕ) (d : Declaration) (at end : ℕ) (v : Reach) (e : v ≡ behind L s q d.shape at end) where
+module _ (L : Lookups) (s q : List ℕ) (d : Declaration) (at end : ℕ) (v : Result Reach Refusal) (e : v ≡ behind L s q d.shape at end) where
   -- the constant, where no part is left
-  none_left : (h : Shape) (x : ℕ) → v ≡ Constant h x → parts_in (walk q at end) ≡ []
+  none_left : (h : Shape) (x : ℕ) → v ≡ Ok (Constant h x) → parts_in (walk q at end) ≡ []
   unfolding behind
   none_left h x g = go (part_at q at end) refl (sym e ∙ g)
     where
-      go : (r : Option Part) → r ≡ part_at q at end → followed L s d.shape at r ≡ Constant h x → parts_in (walk q at end) ≡ []
+      go : (r : Option Part) → r ≡ part_at q at end → followed L s d.shape at r ≡ Ok (Constant h x) → parts_in (walk q at end) ≡ []
       go None y z = parts-nil q at end None y refl
       go (Some p) y z = left-no-constant L s d.shape at h x z
 
   -- else what is left leads where the steps lead
-  module _ (n : (h : Shape) (x : ℕ) → v ≡ Constant h x → ⊥) where
+  module _ (n : (h : Shape) (x : ℕ) → v ≡ Ok (Constant h x) → ⊥) where
     leads-on : v ≡ left_on L s d.shape at
     unfolding behind
     leads-on = go (part_at q at end) e
@@ -151,7 +151,7 @@ module _ (L : Lookups) (s q : List ℕ) (d : Declaration) (at end : ℕ) (v : Re
             subst (λ (xs : List Part). behind_part L s q i d xs ≡ of_reach s i v (λ m. declarations L s q (i + 1) m xs))
             (sym (parts-cons q at end (Some o) y o refl))
             (left-reach L s q i d at (λ m. declarations L s q (i + 1) m (o ∷ ps))
-            ∙ ap (λ (u : Reach). of_reach s i u (λ m. declarations L s q (i + 1) m (o ∷ ps))) (sym z))
+            ∙ ap (λ (u : Result Reach Refusal). of_reach s i u (λ m. declarations L s q (i + 1) m (o ∷ ps))) (sym z))
 
 -- ---- a declaration for each part
 module _ (L : Lookups) (s q : List ℕ) where
@@ -307,26 +307,26 @@ noted-namable q scope at k ws o ws' i vs y =
     record { within = o.within; parts = o.parts; empty = o.empty; room = rw size o.room; few = rw size o.few }
 
 -- ---- declare_behind
-module _ (s q : List ℕ) (d : Declaration) (at : ℕ) (v : Reach) where
+module _ (s q : List ℕ) (d : Declaration) (at : ℕ) (v : Result Reach Refusal) where
   module _ (L : Lookups) (e : v ≡ behind L s q d.shape at (length q)) (joins : Declaration → Bool) (k : ℕ) (ws : List ℕ) where
-    pub behind-last : (h : Shape) (x : ℕ) → v ≡ Constant h x
+    pub behind-last : (h : Shape) (x : ℕ) → v ≡ Ok (Constant h x)
         → Declares joins (behind_part L s q k d (parts_in (walk q at (length q)))) (k + 1) ws ws (Ok (Parts (k + 1)))
     behind-last h x g =
         subst (λ (xs : List Part). Declares joins (behind_part L s q k d xs) (k + 1) ws ws (Ok (Parts (k + 1))))
         (sym (none_left L s q d at (length q) v e h x g)) (declares {ds = []} (sym (add-zero (k + 1))) refl refl)
 
-    pub behind-group : v ≡ Nothing → Declares joins (behind_part L s q k d (parts_in (walk q at (length q)))) (k + 1) ws ws (Ok Group)
+    pub behind-group : v ≡ Ok Nothing → Declares joins (behind_part L s q k d (parts_in (walk q at (length q)))) (k + 1) ws ws (Ok Group)
     behind-group g =
         let i = behind-reach L s q d at (length q) v e (λ h x y. nothing_left cc) k in
         rw (i, g) leaves-group
 
-    pub behind-fails : (w : Refusal) → v ≡ Fails w
+    pub behind-fails : (w : Refusal) → v ≡ Err w
         → Declares joins (behind_part L s q k d (parts_in (walk q at (length q)))) (k + 1) ws ws (Err (of_part k w))
     behind-fails w g =
         let i = behind-reach L s q d at (length q) v e (λ h x y. nothing_left cc) k in
         rw (i, g) refuses
 
-  module _ (e : v ≡ behind (walking s) s q d.shape at (length q)) (h : Shape) (p : LookupScope) (x : ℕ) (g : v ≡ Inside h p x) where
+  module _ (e : v ≡ behind (walking s) s q d.shape at (length q)) (h : Shape) (p : LookupScope) (x : ℕ) (g : v ≡ Ok (Inside h p x)) where
     inside_on : EnteredOn s d.shape at h p x
     inside_on = entered_on s d.shape at h p x (sym (leads-on (walking s) s q d at (length q) v e (λ i y z. nothing_left cc)) ∙ g)
 

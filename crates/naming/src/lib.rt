@@ -64,17 +64,19 @@ fn declare_behind(
 {
     let next = index + 1;
     match behind(sheet, name, d.shape, from, name.len()) {
-        Reach::Constant { shape: _, from: _ } => Ok(Naming::Parts(next as usize)),
-        Reach::Nothing => Ok(Naming::Group),
-        Reach::Fails(why) => {
+        Ok(Reach::Constant { shape: _, from: _ }) => Ok(Naming::Parts(next as usize)),
+        Ok(Reach::Nothing) => Ok(Naming::Group),
+        Err(why) => {
             let place = Where::Part(index);
             Err(Cause { why, place })
         }
-        Reach::Inside {
-            shape,
-            place,
-            from: rest,
-        } => {
+        Ok(
+            Reach::Inside {
+                shape,
+                place,
+                from: rest,
+            },
+        ) => {
             let a = shape.path.from;
             let e = shape.path.to;
             declare(sheet, name, scope, &sheet[a..e], place, rest, next, keys)

@@ -1,6 +1,6 @@
 -- How many bytes the record of the builtin has that an option sets.
 -- Assumes nothing.
-use Rattle.std.specs.Prelude.{◌≡◌, refl, List, ℕ, ◌-◌, ◌≤◌, length, Option, None, Some}
+use Rattle.std.specs.Prelude.{◌≡◌, refl, List, ℕ, ◌-◌, ◌≤◌, length, Option, None, Some, Ok, Err, Result}
 use Rattle.basis.proofs.Kit.{arith}
 use Rattle.basis.specs.First.{told}
 use Rattle.limits.specs.Figures.{most_constants}
@@ -21,17 +21,17 @@ use Rattle.lookups.specs.Lookups.{Lookups}
 use Rattle.faults.specs.declared.Fault.{Fault}
 use Rattle.options.specs.Named.{option_from}
 use Rattle.builtins.specs.declared.Built.{Built}
-use Rattle.builtins.specs.declared.Built.TheVariants.{Skipped, Sets, Wrong}
 use Rattle.builtins.specs.Builtins.{builtin_of, built_recs}
 use Rattle.builtins.proofs.BuiltLaws.{built-few}
 use Rattle.options.specs.declared.settle.Start.{Start}
 use Rattle.options.specs.Settle.{Settled, settled_built, settled, builtin_part, settle}
 use Rattle.options.specs.inner.Settling.{message_of, settled_at, set_recs}
+use Rattle.reply.specs.declared.Refusal.{Refusal}
 
-set-built : (r : List ℕ) (b : Built) → set_recs (settled_built r b) ≡ built_recs r b
-set-built r Skipped = refl
-set-built r (Sets h b) = refl
-set-built r (Wrong w) = refl
+set-built : (r : List ℕ) (b : Result (Option Built) Refusal) → set_recs (settled_built r b) ≡ built_recs r b
+set-built r (Ok None) = refl
+set-built r (Ok (Some x)) = refl
+set-built r (Err w) = refl
 
 -- the steps set no builtin
 set-stepped : (m : Made Fault) (k : ℕ) → length (encode (set_recs (settled m))) ≤ k

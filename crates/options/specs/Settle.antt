@@ -5,7 +5,7 @@
 --               settle o == what the option o comes to
 --
 -- Assumes nothing.
-use Rattle.std.specs.Prelude.{List, [], ◌∷◌, ℕ, Option, None, Some}
+use Rattle.std.specs.Prelude.{List, [], ◌∷◌, ℕ, Option, None, Some, Ok, Err, Result}
 use Rattle.basis.specs.First.{only_if, told}
 use Rattle.field.specs.Leaf.{text}
 use Rattle.request.specs.declared.name.Part.{Part}
@@ -18,8 +18,8 @@ use Rattle.faults.specs.declared.Fault.{Fault}
 use Rattle.options.specs.Named.{option_from}
 use Rattle.faults.specs.Faults.{fault_at}
 use Rattle.builtins.specs.declared.Built.{Built}
-use Rattle.builtins.specs.declared.Built.TheVariants.{Skipped, Sets, Wrong}
 use Rattle.builtins.specs.Builtins.{builtin_of}
+use Rattle.reply.specs.declared.Refusal.{Refusal}
 
 -- ---- one option
 pub data Settled : Type 0 where
@@ -27,10 +27,10 @@ pub data Settled : Type 0 where
   others : Recs → Settled
   fails : Fault → Settled
 
-abbrev pub settled_built : (request : List ℕ) → Built → Settled
-settled_built r Skipped = others nil
-settled_built r (Sets h b) = known (record { field = h.number; made = record_of r h b })
-settled_built r (Wrong w) = fails (fault_at 0 w)
+abbrev pub settled_built : (request : List ℕ) → Result (Option Built) Refusal → Settled
+settled_built r (Ok None) = others nil
+settled_built r (Ok (Some x)) = known (record { field = x.shape.number; made = record_of r x.shape x.body })
+settled_built r (Err w) = fails (fault_at 0 w)
 
 abbrev pub settled : Made Fault → Settled
 settled (made x) = others x

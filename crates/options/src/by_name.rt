@@ -102,16 +102,18 @@ pub fn put_option(
         part (message_of message.now place) from to) (bytes_most (to - from)) out.old at out.new result }
 {
     match reach_of(sheet, request, scope, message, place, from, to) {
-        Reach::Fails(why) => Err(Fault { part, why }),
-        Reach::Nothing => Ok(at),
-        Reach::Constant { shape, from: rest } => {
+        Err(why) => Err(Fault { part, why }),
+        Ok(Reach::Nothing) => Ok(at),
+        Ok(Reach::Constant { shape, from: rest }) => {
             put_constant(sheet, request, shape, rest, to, part, out, at)
         }
-        Reach::Inside {
-            shape,
-            place: inner,
-            from: rest,
-        } => {
+        Ok(
+            Reach::Inside {
+                shape,
+                place: inner,
+                from: rest,
+            },
+        ) => {
             let a = shape.path.from;
             let e = shape.path.to;
             put_inside(

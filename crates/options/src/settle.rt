@@ -19,7 +19,7 @@ use crate::by_name::put_option;
 use builtins::{Built, builtin_of, put_builtin};
 use faults::{Fault, cause_at};
 use field::{Field, Span, field_at};
-use reply::Cause;
+use reply::{Cause, Refusal};
 use request::name::{Part, part_at};
 use scope::lookup::LookupScope;
 
@@ -58,7 +58,13 @@ fn builtin_part(request: &[u8], from: usize, to: usize) -> Option<Part>
 
 // What the constant behind a part comes to on the builtin of its name.
 #[tactic(auto, using(crate::proofs::settle::BuiltinPartLaws::built_at_laws))]
-fn built_at(sheet: &[u8], request: &[u8], start: Start, part: Part, to: usize) -> Built
+fn built_at(
+    sheet: &[u8],
+    request: &[u8],
+    start: Start,
+    part: Part,
+    to: usize,
+) -> Result<Option<Built>, Refusal>
     requires started { Started sheet.now request.now start }
     requires lies { Lies part.name request.now }
     requires to_le_to { (part.name.to ≤ to) × (to ≤ length request.now) }
@@ -69,7 +75,7 @@ fn built_at(sheet: &[u8], request: &[u8], start: Start, part: Part, to: usize) -
     ensures inside { InBuilt result request.now }
 {
     let Some(field) = field_at(request, part.name.to, to) else {
-        return Built::Skipped;
+        return Ok(None);
     };
     let name = start.options_type.from;
     let end = start.options_type.to;
@@ -87,17 +93,21 @@ fn built_at(sheet: &[u8], request: &[u8], start: Start, part: Part, to: usize) -
 
 // What is answered of a builtin: nothing is written yet.
 #[tactic(auto, using(crate::proofs::settle::SettleLaws::settled_built_laws))]
-fn settled_built(built: Built, option: usize, at: usize) -> Result<Settling, Cause>
+fn settled_built(
+    built: Result<Option<Built>, Refusal>,
+    option: usize,
+    at: usize,
+) -> Result<Settling, Cause>
     requires { option ≤ most_options }
     ensures { result ≡ settling_of option (note_in (settled_built [] built)) at (others_of (settled_built [] built)) }
 {
     match built {
-        Built::Skipped => Ok(Settling { note: 0, next: at }),
-        Built::Sets(shape, _) => Ok(Settling {
-            note: shape.number as usize + 1,
+        Ok(None) => Ok(Settling { note: 0, next: at }),
+        Ok(Some(built)) => Ok(Settling {
+            note: built.shape.number as usize + 1,
             next: at,
         }),
-        Built::Wrong(why) => Err(cause_at(option, Fault { part: 0, why })),
+        Err(why) => Err(cause_at(option, Fault { part: 0, why })),
     }
 }
 

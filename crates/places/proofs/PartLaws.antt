@@ -20,13 +20,12 @@ use Rattle.sheet.specs.declared.declaration.Shape.{Shape}
 use Rattle.sheet.specs.declared.declaration.Declaration.{Declaration}
 use Rattle.request.specs.declared.name.Part.{Part}
 use Rattle.request.specs.Tree.{Constants}
-use Rattle.request.specs.Request as tree
+use Rattle.request.specs.Request.{RequestOption}
 use Rattle.records.specs.Records.{nil}
 use Rattle.records.specs.Made.{Made, made, wrong, holding}
 use Rattle.lookups.specs.Lookups.{Lookups, Message}
 use Rattle.values.specs.Values.{on, records}
 use Rattle.builtins.specs.declared.Built.{Built}
-use Rattle.builtins.specs.declared.Built.TheVariants.{Skipped, Sets, Wrong}
 use Rattle.builtins.specs.Builtins.{builtin_of}
 use Rattle.steps.specs.Steps.{why_of, step_of}
 use Rattle.faults.specs.declared.Fault.{Fault}
@@ -146,12 +145,12 @@ module _ (L : Lookups) (s r scope : List ℕ) where
         (λ n. option-fault (i + 1) n (q ∷ ps) f) (step_of L s r scope m p) refl e
 
   -- ---- what an option comes to
-  module _ (m : Message) (o : tree.Option) (f : Fault) where
-    built-fault : (p : Part) → builtin_part o.parts ≡ Some p → (v : Built)
+  module _ (m : Message) (o : RequestOption) (f : Fault) where
+    built-fault : (p : Part) → builtin_part o.parts ≡ Some p → (v : Result (Option Built) Refusal)
         → builtin_of L s r m (text r p.name) o.constant ≡ v → settled_built r v ≡ fails f → FaultOf L s r scope m o f
-    built-fault p g Skipped h e = never cc
-    built-fault p g (Sets x y) h e = never cc
-    built-fault p g (Wrong w) h e =
+    built-fault p g (Ok None) h e = never cc
+    built-fault p g (Ok (Some x)) h e = never cc
+    built-fault p g (Err w) h e =
         let y : fault_at 0 w ≡ f = cc in
         subst (FaultOf L s r scope m o) y (builtin g h)
 
@@ -178,6 +177,6 @@ module _ (L : Lookups) (s r scope : List ℕ) where
   whole_parts [] p g = never cc
   whole_parts (q ∷ qs) p g = omega arith
 
-  pub fault-below : (m : Message) (o : tree.Option) {f : Fault} → FaultOf L s r scope m o f → f.part < length o.parts
+  pub fault-below : (m : Message) (o : RequestOption) {f : Fault} → FaultOf L s r scope m o f → f.part < length o.parts
   fault-below m o (builtin {p} g h) = whole_parts o.parts p g
   fault-below m o (named g k) = at-below k

@@ -10,7 +10,7 @@
 -- `Ends h w` says that w is the refusal of what stands behind the last part, on a field of the shape h: of a query's name there is none.
 --
 -- Assumes nothing.
-use Rattle.std.specs.Prelude.{◌≡◌, List, [], ◌∷◌, ◌++◌, ℕ, length, None, Some, Err, Ok}
+use Rattle.std.specs.Prelude.{◌≡◌, List, [], ◌∷◌, ◌++◌, ℕ, length, None, Some, Err, Ok, Option, Result}
 use Rattle.reply.specs.declared.Refusal.{Refusal}
 use Rattle.reply.specs.declared.Refusal.TheVariants.{ExtensionIsNotMessage}
 use Rattle.field.specs.Leaf.{text}
@@ -23,7 +23,6 @@ use Rattle.request.specs.Request.{RequestOption}
 use Rattle.records.specs.Made.{wrong}
 use Rattle.lookups.specs.Lookups.{Lookups, Message}
 use Rattle.values.specs.Values.{on, records}
-use Rattle.builtins.specs.declared.Built.TheVariants.{Wrong}
 use Rattle.builtins.specs.Builtins.{builtin_of}
 use Rattle.steps.specs.declared.Lack.{Lack}
 use Rattle.steps.specs.Steps.{why_of, step_of}
@@ -70,6 +69,6 @@ module _ (L : Lookups) (s r scope : List ℕ) where
   -- "Inside a message constant the part is the last one of the option's name."; "A single direct part is a builtin." [WHERE-4, WHERE-5, STEP-4]
   pub data FaultOf (m : Message) (o : RequestOption) : Fault → Type 0 where
     builtin : {p : Part} {w : Refusal} → builtin_part o.parts ≡ Some p
-        → builtin_of L s r m (text r p.name) o.constant ≡ Wrong w → FaultOf m o (fault_at 0 w)
+        → builtin_of L s r m (text r p.name) o.constant ≡ Err w → FaultOf m o (fault_at 0 w)
     named : {j : ℕ} {w : Refusal} → builtin_part o.parts ≡ None → AtPart (OnLast o.constant) m o.parts j w
         → FaultOf m o (fault_at j w)

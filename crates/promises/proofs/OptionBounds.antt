@@ -40,7 +40,6 @@ use Rattle.faults.specs.declared.Fault.{Fault}
 use Rattle.steps.specs.Steps.{step_of}
 use Rattle.options.specs.Named.{at, on_step, reached, left, option_from}
 use Rattle.faults.specs.Faults.{fault_at}
-use Rattle.builtins.specs.declared.Built.TheVariants.{Skipped, Wrong}
 use Rattle.builtins.specs.Builtins.{repeated, is_skipped, built_of, builtin_on, builtin_field, builtin_of}
 use Rattle.options.specs.Settle.{Settled, known, others, fails, settled_built, settled, builtin_part, settle}
 use Rattle.promises.proofs.SmallLaws.{Small, small-nil, small-more}
@@ -143,7 +142,7 @@ module _ {k n : ℕ} where
     field-built (option.some d) = go (eqb d.shape.label repeated) (builtin_on L s r d.shape c) refl
       where
         go : (x : Bool) (y : Result Body Refusal) → builtin_on L s r d.shape c ≡ y → SmallSettled k n (settled_built r (elim x [
-          | true ↦ Wrong BuiltinOptionPointsToNonSingularField
+          | true ↦ Err BuiltinOptionPointsToNonSingularField
           | false ↦ built_of d.shape y
         ]))
         go true y q = faulty
@@ -155,7 +154,7 @@ module _ {k n : ℕ} where
     builtin-small m name = go (is_skipped m.name name)
       where
         go : (x : Bool) → SmallSettled k n (settled_built r (elim x [
-          | true ↦ Skipped
+          | true ↦ Ok None
           | false ↦ builtin_field L s r c (field_named s name m.place)
         ]))
         go true = writes small-nil

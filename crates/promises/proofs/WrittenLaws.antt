@@ -9,7 +9,7 @@
 --            On L s m k <-> what holds constants at the message m: a field of it, or the message itself
 --
 -- Assumes nothing.
-use Rattle.std.specs.Prelude.{◌≡◌, refl, Bool, true, false, List, [], ◌∷◌, ℕ, ◌+◌, eqb, ltb, Option, Err, Ok, Result}
+use Rattle.std.specs.Prelude.{◌≡◌, refl, Bool, true, false, List, [], ◌∷◌, ℕ, ◌+◌, eqb, ltb, Option, Err, Ok, Result, None, Some}
 use Rattle.basis.specs.First.{told}
 use Rattle.basis.proofs.Never.{never}
 use mathlib.Core.Option as option
@@ -47,7 +47,6 @@ use Rattle.faults.specs.declared.Fault.{Fault}
 use Rattle.options.specs.Named.{at, on_step, left, option_from}
 use Rattle.faults.specs.Faults.{fault_at}
 use Rattle.options.specs.Named as named
-use Rattle.builtins.specs.declared.Built.TheVariants.{Skipped, Wrong}
 use Rattle.builtins.specs.Builtins.{repeated, is_skipped, built_of, builtin_on, builtin_field, builtin_of}
 use Rattle.options.specs.Settle.{Settled, known, others, fails, settled_built, settled, builtin_part, settle}
 use Rattle.options.specs.Options.{Gathered, gathered, stopped, next, gather}
@@ -288,7 +287,7 @@ module _ (L : Lookups) (s r : List ℕ) (steady : Steady L s) where
       field-written c z d u = go (eqb d.shape.label repeated) (builtin_on L s r d.shape c) (builtin-fits d.shape c z)
         where
           go : (x : Bool) (y : Result Body Refusal) → ScalarFits d.shape.typ y → WrittenSettled L s m (settled_built r (elim x [
-            | true ↦ Wrong BuiltinOptionPointsToNonSingularField
+            | true ↦ Err BuiltinOptionPointsToNonSingularField
             | false ↦ built_of d.shape y
           ]))
           go true y f = faulty
@@ -300,7 +299,7 @@ module _ (L : Lookups) (s r : List ℕ) (steady : Steady L s) where
       builtin-written n c z = go (is_skipped m.name n) (field_named s n m.place) refl
         where
           go : (x : Bool) (o : Option Declaration) → field_named s n m.place ≡ o
-              → WrittenSettled L s m (settled_built r (elim x [ true ↦ Skipped | false ↦ builtin_field L s r c o ]))
+              → WrittenSettled L s m (settled_built r (elim x [ true ↦ Ok None | false ↦ builtin_field L s r c o ]))
           go true o q = adds (written-nil L s m)
           go false option.none q = faulty
           go false (option.some d) q = field-written c z d (steady.field m h n d q)

@@ -20,21 +20,21 @@ use Rattle.optionform.proofs.PartsLaws.{fine-part-next}
 use Rattle.lookups.specs.Lookups.{walking}
 use Rattle.lookups.proofs.LookupLaws.{message-lies}
 use Rattle.steps.specs.declared.Reach.{Reach}
-use Rattle.steps.specs.declared.Reach.TheVariants.{Constant, Inside, Nothing, Fails}
+use Rattle.steps.specs.declared.Reach.TheVariants.{Constant, Inside, Nothing}
 use Rattle.steps.specs.Steps.{why_of}
 use Rattle.steps.specs.inner.Reached.{entered, left_on, followed, behind, stepped, StepLies, Behind, Entered, Led}
 use Rattle.sheet.specs.declared.declaration.Declaration.{Declaration}
 use Rattle.steps.specs.declared.Lack.{Lack}
 
 module _ (s r : List ℕ) (from to : ℕ) where
-  pub led-nothing : Led s r from to Nothing
+  pub led-nothing : Led s r from to (Ok Nothing)
   led-nothing = record { constant = λ h x e. never cc; inside = λ h p x e. never cc }
 
-  led-fails : (w : Refusal) → Led s r from to (Fails w)
+  led-fails : (w : Refusal) → Led s r from to (Err w)
   led-fails w = record { constant = λ h x e. never cc; inside = λ h p x e. never cc }
 
   module _ (h : Shape) (x : ℕ) (b : Behind s from to h x) where
-    led-constant : Led s r from to (Constant h x)
+    led-constant : Led s r from to (Ok (Constant h x))
     led-constant = record {
       constant = λ h' x' e.
           let i : h ≡ h' = cc in
@@ -43,7 +43,7 @@ module _ (s r : List ℕ) (from to : ℕ) where
       inside = λ h' p x' e. never cc;
     }
 
-    led-inside : (p : LookupScope) → OptionParts r x to → InSheet s p → Led s r from to (Inside h p x)
+    led-inside : (p : LookupScope) → OptionParts r x to → InSheet s p → Led s r from to (Ok (Inside h p x))
     led-inside p o l = record {
       constant = λ h' x' e. never cc;
       inside = λ h' p' x' e.
@@ -60,7 +60,7 @@ module _ (s r : List ℕ) (from to : ℕ) where
     led-left o = go (eqb h.typ TYPE_MESSAGE) (eqb h.typ TYPE_GROUP) ((walking s).message (text s h.path)) refl
       where
         go : (b c : Bool) (u : Result LookupScope Refusal) → u ≡ (walking s).message (text s h.path)
-            → Led s r from to (elim b [ true ↦ entered h x u | false ↦ elim c [ true ↦ Nothing | false ↦ Fails ExtensionIsNotMessage ] ])
+            → Led s r from to (elim b [ true ↦ entered h x u | false ↦ elim c [ true ↦ Ok Nothing | false ↦ Err ExtensionIsNotMessage ] ])
         go true c (Err w) q = led-fails w
         go true c (Ok p) q = led-inside p o (message-lies s (text s h.path) (Ok p) q p refl)
         go false true u q = led-nothing
@@ -71,7 +71,7 @@ module _ (s r : List ℕ) (from to : ℕ) where
     led-followed o (Some p) = led-left o
 
   pub led-step : OptionParts r from to → (v : Option Part) → v ≡ part_at r from to → (p : Part) → v ≡ Some p → (u : Result Declaration Lack) → StepLies s u
-      → (y : Reach) → y ≡ stepped (walking s) s r p.name.to to u → Led s r from to y
+      → (y : Result Reach Refusal) → y ≡ stepped (walking s) s r p.name.to to u → Led s r from to y
   unfolding behind
   led-step k v q p g u l y e = subst (Led s r from to) (sym e) (go u l)
     where

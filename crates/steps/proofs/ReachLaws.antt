@@ -18,7 +18,7 @@ use Rattle.lookups.specs.Lookups.{Lookups}
 use Rattle.steps.specs.declared.Lack.{Lack}
 use Rattle.steps.specs.declared.Lack.TheVariants.{NoField, NoExtension, OtherMessage}
 use Rattle.steps.specs.declared.Reach.{Reach}
-use Rattle.steps.specs.declared.Reach.TheVariants.{Constant, Inside, Nothing, Fails}
+use Rattle.steps.specs.declared.Reach.TheVariants.{Constant, Inside, Nothing}
 use Rattle.steps.specs.Steps.{why_of, step_of}
 use Rattle.steps.proofs.LedLaws.{led-nothing, led-step}
 use Rattle.steps.proofs.StepLaws.{step-path-ordered, step-path-within}
@@ -31,18 +31,18 @@ module _ (L : Lookups) (s : List ℕ) (h : Shape) (at t : ℕ) (k : t ≡ h.typ)
     unfolding left_on
     left-entered = simp (left_on, ← k, eq-eqb t TYPE_MESSAGE x, q)
 
-    pub left-none : (w : Refusal) → v ≡ Err w → Fails w ≡ left_on L s h at
+    pub left-none : (w : Refusal) → v ≡ Err w → Err w ≡ left_on L s h at
     left-none w g = sym (left-entered ∙ ap (entered h at) g)
 
-    pub left-inside : (p : LookupScope) → v ≡ Ok p → Inside h p at ≡ left_on L s h at
+    pub left-inside : (p : LookupScope) → v ≡ Ok p → Ok (Inside h p at) ≡ left_on L s h at
     left-inside p g = sym (left-entered ∙ ap (entered h at) g)
 
   module _ (x : t ≡ TYPE_MESSAGE → ⊥) where
-    pub left-group : t ≡ TYPE_GROUP → Nothing ≡ left_on L s h at
+    pub left-group : t ≡ TYPE_GROUP → Ok Nothing ≡ left_on L s h at
     unfolding left_on
     left-group y = simp (left_on, ← k, ne_eqb t TYPE_MESSAGE x, eq-eqb t TYPE_GROUP y)
 
-    pub left-scalar : (t ≡ TYPE_GROUP → ⊥) → Fails ExtensionIsNotMessage ≡ left_on L s h at
+    pub left-scalar : (t ≡ TYPE_GROUP → ⊥) → Err ExtensionIsNotMessage ≡ left_on L s h at
     unfolding left_on
     left-scalar y = simp (left_on, ← k, ne_eqb t TYPE_MESSAGE x, ne_eqb t TYPE_GROUP y)
 
@@ -54,10 +54,10 @@ module _ (L : Lookups) (s r : List ℕ) (h : Shape) (at end : ℕ) (v : Option P
   unfolding behind
   behind-followed = ap (followed L s h at) (sym q)
 
-  pub behind-constant : v ≡ None → Constant h at ≡ behind L s r h at end
+  pub behind-constant : v ≡ None → Ok (Constant h at) ≡ behind L s r h at end
   behind-constant g = sym (behind-followed ∙ ap (followed L s h at) g)
 
-  pub behind-part : (p : Part) → v ≡ Some p → (u : Reach) → u ≡ left_on L s h at → u ≡ behind L s r h at end
+  pub behind-part : (p : Part) → v ≡ Some p → (u : Result Reach Refusal) → u ≡ left_on L s h at → u ≡ behind L s r h at end
   behind-part p g u e = e ∙ sym (behind-followed ∙ ap (followed L s h at) g)
 
 pub ruleset behind_laws = (behind-constant, behind-part)
@@ -77,10 +77,10 @@ pub ruleset why_laws = (why-field, why-extension, why-other)
 
 -- ---- led
 module _ (L : Lookups) (s r : List ℕ) (from to : ℕ) (v : Result Declaration Lack) where
-  pub led-fails : (l : Lack) → v ≡ Err l → (w : Refusal) → w ≡ why_of l → Fails w ≡ stepped L s r from to v
-  led-fails l z w e = ap Fails e ∙ sym (ap (stepped L s r from to) z)
+  pub led-fails : (l : Lack) → v ≡ Err l → (w : Refusal) → w ≡ why_of l → Err w ≡ stepped L s r from to v
+  led-fails l z w e = rw e (sym (ap (stepped L s r from to) z))
 
-  pub led-behind : (d : Declaration) → v ≡ Ok d → (y : Reach) → y ≡ behind L s r d.shape from to → y ≡ stepped L s r from to v
+  pub led-behind : (d : Declaration) → v ≡ Ok d → (y : Result Reach Refusal) → y ≡ behind L s r d.shape from to → y ≡ stepped L s r from to v
   led-behind d z y o = o ∙ sym (ap (stepped L s r from to) z)
 
 pub ruleset led_laws = (led-fails, led-behind, step-path-ordered, step-path-within)
@@ -91,10 +91,10 @@ module _ (L : Lookups) (s r scope n : List ℕ) (c : LookupScope) (from to : ℕ
   unfolding reach_of
   reach-first = ap (first_part L s r scope (message n c) to) (sym q)
 
-  pub reach-none : v ≡ None → Nothing ≡ reach_of L s r scope (message n c) from to
+  pub reach-none : v ≡ None → Ok Nothing ≡ reach_of L s r scope (message n c) from to
   reach-none g = sym (reach-first ∙ ap (first_part L s r scope (message n c) to) g)
 
-  pub reach-led : (p : Part) → v ≡ Some p → (u : Result Declaration Lack) → u ≡ step_of L s r scope (message n c) p → (y : Reach)
+  pub reach-led : (p : Part) → v ≡ Some p → (u : Result Declaration Lack) → u ≡ step_of L s r scope (message n c) p → (y : Result Reach Refusal)
       → y ≡ stepped L s r p.name.to to u → y ≡ reach_of L s r scope (message n c) from to
   reach-led p g u e y o =
       o ∙ sym (reach-first ∙ ap (first_part L s r scope (message n c) to) g ∙ ap (stepped L s r p.name.to to) (sym e))

@@ -29,7 +29,7 @@ pub enum Lack {
 }
 
 // What a part leads to: the constant behind it, on a field of that shape; more parts, inside the message of that path and place, in a record
-// of that number; nothing, where there is no part, or parts are left on a group; or a fault. `from` is where the part ends.
+// of that number; nothing, where there is no part, or parts are left on a group. `from` is where the part ends.
 #[derive(Clone, Copy)]
 pub enum Reach {
     Constant {
@@ -42,7 +42,6 @@ pub enum Reach {
         from: usize,
     },
     Nothing,
-    Fails(Refusal),
 }
 
 // What an extension part comes to, by what its search comes to.
@@ -85,39 +84,36 @@ pub fn step_of(
 
 // What parts left on a field of that shape lead to.
 #[tactic(auto, using(crate::proofs::ReachLaws::left_laws))]
-fn left_on(sheet: &[u8], shape: Shape, from: usize) -> Reach
+fn left_on(sheet: &[u8], shape: Shape, from: usize) -> Result<Reach, Refusal>
     requires { Lies shape.path sheet.now }
     ensures { result ≡ left_on (walking sheet.now) sheet.now shape from }
 {
     let typ = octets::wide(shape.typ);
     if typ == TYPE_MESSAGE {
-        return match lookups::message_at(sheet, shape.path) {
-            Err(why) => Reach::Fails(why),
-            Ok(place) => Reach::Inside {
-                shape: shape,
-                place: place,
-                from: from,
-            },
-        };
+        let place = lookups::message_at(sheet, shape.path)?;
+        return Ok(Reach::Inside { shape, place, from });
     }
     if typ == TYPE_GROUP {
-        return Reach::Nothing;
+        return Ok(Reach::Nothing);
     }
-    Reach::Fails(Refusal::ExtensionIsNotMessage)
+    Err(Refusal::ExtensionIsNotMessage)
 }
 
 // What a declaration of that shape leads to, whose part ends at `from`: to more parts or to the constant.
 #[tactic(auto, using(crate::proofs::ReachLaws::behind_laws))]
-pub fn behind(sheet: &[u8], request: &[u8], shape: Shape, from: usize, to: usize) -> Reach
+pub fn behind(
+    sheet: &[u8],
+    request: &[u8],
+    shape: Shape,
+    from: usize,
+    to: usize,
+) -> Result<Reach, Refusal>
     requires from_le_to { (from ≤ to) × (to ≤ length request.now) }
     requires lies { Lies shape.path sheet.now }
     ensures { result ≡ behind_of (walking sheet.now) sheet.now request.now shape from to }
 {
     if part_at(request, from, to).is_none() {
-        return Reach::Constant {
-            shape: shape,
-            from: from,
-        };
+        return Ok(Reach::Constant { shape, from });
     }
     left_on(sheet, shape, from)
 }
@@ -142,17 +138,14 @@ fn led(
     step: Result<Declaration, Lack>,
     from: usize,
     to: usize,
-) -> Reach
+) -> Result<Reach, Refusal>
     requires from_le_to { (from ≤ to) × (to ≤ length request.now) }
     requires step_lies { StepLies sheet.now step }
     ensures { result ≡ stepped (walking sheet.now) sheet.now request.now from to step }
 {
     match step {
-        Err(lack) => Reach::Fails(why_of(lack)),
-        Ok(declaration) => {
-            let shape = declaration.shape;
-            behind(sheet, request, shape, from, to)
-        }
+        Err(lack) => Err(why_of(lack)),
+        Ok(declaration) => behind(sheet, request, declaration.shape, from, to),
     }
 }
 
@@ -166,7 +159,7 @@ pub fn reach_of(
     place: LookupScope,
     from: usize,
     to: usize,
-) -> Reach
+) -> Result<Reach, Refusal>
     requires from_le_to { (from ≤ to) × (to ≤ length request.now) }
     requires option_parts { OptionParts request.now from to }
     requires scope_value { is_rel_or_empty scope.now ≡ true }
@@ -176,7 +169,7 @@ pub fn reach_of(
     ensures lies { Led sheet.now request.now from to result }
 {
     let Some(part) = part_at(request, from, to) else {
-        return Reach::Nothing;
+        return Ok(Reach::Nothing);
     };
     let step = step_of(sheet, request, scope, message, place, part);
     led(sheet, request, step, part.name.to, to)

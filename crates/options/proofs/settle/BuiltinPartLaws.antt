@@ -1,6 +1,6 @@
 -- The whole name of a builtin, a single direct part: the ways through `builtin_part` and `built_at`.
 -- Assumes nothing.
-use Rattle.std.specs.Prelude.{◌≡◌, refl, Bool, true, false, List, [], ◌∷◌, ℕ, None, Some, Option}
+use Rattle.std.specs.Prelude.{◌≡◌, refl, Bool, true, false, List, [], ◌∷◌, ℕ, None, Some, Option, Result}
 use Rattle.std.specs.Option.{is_some}
 use Rattle.basis.specs.Kit.{sym, ap, ◌∙◌}
 use Rattle.basis.proofs.Never.{never}
@@ -22,6 +22,7 @@ use Rattle.builtins.proofs.BuiltLaws.{built-inside}
 use Rattle.options.specs.Settle.{builtin_part}
 use Rattle.options.specs.inner.Settling.{parted}
 use Rattle.field.specs.declared.Field.{Field}
+use Rattle.reply.specs.declared.Refusal.{Refusal}
 
 -- ---- builtin_part
 extension-none : (p : Part) (ps : List Part) → p.extension ≡ true → builtin_part (p ∷ ps) ≡ None
@@ -64,7 +65,7 @@ module _ (r : List ℕ) (at to : ℕ) (f : Option Field) (q : f ≡ field_at r a
     constant-is : constant_in most_constants r unnamed here.tag here.from here.to no_constant ≡ constant_at r at to
     constant-is = sym (ap (constant_of_field r) g) ∙ ap (constant_of_field r) q
 
-    pub built-is : (L : Lookups) (s : List ℕ) (m : Message) (n : List ℕ) (y : Built)
+    pub built-is : (L : Lookups) (s : List ℕ) (m : Message) (n : List ℕ) (y : Result (Option Built) Refusal)
         → y ≡ builtin_of L s r m n (constant_in most_constants r unnamed here.tag here.from here.to no_constant) → y ≡ builtin_of L s r m n (constant_at r at to)
     built-is L s m n y o = o ∙ ap (λ (c : Constants). builtin_of L s r m n c) constant-is
 

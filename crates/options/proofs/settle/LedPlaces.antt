@@ -1,6 +1,6 @@
 -- Where that lies to which a part leads, for the step that goes on there: what it asks for holds, and what is left falls.
 -- Assumes nothing.
-use Rattle.std.specs.Prelude.{◌≡◌, List, ℕ, ◌+◌, ◌-◌, ◌*◌, ◌≤◌, ◌<◌, length}
+use Rattle.std.specs.Prelude.{◌≡◌, List, ℕ, ◌+◌, ◌-◌, ◌*◌, ◌≤◌, ◌<◌, length, Ok, Result}
 use Rattle.basis.proofs.Kit.{arith, Fits}
 use mir.Syntax.{w32}
 use Rattle.sheet.specs.declared.declaration.Shape.{Shape}
@@ -10,9 +10,10 @@ use Rattle.steps.specs.declared.Reach.{Reach}
 use Rattle.steps.specs.declared.Reach.TheVariants.{Constant, Inside}
 use Rattle.steps.specs.inner.Reached.{Led}
 use Rattle.options.specs.inner.Written.{Steppable}
+use Rattle.reply.specs.declared.Refusal.{Refusal}
 
-module _ (s r : List ℕ) (from to : ℕ) (v : Reach) (k : Led s r from to v) where
-  module _ (h : Shape) (x : ℕ) (g : v ≡ Constant h x) where
+module _ (s r : List ℕ) (from to : ℕ) (v : Result Reach Refusal) (k : Led s r from to v) where
+  module _ (h : Shape) (x : ℕ) (g : v ≡ Ok (Constant h x)) where
     pub constant-path-ordered : h.path.from ≤ h.path.to
     constant-path-ordered = (k.constant h x g).path.0
 
@@ -25,7 +26,7 @@ module _ (s r : List ℕ) (from to : ℕ) (v : Reach) (k : Led s r from to v) wh
     pub constant-room : (at : ℕ) → Roomy at (to - from) r → Roomy at (to - x) r
     constant-room at o = record { room = omega (arith, o.room, (k.constant h x g).further, (k.constant h x g).within) }
 
-  module _ (h : Shape) (p : LookupScope) (x : ℕ) (g : v ≡ Inside h p x) where
+  module _ (h : Shape) (p : LookupScope) (x : ℕ) (g : v ≡ Ok (Inside h p x)) where
     pub entered-path-ordered : h.path.from ≤ h.path.to
     entered-path-ordered = (k.inside h p x g).behind.path.0
 

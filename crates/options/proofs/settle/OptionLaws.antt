@@ -15,7 +15,7 @@ use Rattle.records.specs.Made.{Made, made, wrong, holding}
 use Rattle.lookups.specs.Lookups.{Lookups, Message}
 use Rattle.faults.specs.declared.Fault.{Fault}
 use Rattle.steps.specs.declared.Reach.{Reach}
-use Rattle.steps.specs.declared.Reach.TheVariants.{Constant, Inside, Nothing, Fails}
+use Rattle.steps.specs.declared.Reach.TheVariants.{Constant, Inside, Nothing}
 use Rattle.steps.specs.Steps.{step_of}
 use Rattle.steps.specs.inner.Reached.{message, entered, left_on, followed, behind, stepped, first_part, reach_of}
 use Rattle.options.specs.Named.{at, on_step, reached, left, option_from}
@@ -28,11 +28,11 @@ use Rattle.steps.specs.declared.Lack.{Lack}
 
 module _ (L : Lookups) (s r scope : List ℕ) where
   -- what comes of that to which a part leads
-  abbrev pub made_from : (part to : ℕ) → Reach → Made Fault
-  made_from i to (Fails w) = wrong (fault_at i w)
-  made_from i to Nothing = made nil
-  made_from i to (Constant h x) = at i (constant_made L s r h x to)
-  made_from i to (Inside h p x) = holding h.number (option_made L s r scope (i + 1) (message (text s h.path) p) x to)
+  abbrev pub made_from : (part to : ℕ) → Result Reach Refusal → Made Fault
+  made_from i to (Err w) = wrong (fault_at i w)
+  made_from i to (Ok Nothing) = made nil
+  made_from i to (Ok (Constant h x)) = at i (constant_made L s r h x to)
+  made_from i to (Ok (Inside h p x)) = holding h.number (option_made L s r scope (i + 1) (message (text s h.path) p) x to)
 
   left-made : (i x to : ℕ) (h : Shape)
       → left L s r scope i h (λ n. option_made L s r scope (i + 1) n x to) ≡ made_from i to (left_on L s h x)
@@ -44,7 +44,7 @@ module _ (L : Lookups) (s r scope : List ℕ) where
             | true ↦ reached i h.number (text s h.path) u (λ n. option_made L s r scope (i + 1) n x to)
             | false ↦ elim c [ true ↦ made nil | false ↦ wrong (fault_at i ExtensionIsNotMessage) ]
           ]
-          ≡ made_from i to (elim b [ true ↦ entered h x u | false ↦ elim c [ true ↦ Nothing | false ↦ Fails ExtensionIsNotMessage ] ])
+          ≡ made_from i to (elim b [ true ↦ entered h x u | false ↦ elim c [ true ↦ Ok Nothing | false ↦ Err ExtensionIsNotMessage ] ])
       go true c (Err w) = refl
       go true c (Ok p) = refl
       go false true u = refl
@@ -107,5 +107,5 @@ module _ (L : Lookups) (s r scope : List ℕ) where
         go (Some p) e =
             next p e (part_at r p.name.to to) refl ∙ ap (λ (y : Option Part). made_from i to (first_part L s r scope m to y)) (sym e)
 
-    pub option-of : (v : Reach) → v ≡ reach_of L s r scope m from to → option_made L s r scope i m from to ≡ made_from i to v
+    pub option-of : (v : Result Reach Refusal) → v ≡ reach_of L s r scope m from to → option_made L s r scope i m from to ≡ made_from i to v
     option-of v q = option-reached ∙ ap (made_from i to) (sym q)

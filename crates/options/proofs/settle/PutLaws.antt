@@ -23,7 +23,7 @@ use Rattle.values.specs.Values.{on, records}
 use Rattle.values.specs.inner.Writers.{value_made}
 use Rattle.faults.specs.declared.Fault.{Fault}
 use Rattle.steps.specs.declared.Reach.{Reach}
-use Rattle.steps.specs.declared.Reach.TheVariants.{Constant, Inside, Nothing, Fails}
+use Rattle.steps.specs.declared.Reach.TheVariants.{Constant, Inside, Nothing}
 use Rattle.steps.specs.inner.Reached.{message, reach_of, Led}
 use Rattle.options.specs.Named.{at as at_part}
 use Rattle.faults.specs.Faults.{fault_at}
@@ -100,35 +100,35 @@ inside-falls from to n e = omega arith
 pub ruleset put_inside_laws = (inside_laws, stepped-tells, inside-falls)
 
 -- ---- put_option
-module _ (L : Lookups) (s r scope n : List ℕ) (c : LookupScope) (from to : ℕ) (v : Reach)
+module _ (L : Lookups) (s r scope n : List ℕ) (c : LookupScope) (from to : ℕ) (v : Result Reach Refusal)
     (q : v ≡ reach_of L s r scope (message n c) from to) where
-  pub option-fails : (w : Refusal) → v ≡ Fails w → (i k : ℕ) (l : List ℕ) (at : ℕ)
+  pub option-fails : (w : Refusal) → v ≡ Err w → (i k : ℕ) (l : List ℕ) (at : ℕ)
       → Emits stepped_of (option_made L s r scope i (message n c) from to) k l at l (Err (fault_at i w))
   option-fails w g i k l at =
-      refuses stepped-tells (fault_at i w) (option-of L s r scope i (message n c) from to (Fails w) (sym g ∙ q)) refl
+      refuses stepped-tells (fault_at i w) (option-of L s r scope i (message n c) from to (Err w) (sym g ∙ q)) refl
 
-  pub option-nothing : v ≡ Nothing → (i k : ℕ) (l : List ℕ) (at : ℕ)
+  pub option-nothing : v ≡ Ok Nothing → (i k : ℕ) (l : List ℕ) (at : ℕ)
       → Emits stepped_of (option_made L s r scope i (message n c) from to) k l at l (Ok at)
   option-nothing g i k l at =
-      writes-none stepped-tells (option-of L s r scope i (message n c) from to Nothing (sym g ∙ q)) refl
+      writes-none stepped-tells (option-of L s r scope i (message n c) from to (Ok Nothing) (sym g ∙ q)) refl
 
   module _ (j : Led s r from to v) (h : Shape) (x : ℕ) (i : ℕ) (l : List ℕ) (at : ℕ) (l' : List ℕ) (y : Result ℕ Fault) where
-    pub option-constant : v ≡ Constant h x
+    pub option-constant : v ≡ Ok (Constant h x)
         → Emits stepped_of (at_part i (constant_made L s r h x to)) (bytes_most (to - x)) l at l' y
         → Emits stepped_of (option_made L s r scope i (message n c) from to) (bytes_most (to - from)) l at l' y
     option-constant g u =
         let b = j.constant h x g in
         subst (λ (m : Made Fault). Emits stepped_of m (bytes_most (to - from)) l at l' y)
-        (sym (option-of L s r scope i (message n c) from to (Constant h x) (sym g ∙ q)))
+        (sym (option-of L s r scope i (message n c) from to (Ok (Constant h x)) (sym g ∙ q)))
         (emits-more (bytes_most (to - x)) u (omega (arith, b.further, b.within)))
 
-    pub option_inside : (p : LookupScope) → v ≡ Inside h p x
+    pub option_inside : (p : LookupScope) → v ≡ Ok (Inside h p x)
         → Emits stepped_of (holding h.number (option_made L s r scope (i + 1) (message (text s h.path) p) x to)) (bytes_most (3 + (to - x))) l at l' y
         → Emits stepped_of (option_made L s r scope i (message n c) from to) (bytes_most (to - from)) l at l' y
     option_inside p g u =
         let b = (j.inside h p x g).behind in
         subst (λ (m : Made Fault). Emits stepped_of m (bytes_most (to - from)) l at l' y)
-        (sym (option-of L s r scope i (message n c) from to (Inside h p x) (sym g ∙ q)))
+        (sym (option-of L s r scope i (message n c) from to (Ok (Inside h p x)) (sym g ∙ q)))
         (emits-more (bytes_most (3 + (to - x))) u (omega (arith, b.further, b.within)))
 
 pub ruleset put_option_laws = (option-fails, option-nothing, option-constant, option_inside, led_places)

@@ -12,14 +12,12 @@ use Rattle.octets.specs.inner.Laid.{Laid}
 use Rattle.reply.specs.declared.Refusal.{Refusal}
 use Rattle.field.specs.Leaf.{text}
 use Rattle.field.specs.Walk.{walk}
-use Rattle.sheet.specs.declared.declaration.Shape.{Shape}
 use Rattle.request.specs.declared.name.Part.{Part}
 use Rattle.request.specs.Name.{part_at, parts_in, after_parts}
 use Rattle.request.specs.Request.{option_of}
 use Rattle.request.proofs.PartLaws.{parts-nil, parts-cons, after-parts-here, after-parts-next, part-ordered, part-inside, part-within}
 use Rattle.optionform.specs.inner.Parts.{LastConstant, OptionParts}
 use Rattle.optionform.proofs.PartsLaws.{fine-part-next, fine-part-last}
-use Rattle.records.specs.declared.Body.{Body}
 use Rattle.records.specs.Records.{nil, encode}
 use Rattle.records.specs.Made.{Made, made, wrong}
 use Rattle.records.specs.inner.Emits.{Emits, Roomy}
@@ -29,7 +27,6 @@ use Rattle.faults.specs.declared.Fault.{Fault}
 use Rattle.options.specs.inner.Written.{constant_at, stepped_of, option_made, Steppable}
 use Rattle.options.proofs.settle.PutLaws.{stepped-tells}
 use Rattle.builtins.specs.declared.Built.{Built}
-use Rattle.builtins.specs.declared.Built.TheVariants.{Skipped, Sets, Wrong}
 use Rattle.builtins.specs.Builtins.{builtin_of, built_recs}
 use Rattle.reply.specs.declared.Where.TheVariants as wheres
 use Rattle.reply.specs.declared.Cause.{Cause}
@@ -40,17 +37,17 @@ use Rattle.faults.specs.Faults.{fault_at, cause_at}
 use Rattle.options.specs.inner.Settling.{message_of, settled_at, parted, others_of, note_in, set_recs, settling, settling_of, Started, Settleable}
 
 -- ---- settled_built
-module _ (b : Built) (i at : ℕ) where
-  pub built-skipped : b ≡ Skipped → Ok (settling 0 at) ≡ settling_of i (note_in (settled_built [] b)) at (others_of (settled_built [] b))
+module _ (b : Result (Option Built) Refusal) (i at : ℕ) where
+  pub built-skipped : b ≡ Ok None → Ok (settling 0 at) ≡ settling_of i (note_in (settled_built [] b)) at (others_of (settled_built [] b))
   unfolding settling_of encode
   built-skipped g = rw (g, add-zero at) refl
 
-  pub built-sets : (h : Shape) (y : Body) → b ≡ Sets h y
-      → Ok (settling (h.number + 1) at) ≡ settling_of i (note_in (settled_built [] b)) at (others_of (settled_built [] b))
+  pub built-sets : (x : Built) → b ≡ Ok (Some x)
+      → Ok (settling (x.shape.number + 1) at) ≡ settling_of i (note_in (settled_built [] b)) at (others_of (settled_built [] b))
   unfolding settling_of encode
-  built-sets h y g = rw (g, add-zero at) refl
+  built-sets x g = rw (g, add-zero at) refl
 
-  pub built-wrong : (w : Refusal) → b ≡ Wrong w → (y : Cause) → y ≡ cause_at i (fault_at 0 w)
+  pub built-wrong : (w : Refusal) → b ≡ Err w → (y : Cause) → y ≡ cause_at i (fault_at 0 w)
       → Err y ≡ settling_of i (note_in (settled_built [] b)) at (others_of (settled_built [] b))
   unfolding settling_of
   built-wrong w g y e = rw (g, e) refl
@@ -212,7 +209,7 @@ module _ (L : Lookups) (s r : List ℕ) (h : Start) (from to : ℕ) (v : Option 
       let m = option_made L s r (text r h.scope) 0 (message_of r h) from to in
       rw (named-settled g, nothing-set m) (record { next = sym (add-zero at); left = refl })
 
-  module _ (p : Part) (g : v ≡ Some p) (b : Built)
+  module _ (p : Part) (g : v ≡ Some p) (b : Result (Option Built) Refusal)
       (e : b ≡ builtin_of L s r (message_of r h) (text r p.name) (constant_at r p.name.to to)) where
     ends : after_parts from (walk r from to) ≡ p.name.to
     ends =
@@ -231,20 +228,20 @@ module _ (L : Lookups) (s r : List ℕ) (h : Start) (from to : ℕ) (v : Option 
     unfolding encode
     settle-built i k l at y o = rw built-settled (go b o)
       where
-        go : (b : Built) → y ≡ settling_of i (note_in (settled_built [] b)) at (others_of (settled_built [] b))
+        go : (b : Result (Option Built) Refusal) → y ≡ settling_of i (note_in (settled_built [] b)) at (others_of (settled_built [] b))
             → Emits (settling_of i (note_in (settled_built r b))) (others_of (settled_built r b)) k l at l y
-        go Skipped o = record { answer = o; left = λ x z. let c : nil ≡ x = cc in rw (← c) refl; few = λ x z. let c : nil ≡ x = cc in rw (← c) (omega arith) }
-        go (Sets a d) o = record { answer = o; left = λ x z. let c : nil ≡ x = cc in rw (← c) refl; few = λ x z. let c : nil ≡ x = cc in rw (← c) (omega arith) }
-        go (Wrong w) o = record { answer = o; left = λ x z. never cc; few = λ x z. never cc }
+        go (Ok None) o = record { answer = o; left = λ x z. let c : nil ≡ x = cc in rw (← c) refl; few = λ x z. let c : nil ≡ x = cc in rw (← c) (omega arith) }
+        go (Ok (Some x)) o = record { answer = o; left = λ x z. let c : nil ≡ x = cc in rw (← c) refl; few = λ x z. let c : nil ≡ x = cc in rw (← c) (omega arith) }
+        go (Err w) o = record { answer = o; left = λ x z. never cc; few = λ x z. never cc }
 
     pub set-built : (l : List ℕ) (at : ℕ) (l' : List ℕ) (n : ℕ) → Laid l at (encode (built_recs r b)) l' n
         → Laid l at (encode (set_recs (settled_at L s r h from to))) l' n
     set-built l at l' n a = rw (built-settled, same b) a
       where
-        same : (b : Built) → set_recs (settled_built r b) ≡ built_recs r b
-        same Skipped = refl
-        same (Sets x y) = refl
-        same (Wrong w) = refl
+        same : (b : Result (Option Built) Refusal) → set_recs (settled_built r b) ≡ built_recs r b
+        same (Ok None) = refl
+        same (Ok (Some x)) = refl
+        same (Err w) = refl
 
 -- ---- what is asked where a part stands alone
 module _ (r : List ℕ) (from to : ℕ) (v : Option Part) (q : v ≡ parted (builtin_part (parts_in (walk r from to)))) (p : Part) (g : v ≡ Some p) where

@@ -1,5 +1,7 @@
 -- What these functions promise follows from their laws.
 -- Assumes nothing.
+use Rattle.std.specs.Prelude.{◌≡◌, Ok, Err}
+use Rattle.steps.specs.declared.Reach.TheVariants.{Constant, Inside, Nothing}
 use Rattle.records.proofs.EmitsLaws.{hands-on}
 use Rattle.options.proofs.settle.PutLaws.{put_inside_laws, put_option_laws}
 use Rattle.basis.proofs.Kit.{rules}
@@ -18,25 +20,46 @@ pub put_inside-returns : goal.put_inside-returns
 put_inside-returns t c = search (rules, put_inside_laws, c.in_ok-end.was)
 
 pub put_option-slice_bounds-put_inside-count : goal.put_option-slice_bounds-put_inside-count
-put_option-slice_bounds-put_inside-count t c = search (rules, put_option_laws)
+put_option-slice_bounds-put_inside-count t c =
+    let is : c.reach_of.result ≡ Ok (Inside c.in-Ok-Inside.shape c.in-Ok-Inside.inner c.in-Ok-Inside.rest) = cc in
+    search (rules, put_option_laws, is)
 
 pub put_option-slice_bounds-put_inside-start : goal.put_option-slice_bounds-put_inside-start
-put_option-slice_bounds-put_inside-start t c = search (rules, put_option_laws)
+put_option-slice_bounds-put_inside-start t c =
+    let is : c.reach_of.result ≡ Ok (Inside c.in-Ok-Inside.shape c.in-Ok-Inside.inner c.in-Ok-Inside.rest) = cc in
+    search (rules, put_option_laws, is)
 
 pub put_option-slice_bounds-put_inside-end : goal.put_option-slice_bounds-put_inside-end
-put_option-slice_bounds-put_inside-end t c = search (rules, put_option_laws)
+put_option-slice_bounds-put_inside-end t c =
+    let is : c.reach_of.result ≡ Ok (Inside c.in-Ok-Inside.shape c.in-Ok-Inside.inner c.in-Ok-Inside.rest) = cc in
+    search (rules, put_option_laws, is)
 
 pub put_option-put_inside-requires : goal.put_option-put_inside-requires
-put_option-put_inside-requires t c = search (rules, put_option_laws)
+put_option-put_inside-requires t c =
+    let is : c.reach_of.result ≡ Ok (Inside c.in-Ok-Inside.shape c.in-Ok-Inside.inner c.in-Ok-Inside.rest) = cc in
+    search (rules, put_option_laws, is)
 
-pub put_option-returns-in-Fails : goal.put_option-returns-in-Fails
-put_option-returns-in-Fails t c = search (rules, put_option_laws)
+pub put_option-put_constant-requires : goal.put_option-put_constant-requires
+put_option-put_constant-requires t c =
+    let is : c.reach_of.result ≡ Ok (Constant c.in-Ok-Constant.shape c.in-Ok-Constant.rest) = cc in
+    search (rules, put_option_laws, is)
 
-pub put_option-returns-in-Nothing : goal.put_option-returns-in-Nothing
-put_option-returns-in-Nothing t c = search (rules, put_option_laws)
+pub put_option-returns-in-Err : goal.put_option-returns-in-Err
+put_option-returns-in-Err t c =
+    let is : c.reach_of.result ≡ Err c.in-Err.why = cc in
+    search (rules, put_option_laws, is)
 
-pub put_option-returns-in-Constant : goal.put_option-returns-in-Constant
-put_option-returns-in-Constant t c = search (rules, put_option_laws)
+pub put_option-returns-in-Ok-Nothing : goal.put_option-returns-in-Ok-Nothing
+put_option-returns-in-Ok-Nothing t c =
+    let is : c.reach_of.result ≡ Ok Nothing = cc in
+    search (rules, put_option_laws, is)
 
-pub put_option-returns-in-Inside : goal.put_option-returns-in-Inside
-put_option-returns-in-Inside t c = search (rules, put_option_laws)
+pub put_option-returns-in-Ok-Constant : goal.put_option-returns-in-Ok-Constant
+put_option-returns-in-Ok-Constant t c =
+    let is : c.reach_of.result ≡ Ok (Constant c.in-Ok-Constant.shape c.in-Ok-Constant.rest) = cc in
+    search (rules, put_option_laws, is)
+
+pub put_option-returns-in-Ok-Inside : goal.put_option-returns-in-Ok-Inside
+put_option-returns-in-Ok-Inside t c =
+    let is : c.reach_of.result ≡ Ok (Inside c.in-Ok-Inside.shape c.in-Ok-Inside.inner c.in-Ok-Inside.rest) = cc in
+    search (rules, put_option_laws, is)

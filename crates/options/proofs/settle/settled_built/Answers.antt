@@ -3,5 +3,5 @@
 use Rattle.options.proofs.settle.SettleLaws.{settled_built_laws}
 use Rattle.options.proofs.settle.settled_built.Goals as goal
 
-pub returns-in-Wrong : goal.returns-in-Wrong
-returns-in-Wrong c = search settled_built_laws
+pub returns-in-Err : goal.returns-in-Err
+returns-in-Err c = search settled_built_laws
