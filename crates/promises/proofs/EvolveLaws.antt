@@ -41,7 +41,7 @@ use Rattle.promises.proofs.CleanLaws.{clean-name, number-once, path-message, ext
 use Rattle.reply.specs.Verdicts.{fine}
 
 -- ---- a clean sheet
-module _ (s : List ℕ) (fine : judge_sheet s ≡ fine) (c : clean s ≡ true) where
+module _ (s : List ℕ) (good : judge_sheet s ≡ fine) (c : clean s ≡ true) where
   only : (m : Message) → (walking s).message m.name ≡ Ok m.place → messages_at s (components m.name) ≡ holding s m.place ∷ []
   only m at = looked-up-is s (components m.name) ((walking s).message m.name) refl m.place at
 
@@ -54,7 +54,7 @@ module _ (s : List ℕ) (fine : judge_sheet s ≡ fine) (c : clean s ≡ true) w
   extendee-path d k =
       let e = extension-named s d k in
       let x = extendee-message s c e.0 d e.1 in
-      names-path s fine (named (text s d.extendee) (message x.scope)) x.among
+      names-path s good (named (text s d.extendee) (message x.scope)) x.among
 
   extension-at : (m : Message) (d : Declaration) → Among d (every_extension (tree_of s)) → extends s m.name d ≡ true
       → Among (number m.name d) (every_number s)
@@ -94,10 +94,10 @@ module _ (s : List ℕ) (fine : judge_sheet s ≡ fine) (c : clean s ≡ true) w
 
   -- a message that is declared is found
   pub clean_found : (t : List ℕ) (x : Scope) → Among (named t (message x)) (every_declared s) → (walking s).message t ≡ Ok x.place
-  clean_found t x k = ap looked_up (message-found s fine (clean-name s c) t x k)
+  clean_found t x k = ap looked_up (message-found s good (clean-name s c) t x k)
 
 -- ---- two sheets, the older contained in the newer
-module _ (s t : List ℕ) (fine : judge_sheet s ≡ fine) (clear : clean s ≡ true) (fine' : judge_sheet t ≡ fine) (clear' : clean t ≡ true)
+module _ (s t : List ℕ) (good : judge_sheet s ≡ fine) (clear : clean s ≡ true) (good' : judge_sheet t ≡ fine) (clear' : clean t ≡ true)
     (within : contained s t ≡ true) where
   pub record One (m m' : Message) : Type 0 where
     pub name : m.name ≡ m'.name
@@ -159,12 +159,12 @@ module _ (s t : List ℕ) (fine : judge_sheet s ≡ fine) (clear : clean s ≡ t
 
   module _ (m m' : Message) (one : One m m') (n : ℕ) (d d' : Declaration) (q : declared s m n ≡ Some d) (q' : declared t m' n ≡ Some d') where
     older : Among (number m.name d) (every_number s)
-    older = declared-number s fine clear m one.found one.path d (declared-only s m n d q).0
+    older = declared-number s good clear m one.found one.path d (declared-only s m n d q).0
 
     newer : Among (number m.name d') (every_number t)
     newer =
         subst (λ x. Among (number x d') (every_number t)) (sym one.name)
-        (declared-number t fine' clear' m' one.found' (subst (λ x. all_ident (components x) ≡ true) one.name one.path) d'
+        (declared-number t good' clear' m' one.found' (subst (λ x. all_ident (components x) ≡ true) one.name one.path) d'
         (declared-only t m' n d' q').0)
 
     kept : Alike m.name d
@@ -185,11 +185,11 @@ module _ (s t : List ℕ) (fine : judge_sheet s ≡ fine) (clear : clean s ≡ t
         let x = path-message s clear m.name d older (like-typ d d' like ∙ h) in
         record {
           place = x.scope.place;
-          found = clean_found s fine clear (text s d.shape.path) x.scope x.among;
+          found = clean_found s good clear (text s d.shape.path) x.scope x.among;
           inside = record {
             name = like-path d d' like;
-            path = names-path s fine (named (text s d.shape.path) (message x.scope)) x.among;
-            found = clean_found s fine clear (text s d.shape.path) x.scope x.among;
+            path = names-path s good (named (text s d.shape.path) (message x.scope)) x.among;
+            found = clean_found s good clear (text s d.shape.path) x.scope x.among;
             found' = f;
           };
         }

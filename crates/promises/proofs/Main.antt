@@ -13,6 +13,7 @@ use Rattle.basis.specs.Among.{Among, Ordered}
 use Rattle.basis.proofs.Kit.{lt-ltb, le-ltb}
 use lib.IntN.{ℤ}
 use lib.ListN.{get_elem?}
+use mathlib.Core.Option as option
 use Rattle.limits.specs.Figures.{most_levels, most_option_bytes}
 use Rattle.octets.proofs.Bytes.{Bytes}
 use Rattle.reply.specs.declared.Cause.{Cause}
@@ -35,7 +36,7 @@ use Rattle.scope.specs.declared.lookup.LookupScope.{LookupScope}
 use Rattle.scope.specs.Scope.{Scope, extends}
 use Rattle.fullname.specs.FullName.{messages_at, enums_at}
 use Rattle.search.specs.declared.extension.Candidate.{Candidate}
-use Rattle.search.specs.declared.extension.Found.{Ok as FoundExtension}
+use Rattle.search.specs.declared.extension.Found.{Found as FoundExtension}
 use Rattle.search.specs.Lookup.{found_at, tried}
 use Rattle.search.specs.Answers.{Undeclared}
 use Rattle.request.specs.declared.name.Part.{Part}
@@ -251,7 +252,7 @@ module _ (s r before after : List ℕ) (a : Answer) (k : Answered (resolve_bytes
 
 -- A request of its own: `alone r i` is the heading of r and the field of its i-th option. It is a fine request, of the same scope and options
 -- type, and has that option alone, with the fault that it has in r, or none.
-pub option-own : (r : List ℕ) → judge_request r ≡ fine → (i : ℕ) (o : RequestOption) → get_elem? (request_of r).options i ≡ Some o → Own r i o
+pub option-own : (r : List ℕ) → judge_request r ≡ fine → (i : ℕ) (o : RequestOption) → get_elem? (request_of r).options i ≡ option.some o → Own r i o
 option-own = apart.own-request
 
 -- Of `query` the option is 65,535, and the part is a position exactly when its name is refused by its steps: that of the part at fault.

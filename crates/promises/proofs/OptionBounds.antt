@@ -7,13 +7,12 @@
 use Rattle.std.specs.Prelude.{◌≡◌, refl, Bool, true, false, List, [], ◌∷◌, ℕ, suc, ◌+◌, ◌-◌, ◌*◌, ◌≤◌, eqb, length, Option, Err, None, Some, Ok, Result}
 use Rattle.basis.proofs.Kit.{arith}
 use Rattle.basis.proofs.Never.{never}
-use mathlib.Core.Option as option
 use Rattle.basis.specs.First.{told}
 use Rattle.limits.specs.Figures.{most_constants}
 use Rattle.reply.specs.declared.Refusal.{Refusal}
 use Rattle.reply.specs.declared.Refusal.TheVariants.{ExtensionIsNotMessage, UnsupportedExtensionType}
 use Rattle.reply.specs.declared.Refusal.TheVariants.{BuiltinOptionPointsToNonSingularField}
-use Rattle.field.specs.Field.{header, field_at, field}
+use Rattle.field.specs.Field.{header, field_at}
 use Rattle.field.specs.Leaf.{text}
 use Rattle.field.specs.Walk.{walk}
 use Rattle.field.proofs.FieldLaws.{field-bounds}
@@ -91,7 +90,7 @@ module _ (L : Lookups) (s r : List ℕ) (h : Shape) (b : Body) where
         → Small 1 (bytes_most (header + (e - a))) (record_of r h b)
     scalar-built c q = go (is_any h.typ (TYPE_BOOL ∷ TYPE_ENUM ∷ TYPE_STRING ∷ []))
       where
-        go : (x : Bool) → elim x [ true ↦ scalar_on L s r UnsupportedExtensionType h c | false ↦ unsupported ] ≡ Ok b
+        go : (x : Bool) → ◌≡◌ {A = Result Body Refusal} (elim x [ true ↦ scalar_on L s r UnsupportedExtensionType h c | false ↦ unsupported ]) (Ok b)
             → Small 1 (bytes_most (header + (e - a))) (record_of r h b)
         go true g = record-small L s r t a e c q h UnsupportedExtensionType b g
         go false g = never cc
@@ -138,8 +137,8 @@ module _ {k n : ℕ} where
   module _ (L : Lookups) (s r : List ℕ) (c : Constants)
       (u : (h : Shape) (b : Body) → builtin_on L s r h c ≡ Ok b → Small k n (record_of r h b)) where
     field-built : (o : Option Declaration) → SmallSettled k n (settled_built r (builtin_field L s r c o))
-    field-built option.none = faulty
-    field-built (option.some d) = go (eqb d.shape.label repeated) (builtin_on L s r d.shape c) refl
+    field-built None = faulty
+    field-built (Some d) = go (eqb d.shape.label repeated) (builtin_on L s r d.shape c) refl
       where
         go : (x : Bool) (y : Result Body Refusal) → builtin_on L s r d.shape c ≡ y → SmallSettled k n (settled_built r (elim x [
           | true ↦ Err BuiltinOptionPointsToNonSingularField
@@ -177,10 +176,10 @@ module _ (L : Lookups) (s r scope : List ℕ) (m : Message) where
 
       go : (o : Option Part) → SmallSettled k (bytes_most (e - a)) (told (settled (option_from L s r scope 0 m parts c))
           (λ p. settled_built r (builtin_of L s r m (text r p.name) c)) o)
-      go option.none =
+      go None =
           settled-small (made_more l (omega (arith, parts-width r e a))
           (parts-small L s r scope c (most_constants - 1) (bytes_most (e - end)) (last-small L s r end e (field_at r end e) refl) parts 0 m))
-      go (option.some p) =
+      go (Some p) =
           builtin-small L s r c
           (λ h b g. small-more (omega arith) (omega (arith, parts-width r e a)) (last_built L s r end e (field_at r end e) refl h b g))
           m (text r p.name)

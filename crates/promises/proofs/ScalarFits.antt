@@ -8,7 +8,7 @@ use Rattle.std.specs.Prelude.{◌≡◌, refl, Bool, true, false, ◌||◌, List
 use Rattle.basis.proofs.Kit.{arith}
 use mathlib.Core.Logic.{inl, inr}
 use borrow.Author.Tests.{eqb-true, leb-true, ltb-true, ltb-false}
-use lib.Ieee.{Float, nan, inf, fin, Format, binary32, binary64, top, fits, of_int, of_bits, round, to_bits, up, down}
+use lib.Ieee.{Float, nan, inf, fin, Format, binary32, binary64, top, of_int, of_bits, round, to_bits, up, down}
 use lib.Ieee.Bits.{to_bits-lt}
 use lib.Ieee.Fits.{round-fits, nan-fits, inf-fits, of_int-fits}
 use Rattle.reply.specs.declared.Refusal.{Refusal}

@@ -5,7 +5,7 @@
 -- Assumes nothing.
 use Rattle.std.specs.Prelude.{◌≡◌, refl, Bool, true, false, List, ℕ, zero, suc, ◌+◌, ◌-◌, ◌*◌, ◌≤◌, ltb, length, None, Some, Option}
 use Rattle.basis.proofs.Kit.{arith}
-use Rattle.field.specs.Field.{header, field_at, field}
+use Rattle.field.specs.Field.{header, field_at}
 use Rattle.field.specs.Walk.{Walk, done, cut, step, walk_on, walk_for, walk_by, walk}
 use Rattle.field.proofs.FieldLaws.{Bounds, field-bounds}
 use Rattle.request.specs.Name.{part_of, leading, further, parts_in, after_parts}

@@ -12,7 +12,6 @@
 use Rattle.std.specs.Prelude.{◌≡◌, refl, Bool, true, false, List, [], ◌∷◌, ℕ, ◌+◌, eqb, ltb, Option, Err, Ok, Result, None, Some}
 use Rattle.basis.specs.First.{told}
 use Rattle.basis.proofs.Never.{never}
-use mathlib.Core.Option as option
 use borrow.Author.Tests.{eqb-true}
 use Rattle.reply.specs.declared.Refusal.{Refusal}
 use Rattle.reply.specs.declared.Refusal.TheVariants.{ExtensionIsNotMessage, UnknownEnumValue, UnknownFieldName, UnsupportedExtensionType}
@@ -162,8 +161,8 @@ module _ (L : Lookups) (s r : List ℕ) (steady : Steady L s) where
     where
       go : (x : Option Declaration) → field_named s (text r n) p ≡ x
           → WrittenMade L s m (on_asked (told (values.refused UnknownFieldName) (λ d. values.field d.shape) x) f)
-      go option.none q = refuses
-      go (option.some d) q = g d (steady.field m o.0 (text r n) d (rw o.1 q))
+      go None q = refuses
+      go (Some d) q = g d (steady.field m o.0 (text r n) d (rw o.1 q))
 
   scalar-written : (m : Message) {d : Declaration} → Usable L s m d → (c : Constant) → SizedBits c
       → WrittenMade L s m (scalar_made L s r c d.shape)
@@ -215,19 +214,18 @@ module _ (L : Lookups) (s r : List ℕ) (steady : Steady L s) where
         by-extension (Ok (comparison.ExtendsOther c)) q e = never cc
         by-extension (Err w) q e = never cc
 
-        by-field : (x : Option Declaration) → field_named s (text r p.name) m.place ≡ x → told (Err NoField) Ok x ≡ Ok d
+        by-field : (x : Option Declaration) → field_named s (text r p.name) m.place ≡ x → ◌≡◌ {A = Result Declaration Lack} (told (Err NoField) Ok x) (Ok d)
             → Usable L s m d
-        by-field option.none q e = never cc
-        by-field (option.some c) q e =
+        by-field None q e = never cc
+        by-field (Some c) q e =
             let same : d ≡ c = cc in
             rw same (steady.field m h (text r p.name) c q)
 
         go : (b : Bool)
-            → elim b [
+            → ◌≡◌ {A = Result Declaration Lack} (elim b [
               | true ↦ step_extension (L.extension scope m.name (text r p.name))
               | false ↦ told (Err NoField) Ok (field_named s (text r p.name) m.place)
-            ]
-            ≡ Ok d
+            ]) (Ok d)
             → Usable L s m d
         go true = by-extension (L.extension scope m.name (text r p.name)) refl
         go false = by-field (field_named s (text r p.name) m.place) refl
@@ -283,7 +281,7 @@ module _ (L : Lookups) (s r : List ℕ) (steady : Steady L s) where
       builtin-fits d (message n inside rest) z = tt
 
       field-written : (c : Constants) → SizedAll c → (d : Declaration) → Usable L s m d
-          → WrittenSettled L s m (settled_built r (builtin_field L s r c (option.some d)))
+          → WrittenSettled L s m (settled_built r (builtin_field L s r c (Some d)))
       field-written c z d u = go (eqb d.shape.label repeated) (builtin_on L s r d.shape c) (builtin-fits d.shape c z)
         where
           go : (x : Bool) (y : Result Body Refusal) → ScalarFits d.shape.typ y → WrittenSettled L s m (settled_built r (elim x [
@@ -301,17 +299,17 @@ module _ (L : Lookups) (s r : List ℕ) (steady : Steady L s) where
           go : (x : Bool) (o : Option Declaration) → field_named s n m.place ≡ o
               → WrittenSettled L s m (settled_built r (elim x [ true ↦ Ok None | false ↦ builtin_field L s r c o ]))
           go true o q = adds (written-nil L s m)
-          go false option.none q = faulty
-          go false (option.some d) q = field-written c z d (steady.field m h n d q)
+          go false None q = faulty
+          go false (Some d) q = field-written c z d (steady.field m h n d q)
 
-      settle-written : (o : request.Option) → SizedAll o.constant → WrittenSettled L s m (settle L s r scope m o)
+      settle-written : (o : request.RequestOption) → SizedAll o.constant → WrittenSettled L s m (settle L s r scope m o)
       unfolding settle
       settle-written o z = go (builtin_part o.parts)
         where
           go : (x : Option Part) → WrittenSettled L s m (told (settled (option_from L s r scope 0 m o.parts o.constant))
               (λ p. settled_built r (builtin_of L s r m (text r p.name) o.constant)) x)
-          go option.none = settled-written (option-written o.constant z o.parts 0 m h)
-          go (option.some p) = builtin-written (text r p.name) o.constant z
+          go None = settled-written (option-written o.constant z o.parts 0 m h)
+          go (Some p) = builtin-written (text r p.name) o.constant z
 
       -- ---- options one after the other
       set-written : (k : Known) → Written L s m k.made → (ks : List Known) → AllWritten L s m ks → AllWritten L s m (set_known k ks)
@@ -336,7 +334,7 @@ module _ (L : Lookups) (s r : List ℕ) (steady : Steady L s) where
       next-written i ks x u v (adds {x = y} w) f g = g ks (append x y) u (written-append L s m v w)
       next-written i ks x u v faulty f g = halted
 
-      gather-written : (os : List request.Option) → SizedOptions os → (i : ℕ) (ks : List Known) (x : Recs) → AllWritten L s m ks
+      gather-written : (os : List request.RequestOption) → SizedOptions os → (i : ℕ) (ks : List Known) (x : Recs) → AllWritten L s m ks
           → Written L s m x → WrittenGathered L s m (gather L s r scope m i ks x os)
       gather-written [] z i ks x u v = together (written-append L s m (known_written ks u) v)
       gather-written (o ∷ os) z i ks x u v =
@@ -363,7 +361,7 @@ module _ (L : Lookups) (s r : List ℕ) (steady : Steady L s) where
   gathered-written q p h (together w) = come (record { place = p; found = h; written = w })
   gathered-written q p h halted = stops
 
-  some_written : (q : request.Request) → SizedOptions q.options → (os : List request.Option) → WrittenSteps q (some_options L s r q os)
+  some_written : (q : request.Request) → SizedOptions q.options → (os : List request.RequestOption) → WrittenSteps q (some_options L s r q os)
   some_written q z [] = nothing
   some_written q z (o ∷ os) = go (L.message (type_of q)) refl
     where
