@@ -17,7 +17,7 @@ use Rattle.entries.specs.declared.Row.{Row}
 use Rattle.entries.specs.Tree.{Tree, end, one, held, append, row, rows}
 use Rattle.following.specs.Reached.{is_by, listed_by, inside_after, joined, last_after, inside, reached}
 use Rattle.following.specs.inner.Keys.{key_of, key_at, keys_from}
-use Rattle.following.specs.inner.Following.{best_of, Followed, nothing_yet, is_at, step, after, by_key, at_level, step_of, follow, followed}
+use Rattle.following.specs.inner.Following.{Followed, nothing_yet, is_at, step, after, by_key, at_level, step_of, follow, followed}
 
 pub record Gone (level : ℕ) (b : Option Row) (f : Followed) : Type 0 where
   pub best : f.best ≡ b
@@ -104,10 +104,6 @@ module _ (joins : Declaration → Bool) where
 
   -- of the last declaration the last record
   module _ (l : ℕ) (d : Declaration) where
-    last-best : (b : Bool) (x : Row) (o : Option Row) → only_if b (Some x) (best_of o) ≡ best_of (only_if b (Some x) o)
-    last-best true x o = refl
-    last-best false x o = refl
-
     last_one : (b : Bool) (e : Entry) (o : Option Row) (t : Tree)
         → last_after o l (elim b [ true ↦ one e t | false ↦ t ]) ≡ last_after (only_if b (Some (row l e)) o) l t
     last_one true e o t = refl
@@ -118,14 +114,12 @@ module _ (joins : Declaration → Bool) where
     last-held true e i o t = refl
     last-held false e i o t = refl
 
-    after_last : (o : Option Row) (t : Tree) → best_after (best_of o) l d [] t ≡ best_of (last_after o l (listed_by d t))
+    after_last : (o : Option Row) (t : Tree) → best_after o l d [] t ≡ last_after o l (listed_by d t)
     after_last o end = refl
     after_last o (one e t) =
-        ap (λ (b : Option Row). best_after b l d [] t) (last-best (is_by d e.by) (row l e) o)
-        ∙ after_last (only_if (is_by d e.by) (Some (row l e)) o) t ∙ ap best_of (sym (last_one (is_by d e.by) e o (listed_by d t)))
+        after_last (only_if (is_by d e.by) (Some (row l e)) o) t ∙ sym (last_one (is_by d e.by) e o (listed_by d t))
     after_last o (held e i t) =
-        ap (λ (b : Option Row). best_after b l d [] t) (last-best (is_by d e.by) (row l e) o)
-        ∙ after_last (only_if (is_by d e.by) (Some (row l e)) o) t ∙ ap best_of (sym (last-held (is_by d e.by) e i o (listed_by d t)))
+        after_last (only_if (is_by d e.by) (Some (row l e)) o) t ∙ sym (last-held (is_by d e.by) e i o (listed_by d t))
 
   -- of one before it what the last record holds,
   module _ (l : ℕ) (d o : Declaration) (ds : List Declaration) where
@@ -176,7 +170,7 @@ module _ (joins : Declaration → Bool) where
         go false q = anew q end t ∙ simp (inside, q)
 
   after-reached : (l : ℕ) (d : Declaration) (ds : List Declaration) (t : Tree)
-      → best_after None l d ds t ≡ best_of (reached joins l (d ∷ ds) t)
+      → best_after None l d ds t ≡ reached joins l (d ∷ ds) t
   after-reached l d [] t = after_last l d None t
   after-reached l d (o ∷ ds) t = after-inside l d o ds t ∙ after-reached (suc l) o ds (inside joins d t)
 
@@ -253,6 +247,6 @@ module _ (joins : Declaration → Bool) where
   -- ---- the whole
   pub followed-reached : (ks : List ℕ) (ds : List Declaration) (n : ℕ) (t : Tree) → n ≡ 0 + length ds
       → keys_from ks 0 (length ds) ≡ map (key_of joins) ds
-      → (followed ks n nothing_yet (rows 0 t)).best ≡ best_of (reached joins 0 ds t)
+      → (followed ks n nothing_yet (rows 0 t)).best ≡ reached joins 0 ds t
   followed-reached ks [] n t h k = rw h (followed-none ks nothing_yet (rows 0 t))
   followed-reached ks (d ∷ ds) n t h k = (goes ks n 0 d ds k h t nothing_yet (omega arith)).best ∙ after-reached 0 d ds t

@@ -34,7 +34,6 @@ use Rattle.entries.specs.inner.Fronts.{message}
 use Rattle.naming.specs.Name.{Named, names, group, refused_at, declarations}
 use Rattle.following.specs.Reached.{never, reached}
 use Rattle.query.specs.Query.{answered, on_named, on_records, query_of, judge_inputs, query_by, query, query_tested}
-use Rattle.following.specs.inner.Following.{best_of}
 use Rattle.query.specs.inner.Answering.{of_named, of_listed, queried, outcome_of, admitted}
 
 -- ---- give_row
@@ -88,7 +87,7 @@ module _ (s type q bs : List ℕ) (u : Verdict) (x : u ≡ judge_length s) where
 pub ruleset query_message_laws = (message-long, message-bad-type, message-bad-name, message-long-bytes, message-is)
 
 -- ---- what was seen is the query
-answered-best : (o : Option Row) → answered o ≡ outcome_of (Ok (best_of o))
+answered-best : (o : Option Row) → answered o ≡ outcome_of (Ok o)
 answered-best None = refl
 answered-best (Some x) = refl
 

@@ -3,6 +3,8 @@
 --   Front v F s from to i l m at p <-> what the fields before the place i come to is laid over l, from `at` up to p; v is the whole, and F
 --                                      says what the fields that are left come to
 --
+--   FrontIn v F s from to it l m at p <-> so it is at the place where the walk `it` over the fields stands
+--
 -- Assumes nothing.
 use Rattle.std.specs.Prelude.{◌≡◌, refl, List, ℕ, ◌+◌, ◌-◌, ◌≤◌, length, Err, Ok, Result}
 use Rattle.basis.specs.Kit.{sym, ap, ◌∙◌}
@@ -13,6 +15,8 @@ use Rattle.octets.specs.inner.Laid.{Laid}
 use Rattle.octets.proofs.Overlay.{laid-append, laid-length}
 use Rattle.reply.specs.declared.Refusal.{Refusal}
 use Rattle.field.specs.Walk.{Walk, walk}
+use Rattle.field.specs.declared.fields.Fields.{Fields}
+use Rattle.field.proofs.InFields.{Over}
 use Rattle.field.proofs.FieldLaws.{field-reads}
 use Rattle.field.proofs.Rest.{Rest}
 use Rattle.records.specs.Records.{Recs, nil, append, encode}
@@ -27,6 +31,11 @@ pub record Front (v : Made Refusal) (F : Walk → Made Refusal) (s : List ℕ) (
   pub laid : Laid l at (encode front) m p
   pub rest : Rest v (λ w. after front (F w)) s to i
   pub few : length (encode front) + bytes_most from ≤ bytes_most i
+
+-- the same of a loop by `for`
+pub record FrontIn (v : Made Refusal) (F : Walk → Made Refusal) (s : List ℕ) (from to : ℕ) (it : Fields) (l m : List ℕ) (at p : ℕ) : Type 0 where
+  pub over : Over it s to
+  pub front : Front v F s from to it.at l m at p
 
 pub front-start : (F : Walk → Made Refusal) (s : List ℕ) (from to : ℕ) → from ≤ to → to ≤ length s → (l : List ℕ) (at : ℕ)
     → Front (F (walk s from to)) F s from to from l l at at

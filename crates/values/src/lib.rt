@@ -12,7 +12,7 @@ ghost use Rattle.values.specs.Values.{scalar_made};
 ghost use Rattle.values.specs.inner.Writers.{most_scalar, kind_of, held_at, target_of, value_made, list_made, pairs_made, pair_made};
 ghost use Rattle.values.specs.inner.Writers.{message_made};
 
-use field::Field;
+use field::fields::Fields;
 use pair::{Pair, pair_at};
 use records::{enclose, put_record, shortest_head};
 use reply::Refusal;
@@ -277,15 +277,13 @@ fn put_list(
         (bytes_most (to - from)) out.old at out.new result }
 {
     let mut p = at;
-    let mut i = from;
-    while i < to {
-        let Some(field) = field::field_at(request, i, to) else {
+    for field in Fields::between(request, from, to) {
+        let Some(field) = field else {
             return Ok(p);
         };
         p = put_value(
             sheet, request, shape, field.tag, field.from, field.to, left, out, p,
         )?;
-        i = field.to;
     }
     Ok(p)
 }

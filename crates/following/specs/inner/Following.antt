@@ -1,6 +1,5 @@
 -- Rows that are followed one after the other by the keys of a name's parts.
 --
---                 best_of o ==  the row o, if any
 --                 Followed ==  how far the open messages are the name's parts, and the best row so far
 --               nothing_yet ==  nothing is followed yet
 --                 is_at p y <=> a record that y declares is listed by the declaration at the place p
@@ -16,10 +15,6 @@ use Rattle.entries.specs.declared.Row.{Row}
 use Rattle.following.specs.declared.Step.{Step}
 use Rattle.following.specs.inner.Keys.{key_at}
 use Rattle.sheet.specs.declared.declaration.Declaration.{Declaration}
-
-abbrev pub best_of : Option Row → Option Row
-best_of None = None
-best_of (Some x) = Some x
 
 pub record Followed : Type 0 where
   pub matched : ℕ

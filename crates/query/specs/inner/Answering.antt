@@ -26,7 +26,7 @@ use Rattle.naming.specs.declared.Naming.TheVariants.{Parts, Group}
 use Rattle.naming.specs.Name.{Named, names, group, refused_at, of_part, declarations}
 use Rattle.following.specs.Reached.{never, reached}
 use Rattle.query.specs.Query.{judge_inputs}
-use Rattle.following.specs.inner.Following.{best_of, Followed, followed}
+use Rattle.following.specs.inner.Following.{Followed, followed}
 use Rattle.reply.specs.Verdicts.{Verdict}
 use Rattle.reply.specs.declared.Cause.{Cause}
 use Rattle.reply.specs.declared.Refusal.{Refusal}
@@ -48,7 +48,7 @@ settled (Ok Group) b = Ok None
 settled (Err c) b = Err c
 
 abbrev pub of_named : Named → Tree → Result (Option Row) Cause
-of_named (names ds) t = Ok (best_of (reached never 0 ds t))
+of_named (names ds) t = Ok (reached never 0 ds t)
 of_named group t = Ok None
 of_named (refused_at i w) t = Err (of_part i w)
 

@@ -20,23 +20,23 @@ put_inside-returns-in_err-end t c = hands-on c.from_residual.ensures.1 (search (
 pub put_inside-returns : goal.put_inside-returns
 put_inside-returns t c = search (rules, put_inside_laws, c.in_ok-end.was)
 
-pub put_list-loop-i-init : goal.put_list-loop-i-init
-put_list-loop-i-init t c = search (rules, list_laws)
+pub put_list-loop-field-init : goal.put_list-loop-field-init
+put_list-loop-field-init t c = rw c.into_iter-field-iterator.ensures.into_iter_gives (search (rules, list_laws))
 
 pub put_list-returns-in_default : goal.put_list-returns-in_default
-put_list-returns-in_default t c = search (rules, list_laws)
+put_list-returns-in_default t c = search (rules, list_laws, c.in-Some.ensures.steps)
 
 pub put_list-put_value-requires : goal.put_list-put_value-requires
-put_list-put_value-requires t c = search (rules, list_laws)
+put_list-put_value-requires t c = search (rules, list_laws, c.in-Some.ensures.steps)
 
 pub put_list-returns-in_err-p : goal.put_list-returns-in_err-p
-put_list-returns-in_err-p t c = hands-on c.from_residual.ensures.1 (search (rules, list_laws, c.in_err-p.was))
+put_list-returns-in_err-p t c = hands-on c.from_residual.ensures.1 (search (rules, list_laws, c.in-Some.ensures.steps, c.in_err-p.was))
 
-pub put_list-loop-i-preserved : goal.put_list-loop-i-preserved
-put_list-loop-i-preserved t c = search (rules, list_laws, c.in_ok-p.was)
+pub put_list-loop-field-preserved : goal.put_list-loop-field-preserved
+put_list-loop-field-preserved t c = search (rules, list_laws, c.in-Some.ensures.steps, c.in_ok-p.was)
 
 pub put_list-returns : goal.put_list-returns
-put_list-returns t c = search (rules, list_laws)
+put_list-returns t c = search (rules, list_laws, c.in-None.ensures.steps)
 
 pub put_message-returns-then-wide-ne-TYPE_MESSAGE : goal.put_message-returns-then-wide-ne-TYPE_MESSAGE
 put_message-returns-then-wide-ne-TYPE_MESSAGE t c = search (rules, message_laws)

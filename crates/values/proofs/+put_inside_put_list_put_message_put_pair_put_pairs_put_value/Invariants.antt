@@ -4,7 +4,7 @@
 use Rattle.std.specs.Prelude.{◌+◌, ◌-◌, ◌*◌}
 use Rattle.lookups.specs.Lookups.{walking}
 use Rattle.values.specs.inner.Writers.{list_made, pairs_made}
-use Rattle.values.proofs.FrontLaws.{Front}
+use Rattle.values.proofs.FrontLaws.{Front, FrontIn}
 use Rattle.values.proofs.ListLaws.{list_of}
 use Rattle.values.proofs.PairLaws.{pairs_of}
 use Rattle.values.proofs.+put_inside_put_list_put_message_put_pair_put_pairs_put_value.Given as goal
@@ -27,13 +27,10 @@ decreases-put_pairs l = 4 * (l.to - l.from)
 abbrev pub decreases-put_value : goal.decreases-put_value
 decreases-put_value l = 4 * (l.to - l.from) + 3
 
-abbrev pub invariant-put_list-loop-i : goal.invariant-put_list-loop-i
-invariant-put_list-loop-i l =
-    Front (list_made (walking l.sheet) l.sheet l.request l.shape l.left l.from l.to) (list_of (walking l.sheet) l.sheet l.request l.shape l.left)
-    l.request l.from l.to l.i l.initial.out l.out l.at l.p
-
-abbrev pub decreases-put_list-loop-i : goal.decreases-put_list-loop-i
-decreases-put_list-loop-i l = l.to - l.i
+abbrev pub invariant-put_list-loop-field : goal.invariant-put_list-loop-field
+invariant-put_list-loop-field l =
+    FrontIn (list_made (walking l.sheet) l.sheet l.request l.shape l.left l.from l.to)
+    (list_of (walking l.sheet) l.sheet l.request l.shape l.left) l.request l.from l.to l.field-iterator l.initial.out l.out l.at l.p
 
 abbrev pub invariant-put_pairs-loop-i : goal.invariant-put_pairs-loop-i
 invariant-put_pairs-loop-i l =
