@@ -1,6 +1,6 @@
-// Elements for the lent memory: what a writer of elements comes to, and the writers that all calls share. A writer is run over an empty
-// part of the lent memory first, which finds a refusal and the length, and then over the whole, so that a refusal writes nothing and
-// NoRoom comes last.
+// Elements for the lent memory: what a writer of elements comes to, and the words of an answer that are known beforehand. A writer is run
+// over an empty part of the lent memory first, which finds a refusal and the length, and then over the whole, so that a refusal writes
+// nothing and NoRoom comes last.
 #![tactic(auto)]
 
 ghost use Rattle.std.specs.Prelude.{◌≡◌, [], ◌∷◌, ◌+◌, ◌^◌, ◌<◌, length};

@@ -61,16 +61,11 @@ pub fn try_candidates(
     ensures { result ≡ tried s.now scope.now path.now }
 {
     let count = candidates(scope, path);
-    let mut i = 0;
-    while i < count {
+    for i in 0..count {
         let n = candidate(scope, path, i, room);
         if let Ok(found) = find_extension_by_abs_path(s, &room[..n]) {
-            return Ok(Candidate {
-                position: i,
-                found: found,
-            });
+            return Ok(Candidate { position: i, found });
         }
-        i += 1;
     }
     Err(Refusal::ExtensionNotFound)
 }

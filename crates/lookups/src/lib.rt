@@ -44,7 +44,12 @@ pub fn enum_at(sheet: &[u8], path: Span) -> Result<Span, Refusal>
 }
 
 // The extension that a name finds in a scope, compared with that message, and the position of its candidate.
-pub fn extension(sheet: &[u8], scope: &[u8], message: &[u8], name: &[u8]) -> Result<Compared, Refusal>
+pub fn extension(
+    sheet: &[u8],
+    scope: &[u8],
+    message: &[u8],
+    name: &[u8],
+) -> Result<Compared, Refusal>
     requires { (is_rel_or_empty scope.now ≡ true) × (is_path name.now ≡ true) }
     ensures { result ≡ (walking sheet.now).extension scope.now message.now name.now }
 {

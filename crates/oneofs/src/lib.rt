@@ -13,7 +13,7 @@ use limits::MOST_WORDS;
 use octets::put;
 use reply::{Answer, Cause, Refusal};
 
-// The words of fields.
+// The words of fields. Numbers and no enum: C passes them (`opt_fields`).
 const PLAIN: u32 = 0;
 
 const OPTIONAL: u32 = 1;
@@ -22,7 +22,8 @@ const OPENS: u32 = 2;
 
 const MEMBER: u32 = 3;
 
-// The numberings of oneofs: in order of declaration, and those of optional fields after all others.
+// The numberings of oneofs: in order of declaration, and those of optional fields after all others. Numbers and no enum:
+// C passes them (`opt_fields_by`).
 pub const DECLARED: u32 = 0;
 
 pub const SYNTHETIC_LAST: u32 = 1;

@@ -8,10 +8,10 @@
 mod compared;
 mod lowered;
 
-ghost use Rattle.std.specs.Prelude.{◌≤◌, length};
+ghost use Rattle.std.specs.Prelude.{◌≤◌, length, IfSome};
 
 use compared::tell_evolution;
-use console::input::{MOST_BYTES, field_of};
+use console::input::{MOST_BYTES, each_case, field_of};
 use field::leaf_at;
 use lowered::tell_request;
 
@@ -21,32 +21,28 @@ const REQUEST: u8 = 0x41;
 
 // A case of these two sheets, whose request, if it has one, stands at a place; and where the next case starts.
 #[tactic(auto, using(crate::proofs::CaseLaws::case_laws))]
-fn answer_case(s: &[u8], older: &[u8], newer: &[u8], at: usize) -> usize
+fn answer_case(s: &[u8], older: &[u8], newer: &[u8], at: usize) -> Option<usize>
     requires { at ≤ length s.now }
-    ensures { result ≤ length s.now }
+    ensures { IfSome result (λ next. next ≤ length s.now) }
 {
     let told = tell_evolution(older, newer);
     let Some(request) = leaf_at(s, at, s.len(), REQUEST) else {
-        return at;
+        return Some(at);
     };
     if told {
         tell_request(older, newer, &s[request.from..request.to]);
     }
-    request.to
+    Some(request.to)
 }
 
-// The case at a place, and where the next one starts; 0 where the input is no such fields.
+// The case at a place, and where the next one starts, none where the input is no such fields.
 #[tactic(auto, using(crate::proofs::CaseLaws::case_laws))]
-fn compare_case(s: &[u8], at: usize) -> usize
+fn compare_case(s: &[u8], at: usize) -> Option<usize>
     requires { at ≤ length s.now }
-    ensures { result ≤ length s.now }
+    ensures { IfSome result (λ next. next ≤ length s.now) }
 {
-    let Some(older) = field_of(s, at, SHEET) else {
-        return 0;
-    };
-    let Some(newer) = field_of(s, older.to, SHEET) else {
-        return 0;
-    };
+    let older = field_of(s, at, SHEET)?;
+    let newer = field_of(s, older.to, SHEET)?;
     answer_case(
         s,
         &s[older.from..older.to],
@@ -55,28 +51,14 @@ fn compare_case(s: &[u8], at: usize) -> usize
     )
 }
 
-// All cases, of which there has to be one.
-fn compare_cases(s: &[u8]) {
-    let mut at = 0;
-    loop {
-        let next = compare_case(s, at);
-        if next <= at {
-            return;
-        }
-        if next == s.len() {
-            return;
-        }
-        at = next;
-    }
-}
-
 // Standard input, read into a lent buffer.
 #[tactic(auto, using(crate::proofs::CaseLaws::case_laws))]
 fn run_over(buffer: &mut [u8]) {
     let Some(n) = console::input::read(buffer) else {
         return;
     };
-    compare_cases(&buffer[..n]);
+    let s = &buffer[..n];
+    each_case(s.len(), |at| compare_case(s, at));
 }
 
 fn main() {

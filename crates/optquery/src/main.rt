@@ -2,9 +2,9 @@
 // of these one after the other are several cases, each answered in its turn. On 0 it prints the eight words of the record, or `absent`.
 #![tactic(auto)]
 
-ghost use Rattle.std.specs.Prelude.{◌≤◌, length};
+ghost use Rattle.std.specs.Prelude.{◌≤◌, length, IfSome};
 
-use console::input::{MOST_BYTES, field_of};
+use console::input::{MOST_BYTES, each_case, field_of};
 use console::output::text;
 
 const SHEET: u8 = 0x40;
@@ -30,42 +30,33 @@ fn answer(sheet: &[u8], options_type: &[u8], name: &[u8], bytes: &[u8]) {
     }
 }
 
-// One case, and where the next one starts; 0 where the input is no such fields.
-fn query_case(s: &[u8], at: usize) -> usize
+// One case, and where the next one starts; none where the input is no such fields.
+#[tactic(auto, using(console::proofs::InputLaws::input_laws))]
+fn query_case(s: &[u8], at: usize) -> Option<usize>
     requires { at ≤ length s.now }
-    ensures { result ≤ length s.now }
+    ensures { IfSome result (λ next. next ≤ length s.now) }
 {
-    let Some(Span { from, to }) = field_of(s, at, SHEET) else {
-        return 0;
-    };
-    let Some(options_type) = field_of(s, to, OPTIONS_TYPE) else { return 0; };
-    let Some(name) = field_of(s, options_type.to, NAME) else { return 0; };
-    let Some(place) = field_of(s, name.to, OPTION_BYTES) else { return 0; };
-    answer(&s[from..to], &s[options_type.from..options_type.to], &s[name.from..name.to], &s[place.from..place.to]);
-    place.to
-}
-
-// All cases, of which there has to be one.
-fn query_cases(s: &[u8]) {
-    let mut at = 0;
-    loop {
-        let next = query_case(s, at);
-        if next <= at {
-            return;
-        }
-        if next == s.len() {
-            return;
-        }
-        at = next;
-    }
+    let sheet = field_of(s, at, SHEET)?;
+    let options_type = field_of(s, sheet.to, OPTIONS_TYPE)?;
+    let name = field_of(s, options_type.to, NAME)?;
+    let bytes = field_of(s, name.to, OPTION_BYTES)?;
+    answer(
+        &s[sheet.from..sheet.to],
+        &s[options_type.from..options_type.to],
+        &s[name.from..name.to],
+        &s[bytes.from..bytes.to],
+    );
+    Some(bytes.to)
 }
 
 // Standard input, read into a lent buffer.
+#[tactic(auto, using(console::proofs::InputLaws::input_laws))]
 fn run_over(buffer: &mut [u8]) {
     let Some(n) = console::input::read(buffer) else {
         return;
     };
-    query_cases(&buffer[..n]);
+    let s = &buffer[..n];
+    each_case(s.len(), |at| query_case(s, at));
 }
 
 fn main() {

@@ -8,7 +8,7 @@ use Rattle.reply.specs.declared.Refusal.TheVariants.{NoRoom}
 use Rattle.reply.specs.declared.Where.TheVariants.{Nowhere}
 use Rattle.reply.specs.declared.Cause.{Cause}
 use Rattle.reply.specs.declared.Answer.{Answer}
-use Rattle.reply.specs.Reply.{nowhere, positions, bare, refused_for}
+use Rattle.reply.specs.Reply.{positions, bare, refused_for}
 use Rattle.reply.specs.Outcome.{Outcome, refused, refuse, unless, nothing, give, push, within, answer_of, Answered}
 use Rattle.places.specs.Places.{Bare, Neither}
 use Rattle.reply.specs.Verdicts.{Verdict}

@@ -5,13 +5,14 @@
 --                           refused nowhere, if at all
 --
 -- Assumes nothing.
-use Rattle.std.specs.Prelude.{◌≡◌, refl, List, [], ◌∷◌, ℕ, zero, suc, ◌+◌, ◌<◌, length, Option, None, Some, Err, Ok, Result}
+use Rattle.std.specs.Prelude.{◌≡◌, refl, List, [], ◌∷◌, ℕ, zero, suc, ◌+◌, ◌<◌, length, None, Some, Err, Ok, Result}
 use Rattle.basis.specs.Kit.{sym, ap, ◌∙◌}
 use Rattle.basis.specs.Among.{Among, here, there}
 use Rattle.basis.proofs.Kit.{arith}
 use Rattle.basis.proofs.AmongLaws.{among-nil}
 use mathlib.Core.Path.{subst}
 use native.Mathlib.Nat.{zero-add, add-zero}
+use mathlib.Core.Option.{some}
 use lib.ListN.{get_elem?}
 use Rattle.basis.proofs.Never.{never}
 use Rattle.reply.specs.declared.Refusal.{Refusal}
@@ -22,8 +23,7 @@ use Rattle.reply.specs.Verdicts.{first_fault, Verdict, fine}
 use Rattle.reply.proofs.VerdictLaws.{refused-fine}
 use Rattle.scope.specs.declared.lookup.LookupScope.{LookupScope}
 use Rattle.sheetform.specs.Form.{judge_sheet}
-use Rattle.request.specs.Request as tree
-use Rattle.request.specs.Request.{request_of}
+use Rattle.request.specs.Request.{RequestOption, Request, request_of}
 use Rattle.requestform.specs.Form.{judge_request}
 use Rattle.records.specs.Records.{Recs, nil}
 use Rattle.lookups.specs.Lookups.{Lookups, Message, walking}
@@ -37,69 +37,69 @@ use Rattle.alone.specs.Alone.{fault_of}
 use Rattle.places.specs.Places.{scope_of, options_type, options_at, settled_in, OptionRefused}
 
 -- ---- the options in order
-pub record FirstFault (f : tree.Option → Settled) (os : List tree.Option) (k : ℕ) (e : Fault) : Type 0 where
-  pub option : tree.Option
-  pub at : get_elem? os k ≡ Some option
+pub record FirstFault (f : RequestOption → Settled) (os : List RequestOption) (k : ℕ) (e : Fault) : Type 0 where
+  pub option : RequestOption
+  pub at : get_elem? os k ≡ some option
   pub fault : f option ≡ fails e
-  pub before : (j : ℕ) → j < k → (o : tree.Option) → get_elem? os j ≡ Some o → fault_of (f o) ≡ None
+  pub before : (j : ℕ) → j < k → (o : RequestOption) → get_elem? os j ≡ some o → fault_of (f o) ≡ None
 
-pub at-below : (os : List tree.Option) (k : ℕ) (o : tree.Option) → get_elem? os k ≡ Some o → k < length os
+pub at-below : (os : List RequestOption) (k : ℕ) (o : RequestOption) → get_elem? os k ≡ some o → k < length os
 at-below [] zero o e = never cc
 at-below [] (suc k) o e = never cc
 at-below (x ∷ os) zero o e = omega arith
 at-below (x ∷ os) (suc k) o e = let h = at-below os k o e in omega (arith, h)
 
-pub at_some : (os : List tree.Option) (k : ℕ) → k < length os → (o : tree.Option) × (get_elem? os k ≡ Some o)
+pub at_some : (os : List RequestOption) (k : ℕ) → k < length os → (o : RequestOption) × (get_elem? os k ≡ some o)
 at_some [] k h = absurd (omega (arith, h))
 at_some (x ∷ os) zero h = (x, refl)
 at_some (x ∷ os) (suc k) h = at_some os k (omega (arith, h))
 
-pub at-among : (os : List tree.Option) (k : ℕ) (o : tree.Option) → get_elem? os k ≡ Some o → Among o os
+pub at-among : (os : List RequestOption) (k : ℕ) (o : RequestOption) → get_elem? os k ≡ some o → Among o os
 at-among [] zero o e = never cc
 at-among [] (suc k) o e = never cc
-at-among (x ∷ os) zero o e = let y : x ≡ o = cc in subst (λ (z : tree.Option). Among z (x ∷ os)) y here
+at-among (x ∷ os) zero o e = let y : x ≡ o = cc in subst (λ (z : RequestOption). Among z (x ∷ os)) y here
 at-among (x ∷ os) (suc k) o e = there (at-among os k o e)
 
 -- all options pass, or one is the first that does not
-pub data Searched (f : tree.Option → Settled) (os : List tree.Option) : Type 0 where
-  passed : ((o : tree.Option) → Among o os → fault_of (f o) ≡ None) → Searched f os
+pub data Searched (f : RequestOption → Settled) (os : List RequestOption) : Type 0 where
+  passed : ((o : RequestOption) → Among o os → fault_of (f o) ≡ None) → Searched f os
   fault : (k : ℕ) (e : Fault) → FirstFault f os k e → Searched f os
 
-module _ (f : tree.Option → Settled) where
+module _ (f : RequestOption → Settled) where
   pub fails-none : {v : Settled} {e : Fault} → v ≡ fails e → fault_of v ≡ None → ⊥
   fails-none {v} {e} g h = let y : Some e ≡ None = sym (ap fault_of g) ∙ h in never cc
 
-  pub first-here : (x : tree.Option) (os : List tree.Option) (e : Fault) → f x ≡ fails e → FirstFault f (x ∷ os) 0 e
+  pub first-here : (x : RequestOption) (os : List RequestOption) (e : Fault) → f x ≡ fails e → FirstFault f (x ∷ os) 0 e
   first-here x os e g = record { option = x; at = refl; fault = g; before = λ j h. absurd (omega (arith, h)) }
 
-  module _ (x : tree.Option) (os : List tree.Option) (g : fault_of (f x) ≡ None) where
+  module _ (x : RequestOption) (os : List RequestOption) (g : fault_of (f x) ≡ None) where
     first-there : {k : ℕ} {e : Fault} → FirstFault f os k e → FirstFault f (x ∷ os) (suc k) e
     first-there {k} {e} u = record { option = u.option; at = u.at; fault = u.fault; before = earlier }
       where
-        earlier : (j : ℕ) → j < suc k → (o : tree.Option) → get_elem? (x ∷ os) j ≡ Some o → fault_of (f o) ≡ None
-        earlier zero h o y = let z : x ≡ o = cc in subst (λ (v : tree.Option). fault_of (f v) ≡ None) z g
+        earlier : (j : ℕ) → j < suc k → (o : RequestOption) → get_elem? (x ∷ os) j ≡ some o → fault_of (f o) ≡ None
+        earlier zero h o y = let z : x ≡ o = cc in subst (λ (v : RequestOption). fault_of (f v) ≡ None) z g
         earlier (suc j) h o y = u.before j (omega (arith, h)) o y
 
     searched-there : Searched f os → Searched f (x ∷ os)
     searched-there (fault k e u) = fault (suc k) e (first-there u)
     searched-there (passed h) = passed all
       where
-        all : (o : tree.Option) → Among o (x ∷ os) → fault_of (f o) ≡ None
+        all : (o : RequestOption) → Among o (x ∷ os) → fault_of (f o) ≡ None
         all o here = g
         all o (there m) = h o m
 
-  search-here : (x : tree.Option) (os : List tree.Option) (v : Settled) → f x ≡ v → Searched f os → Searched f (x ∷ os)
+  search-here : (x : RequestOption) (os : List RequestOption) (v : Settled) → f x ≡ v → Searched f os → Searched f (x ∷ os)
   search-here x os (known k) g more = searched-there x os (ap fault_of g) more
   search-here x os (others y) g more = searched-there x os (ap fault_of g) more
   search-here x os (fails e) g more = fault 0 e (first-here x os e g)
 
-  pub searched : (os : List tree.Option) → Searched f os
+  pub searched : (os : List RequestOption) → Searched f os
   searched [] = passed λ o m. among-nil m
   searched (x ∷ os) = search-here x os (f x) refl (searched os)
 
 -- ---- what they come to together
 module _ (L : Lookups) (s r scope : List ℕ) (m : Message) where
-  abbrev come : tree.Option → Settled
+  abbrev come : RequestOption → Settled
   come o = settle L s r scope m o
 
   pub record Gathers (g : Gathered) : Type 0 where
@@ -107,12 +107,12 @@ module _ (L : Lookups) (s r scope : List ℕ) (m : Message) where
     pub rest : Recs
     pub is : g ≡ gathered knowns rest
 
-  module _ (i : ℕ) (ks : List Known) (x : Recs) (o : tree.Option) (os : List tree.Option) where
+  module _ (i : ℕ) (ks : List Known) (x : Recs) (o : RequestOption) (os : List RequestOption) where
     gather-next : (v : Settled) → come o ≡ v
         → gather L s r scope m i ks x (o ∷ os) ≡ next i ks x v (λ ks' x'. gather L s r scope m (i + 1) ks' x' os)
     gather-next v g = ap (λ (z : Settled). next i ks x z (λ ks' x'. gather L s r scope m (i + 1) ks' x' os)) g
 
-  pub gather-passed : (os : List tree.Option) → ((o : tree.Option) → Among o os → fault_of (come o) ≡ None) → (i : ℕ) (ks : List Known)
+  pub gather-passed : (os : List RequestOption) → ((o : RequestOption) → Among o os → fault_of (come o) ≡ None) → (i : ℕ) (ks : List Known)
       (x : Recs) → Gathers (gather L s r scope m i ks x os)
   gather-passed [] h i ks x = record { knowns = ks; rest = x; is = refl }
   gather-passed (o ∷ os) h i ks x =
@@ -124,11 +124,11 @@ module _ (L : Lookups) (s r scope : List ℕ) (m : Message) where
       go (others y) g n more = subst Gathers (sym (gather-next i ks x o os (others y) g)) (more ks _)
       go (fails e) g n more = absurd (fails-none come g n)
 
-  first_rest : {x : tree.Option} {os : List tree.Option} {k : ℕ} {e : Fault} → FirstFault come (x ∷ os) (suc k) e → FirstFault come os k e
+  first_rest : {x : RequestOption} {os : List RequestOption} {k : ℕ} {e : Fault} → FirstFault come (x ∷ os) (suc k) e → FirstFault come os k e
   first_rest u =
       record { option = u.option; at = u.at; fault = u.fault; before = λ j h o y. u.before (suc j) (omega (arith, h)) o y }
 
-  pub gather-first : (os : List tree.Option) (k : ℕ) (e : Fault) → FirstFault come os k e → (i : ℕ) (ks : List Known) (x : Recs)
+  pub gather-first : (os : List RequestOption) (k : ℕ) (e : Fault) → FirstFault come os k e → (i : ℕ) (ks : List Known) (x : Recs)
       → gather L s r scope m i ks x os ≡ stopped (cause_at (i + k) e)
   gather-first [] k e u i ks x = absurd (omega (arith, at-below [] k u.option u.at))
   gather-first (o ∷ os) zero e u i ks x =
@@ -162,7 +162,7 @@ refused-never : {x y : Steps} → x ≡ y → ((c : Cause) → y ≡ refused c �
 refused-never e n c h = absurd (n c (sym e ∙ h))
 
 module _ (s r : List ℕ) where
-  abbrev request : tree.Request
+  abbrev request : Request
   request = request_of r
 
   module _ (f : judge_sheet s ≡ fine) (g : judge_request r ≡ fine) where
@@ -170,7 +170,7 @@ module _ (s r : List ℕ) where
     unfolding resolving_by steps_of
     steps-fine = rw (f, g) refl
 
-    pub steps-some : {o : tree.Option} {os : List tree.Option} → request.options ≡ o ∷ os → (u : Result LookupScope Refusal) → (walking s).message (options_type r) ≡ u
+    pub steps-some : {o : RequestOption} {os : List RequestOption} → request.options ≡ o ∷ os → (u : Result LookupScope Refusal) → (walking s).message (options_type r) ≡ u
         → resolving s r ≡ on_type (walking s) s r request u
     steps-some h u e = steps-fine ∙ ap (some_options (walking s) s r request) h ∙ ap (on_type (walking s) s r request) e
 
@@ -190,16 +190,16 @@ module _ (s r : List ℕ) where
           passes (λ k. fails-none (settled_in s r p) (subst (λ (z : LookupScope). settled_in s r z k.option ≡ fails k.fault) (same_place k) k.refused) (h k.option k.one))
           (refused-never (on ∙ ap steps_in y.is) (λ c e. never cc))
 
-    by-type : {o : tree.Option} {os : List tree.Option} → request.options ≡ o ∷ os → (u : Result LookupScope Refusal) → (walking s).message (options_type r) ≡ u
+    by-type : {o : RequestOption} {os : List RequestOption} → request.options ≡ o ∷ os → (u : Result LookupScope Refusal) → (walking s).message (options_type r) ≡ u
         → Resolves s r
     by-type h (Err w) t =
         passes (λ k. let y : Ok k.place ≡ Err w = sym k.type ∙ t in never cc)
         (refused-bare w (steps-some h (Err w) t))
     by-type h (Ok p) t = of-searched p t (steps-some h (Ok p) t) (searched (settled_in s r p) request.options)
 
-    by-options : (os : List tree.Option) → request.options ≡ os → Resolves s r
+    by-options : (os : List RequestOption) → request.options ≡ os → Resolves s r
     by-options [] h =
-        passes (λ k. among-nil (subst (λ (z : List tree.Option). Among k.option z) h k.one))
+        passes (λ k. among-nil (subst (λ (z : List RequestOption). Among k.option z) h k.one))
         (refused-never (steps-fine ∙ ap (some_options (walking s) s r request) h) (λ c e. never cc))
     by-options (o ∷ os) h = by-type h ((walking s).message (options_type r)) refl
 

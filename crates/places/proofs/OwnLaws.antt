@@ -7,8 +7,7 @@ use Rattle.basis.proofs.AmongLaws.{among-nil}
 use Rattle.basis.proofs.Never.{never}
 use Rattle.scope.specs.declared.lookup.LookupScope.{LookupScope}
 use Rattle.sheetform.specs.Form.{judge_sheet}
-use Rattle.request.specs.Request as tree
-use Rattle.request.specs.Request.{request_of}
+use Rattle.request.specs.Request.{RequestOption, request_of}
 use Rattle.records.specs.Records.{Recs, nil}
 use Rattle.lookups.specs.Lookups.{walking}
 use Rattle.faults.specs.declared.Fault.{Fault}
@@ -22,7 +21,7 @@ use Rattle.places.proofs.FirstLaws.{first-here, gather-first, gather-passed, ste
 use Rattle.reply.specs.Verdicts.{fine}
 
 module _ (s r : List ℕ) (f : judge_sheet s ≡ fine) (p : LookupScope) (t : (walking s).message (options_type r) ≡ Ok p)
-    (i : ℕ) (o : tree.Option) (k : Own r i o) where
+    (i : ℕ) (o : RequestOption) (k : Own r i o) where
   abbrev own : List ℕ
   own = alone r i
 
@@ -37,7 +36,7 @@ module _ (s r : List ℕ) (f : judge_sheet s ≡ fine) (p : LookupScope) (t : (w
 
   own-gathers : resolving s own ≡ steps_in (gather (walking s) s own (scope_of own) (options_at own p) 0 [] nil (k.own ∷ []))
   own-gathers =
-      own-steps ∙ ap (λ (os : List tree.Option). steps_in (gather (walking s) s own (scope_of own) (options_at own p) 0 [] nil os)) k.options
+      own-steps ∙ ap (λ (os : List RequestOption). steps_in (gather (walking s) s own (scope_of own) (options_at own p) 0 [] nil os)) k.options
 
   faulty : (v : Settled) (e : Fault) → fault_of v ≡ Some e → v ≡ fails e
   faulty (known x) e h = never cc
@@ -60,6 +59,6 @@ module _ (s r : List ℕ) (f : judge_sheet s ≡ fine) (p : LookupScope) (t : (w
       let g = gather-passed (walking s) s own (scope_of own) (options_at own p) (k.own ∷ []) all 0 [] nil in
       record { recs = _; is = own-gathers ∙ ap steps_in g.is }
     where
-      all : (x : tree.Option) → Among x (k.own ∷ []) → fault_of (settled_in s own p x) ≡ None
+      all : (x : RequestOption) → Among x (k.own ∷ []) → fault_of (settled_in s own p x) ≡ None
       all x here = own_same ∙ h
       all x (there m) = among-nil m

@@ -20,7 +20,7 @@ use Rattle.sheet.specs.declared.declaration.Shape.{Shape}
 use Rattle.sheet.specs.declared.declaration.Declaration.{Declaration}
 use Rattle.request.specs.declared.name.Part.{Part}
 use Rattle.request.specs.Tree.{Constants}
-use Rattle.request.specs.Request as tree
+use Rattle.request.specs.Request.{RequestOption}
 use Rattle.records.specs.Records.{nil}
 use Rattle.records.specs.Made.{Made, made, wrong, holding}
 use Rattle.lookups.specs.Lookups.{Lookups, Message}
@@ -145,7 +145,7 @@ module _ (L : Lookups) (s r scope : List ℕ) where
         (λ n. option-fault (i + 1) n (q ∷ ps) f) (step_of L s r scope m p) refl e
 
   -- ---- what an option comes to
-  module _ (m : Message) (o : tree.Option) (f : Fault) where
+  module _ (m : Message) (o : RequestOption) (f : Fault) where
     built-fault : (p : Part) → builtin_part o.parts ≡ Some p → (v : Result (Option Built) Refusal)
         → builtin_of L s r m (text r p.name) o.constant ≡ v → settled_built r v ≡ fails f → FaultOf L s r scope m o f
     built-fault p g (Ok None) h e = never cc
@@ -177,6 +177,6 @@ module _ (L : Lookups) (s r scope : List ℕ) where
   whole_parts [] p g = never cc
   whole_parts (q ∷ qs) p g = omega arith
 
-  pub fault-below : (m : Message) (o : tree.Option) {f : Fault} → FaultOf L s r scope m o f → f.part < length o.parts
+  pub fault-below : (m : Message) (o : RequestOption) {f : Fault} → FaultOf L s r scope m o f → f.part < length o.parts
   fault-below m o (builtin {p} g h) = whole_parts o.parts p g
   fault-below m o (named g k) = at-below k

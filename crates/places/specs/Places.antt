@@ -19,7 +19,8 @@
 --                 Bare o <-> what comes to o is refused nowhere, if it is
 --
 -- Assumes nothing.
-use Rattle.std.specs.Prelude.{◌≡◌, List, [], ℕ, ◌<◌, length, ◌⊎◌, Some, Ok}
+use Rattle.std.specs.Prelude.{◌≡◌, List, [], ℕ, ◌<◌, length, ◌⊎◌, Ok}
+use mathlib.Core.Option.{some}
 use Rattle.basis.specs.Among.{Among}
 use Rattle.std.proofs.Math.ListN.{get_elem?}
 use Rattle.reply.specs.declared.Refusal.{Refusal}
@@ -103,7 +104,7 @@ pub record FirstRefused (s r : List ℕ) (a : Answer) : Type 0 where
 
 pub record PartRefused (s r : List ℕ) (a : Answer) : Type 0 where
   pub option : RequestOption
-  pub at : get_elem? (request_of r).options a.option ≡ Some option
+  pub at : get_elem? (request_of r).options a.option ≡ some option
   pub below : a.part < length option.parts
   pub place : LookupScope
   pub type : (walking s).message (options_type r) ≡ Ok place

@@ -52,12 +52,11 @@ module _ (x : Result (Option Row) Cause) (l : List ℕ) (a : Answer) where
   pub seen-refused : (c : Cause) → x ≡ Err c → a ≡ refused_for c → Answered (outcome_of x) l l a
   seen-refused c g e = rw e (answered-refused (outcome_of x) l c (ap outcome_of g))
 
-  module _ (b : Option Row) (g : x ≡ Ok b) where
-    pub seen_none : b ≡ None → a ≡ absent_answer → Answered (outcome_of x) l l a
-    seen_none h e = rw e (answered-absent (outcome_of x) l (ap outcome_of g ∙ ap (λ (y : Option Row). outcome_of (Ok y)) h))
+  pub seen_none : x ≡ Ok None → a ≡ absent_answer → Answered (outcome_of x) l l a
+  seen_none g e = rw e (answered-absent (outcome_of x) l (ap outcome_of g))
 
-    pub seen-row : (y : Row) → b ≡ Some y → (l' : List ℕ) → Answered (give (words y)) l l' a → Answered (outcome_of x) l l' a
-    seen-row y h l' k = rw (ap outcome_of g ∙ ap (λ (z : Option Row). outcome_of (Ok z)) h) k
+  pub seen-row : (y : Row) → x ≡ Ok (Some y) → (l' : List ℕ) → Answered (give (words y)) l l' a → Answered (outcome_of x) l l' a
+  seen-row y g l' k = rw (ap outcome_of g) k
 
 pub ruleset seen_answer_laws = (seen-refused, seen_none, seen-row)
 

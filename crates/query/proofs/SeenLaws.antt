@@ -23,13 +23,12 @@ use Rattle.entries.specs.Reading.{Listed, listed, refused, reading}
 use Rattle.entries.specs.inner.Fronts.{message}
 use Rattle.levels.specs.declared.Cursor.{Cursor}
 use Rattle.levels.specs.declared.Event.{Event}
-use Rattle.levels.specs.declared.Event.TheVariants.{Record, End, Wrong}
 use Rattle.levels.specs.inner.Left.{flat, left, Open, Starts, Moves}
 use Rattle.levels.proofs.StartLaws.{start-open, start_left}
 use Rattle.levels.proofs.MovesLaws.{moved_open, moved-rest, moved-less, moved-end, moved-wrong}
 use Rattle.following.specs.declared.Step.{Step}
 use Rattle.naming.specs.declared.Naming.{Naming}
-use Rattle.naming.specs.declared.Naming.TheVariants.{Parts, Group, Err as RefusedName}
+use Rattle.naming.specs.declared.Naming.TheVariants.{Parts, Group}
 use Rattle.naming.specs.Name.{Named, declarations}
 use Rattle.following.specs.Reached.{never}
 use Rattle.following.specs.inner.Keys.{key_of, key_words, keys_from}
@@ -65,38 +64,38 @@ module _ (s type bs ks : List ℕ) (n : ℕ) (whole : Outcome Row) (st : List �
   pub seeing-open : Open s bs st c
   seeing-open = u.opens
 
-  module _ (st' : List ℕ) (r : Event)
+  module _ (st' : List ℕ) (r : Result (Option Event) Refusal)
       (v : Moves s type bs (left (walking s) s type bs st c.depth c.at) c.at st' r) where
-    ended : r ≡ End → seen_in ks n nothing_yet whole ≡ Ok (so_far k o b).best
+    ended : r ≡ Ok None → seen_in ks n nothing_yet whole ≡ Ok (so_far k o b).best
     ended g = u.rest ∙ ap (seen_in ks n (so_far k o b)) (moved-end s type bs _ c.at st' r v g)
 
-    pub seeing-found : r ≡ End → o ≡ true → Ok b ≡ seen_in ks n nothing_yet whole
+    pub seeing-found : r ≡ Ok None → o ≡ true → Ok b ≡ seen_in ks n nothing_yet whole
     seeing-found g h = sym (ended g ∙ ap (λ (x : Bool). Ok (only_if x b None)) h)
 
-    pub seeing-none : r ≡ End → o ≡ false → Ok None ≡ seen_in ks n nothing_yet whole
+    pub seeing-none : r ≡ Ok None → o ≡ false → Ok None ≡ seen_in ks n nothing_yet whole
     seeing-none g h = sym (ended g ∙ ap (λ (x : Bool). Ok (only_if x b None)) h)
 
-    pub seeing-wrong : (w : Refusal) → r ≡ Wrong w → (c' : Cause) → c' ≡ bare w → Err c' ≡ seen_in ks n nothing_yet whole
+    pub seeing-wrong : (w : Refusal) → r ≡ Err w → (c' : Cause) → c' ≡ bare w → Err c' ≡ seen_in ks n nothing_yet whole
     seeing-wrong w g c' e = ap Err e ∙ sym (u.rest ∙ ap (seen_in ks n (so_far k o b)) (moved-wrong s type bs _ c.at st' r v w g))
 
-    module _ (x : Row) (d : Cursor) (g : r ≡ Record x d) (y : Step) (e : y ≡ step_of ks n k o x.level x.entry.by) where
-      stepped : (b' : Option Row) → only_if y.takes (Some x) b ≡ b' → Seeing s type bs ks n whole st' d y.matched y.counts b'
+    module _ (t : Event) (g : r ≡ Ok (Some t)) (y : Step) (e : y ≡ step_of ks n k o t.row.level t.row.entry.by) where
+      stepped : (b' : Option Row) → only_if y.takes (Some t.row) b ≡ b' → Seeing s type bs ks n whole st' t.rest y.matched y.counts b'
       stepped b' h =
           let f = so_far k o b in
-          let next = left (walking s) s type bs st' d.depth d.at in
+          let next = left (walking s) s type bs st' t.rest.depth t.rest.at in
           record {
-            opens = moved_open s type bs _ c.at st' r v x d g;
+            opens = moved_open s type bs _ c.at st' r v t g;
             rest =
-                u.rest ∙ ap (seen_in ks n f) (moved-rest s type bs _ c.at st' r v x d g) ∙ seen-push ks n f x next
-                ∙ ap (λ (p : Followed). seen_in ks n p next) (sym (step_after ks n k o b x) ∙ ap (λ (z : Step). after z b x) (sym e))
+                u.rest ∙ ap (seen_in ks n f) (moved-rest s type bs _ c.at st' r v t g) ∙ seen-push ks n f t.row next
+                ∙ ap (λ (p : Followed). seen_in ks n p next) (sym (step_after ks n k o b t.row) ∙ ap (λ (z : Step). after z b t.row) (sym e))
                 ∙ ap (λ (p : Option Row). seen_in ks n (so_far y.matched y.counts p) next) h;
           }
 
-      pub seeing-taken : y.takes ≡ true → (b' : Option Row) → Some x ≡ b' → Seeing s type bs ks n whole st' d y.matched y.counts b'
-      seeing-taken h b' z = stepped b' (ap (λ (t : Bool). only_if t (Some x) b) h ∙ z)
+      pub seeing-taken : y.takes ≡ true → (b' : Option Row) → Some t.row ≡ b' → Seeing s type bs ks n whole st' t.rest y.matched y.counts b'
+      seeing-taken h b' z = stepped b' (ap (λ (z : Bool). only_if z (Some t.row) b) h ∙ z)
 
-      pub seeing-kept : y.takes ≡ false → Seeing s type bs ks n whole st' d y.matched y.counts b
-      seeing-kept h = stepped b (ap (λ (t : Bool). only_if t (Some x) b) h)
+      pub seeing-kept : y.takes ≡ false → Seeing s type bs ks n whole st' t.rest y.matched y.counts b
+      seeing-kept h = stepped b (ap (λ (z : Bool). only_if z (Some t.row) b) h)
 
 pub ruleset seeing_laws = (
   not-true,
@@ -112,24 +111,24 @@ pub ruleset seeing_laws = (
 )
 
 -- ---- count_of and settle
-module _ (r : Naming) where
-  pub count-parts : (n : ℕ) → r ≡ Parts n → n ≡ count_of r
+module _ (r : Result Naming Cause) where
+  pub count-parts : (n : ℕ) → r ≡ Ok (Parts n) → n ≡ count_of r
   count-parts n e = rw e
 
-  pub count-group : r ≡ Group → 0 ≡ count_of r
+  pub count-group : r ≡ Ok Group → 0 ≡ count_of r
   count-group e = rw e
 
-  pub count-refused : (c : Cause) → r ≡ RefusedName c → 0 ≡ count_of r
+  pub count-refused : (c : Cause) → r ≡ Err c → 0 ≡ count_of r
   count-refused c e = rw e
 
   module _ (b : Option Row) where
-    pub settle-parts : (n : ℕ) → r ≡ Parts n → Ok b ≡ settled r b
+    pub settle-parts : (n : ℕ) → r ≡ Ok (Parts n) → Ok b ≡ settled r b
     settle-parts n e = rw e
 
-    pub settle-group : r ≡ Group → Ok None ≡ settled r b
+    pub settle-group : r ≡ Ok Group → Ok None ≡ settled r b
     settle-group e = rw e
 
-    pub settle-refused : (c : Cause) → r ≡ RefusedName c → Err c ≡ settled r b
+    pub settle-refused : (c : Cause) → r ≡ Err c → Err c ≡ settled r b
     settle-refused c e = rw e
 
 pub ruleset name_settle_laws = (count-parts, count-group, count-refused, settle-parts, settle-group, settle-refused)
@@ -159,19 +158,19 @@ module _ (q : List ℕ) (fine : judge_name q ≡ fine) (us : List ℕ) (size : l
 
   module _ (L : Lookups) (s : List ℕ) (m : Message) where
     -- as many declarations as parts
-    parts-few : {x : Named} {i : ℕ} {ws ws' : List ℕ} {v : Naming} {j : ℕ} → Declares never x i ws ws' v
-        → x ≡ declarations L s q 0 m (parts_in (walk q 0 (length q))) → v ≡ Parts j → i ≡ 0 → j ≤ length (parts_in (walk q 0 (length q)))
+    parts-few : {x : Named} {i : ℕ} {ws ws' : List ℕ} {v : Result Naming Cause} {j : ℕ} → Declares never x i ws ws' v
+        → x ≡ declarations L s q 0 m (parts_in (walk q 0 (length q))) → v ≡ Ok (Parts j) → i ≡ 0 → j ≤ length (parts_in (walk q 0 (length q)))
     parts-few {j = j} (declares {ds} {k = i} {n = h} e f o) a g z =
         let same : h ≡ j = cc in
         omega (arith, declarations-length L s q (parts_in (walk q 0 (length q))) 0 m ds (sym a))
     parts-few leaves-group a g z = nothing_left cc
     parts-few refuses a g z = nothing_left cc
 
-    pub over-room : (r : Naming) (n : ℕ) → n ≡ count_of r → (ws : List ℕ) → length ws ≡ length us
+    pub over-room : (r : Result Naming Cause) (n : ℕ) → n ≡ count_of r → (ws : List ℕ) → length ws ≡ length us
         → Declares never (declarations L s q 0 m (parts_in (walk q 0 (length q)))) 0 us ws r → n * key_words ≤ length ws
-    over-room (Parts i) n e ws h k = omega (arith, fine-name-few q fine, parts-few {j = i} k refl refl refl)
-    over-room Group n e ws h k = omega arith
-    over-room (RefusedName c) n e ws h k = omega arith
+    over-room (Ok (Parts i)) n e ws h k = omega (arith, fine-name-few q fine, parts-few {j = i} k refl refl refl)
+    over-room (Ok Group) n e ws h k = omega arith
+    over-room (Err c) n e ws h k = omega arith
 
 module _ (L : Lookups) (s q : List ℕ) (m : Message) (bs ks : List ℕ) (n : ℕ) (v : Result (Option Row) Cause)
     (e : v ≡ seen_in ks n nothing_yet (flat 0 (reading L s most_levels m 0 bs))) where
@@ -184,13 +183,13 @@ module _ (L : Lookups) (s q : List ℕ) (m : Message) (bs ks : List ℕ) (n : �
       go (listed t) h = nothing_left cc
       go (refused w) h = sym h
 
-  pub over-settled : (b : Option Row) → v ≡ Ok b → (us : List ℕ) (r : Naming) → n ≡ count_of r
+  pub over-settled : (b : Option Row) → v ≡ Ok b → (us : List ℕ) (r : Result Naming Cause) → n ≡ count_of r
       → Declares never (declarations L s q 0 m (parts_in (walk q 0 (length q)))) 0 us ks r
       → (y : Result (Option Row) Cause) → y ≡ settled r b → y ≡ queried L s q m bs
   unfolding queried
   over-settled b g us r c k y z = z ∙ go (reading L s most_levels m 0 bs) (sym e ∙ g)
     where
-      by : {x : Named} {i : ℕ} {ws ws' : List ℕ} {r : Naming} (t : Tree) → Declares never x i ws ws' r → i ≡ 0 → ws' ≡ ks → n ≡ count_of r
+      by : {x : Named} {i : ℕ} {ws ws' : List ℕ} {r : Result Naming Cause} (t : Tree) → Declares never x i ws ws' r → i ≡ 0 → ws' ≡ ks → n ≡ count_of r
           → b ≡ (followed ks n nothing_yet (rows 0 t)).best → settled r b ≡ of_named x t
       by t (declares {ds} {k = i} {n = j} {ws} {ws'} h f o) z a d p =
           let count : n ≡ 0 + length ds = omega arith in

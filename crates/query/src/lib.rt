@@ -21,8 +21,8 @@ ghost use Rattle.query.specs.inner.Answering.{seen_in, count_of, settled, querie
 ghost use Rattle.reply.specs.Verdicts.{fine};
 
 use entries::Row;
-use following::{Best, follow};
-use levels::{Cursor, Event, STACK_WORDS, next, start};
+use following::follow;
+use levels::{Cursor, STACK_WORDS, next, start};
 use limits::MOST_PARTS;
 use naming::{Naming, declare};
 use payload::check_bytes;
@@ -35,6 +35,7 @@ use scope::lookup::LookupScope;
 const KEY_WORDS: usize = MOST_PARTS * 2;
 
 // The rows that are left, followed.
+#[tactic(auto, using(crate::proofs::SeenLaws::seeing_laws))]
 fn follow_rows(
     sheet: &[u8],
     options_type: &[u8],
@@ -55,52 +56,51 @@ fn follow_rows(
     let mut best = None;
     loop {
         match next(sheet, options_type, bytes, stack, cursor) {
-            Event::End => {
+            Ok(None) => {
                 if counts {
                     return Ok(best);
                 }
                 return Ok(None);
             }
-            Event::Wrong(why) => return Err(reply::bare(why)),
-            Event::Record { row, rest } => {
+            Err(why) => return Err(reply::bare(why)),
+            Ok(Some(event)) => {
+                let row = event.row;
                 let level = row.level as usize;
-                let entry = row.entry;
-                let by = entry.by;
-                let step = follow(keys, count, matched, counts, level, by);
+                let step = follow(keys, count, matched, counts, level, row.entry.by);
                 if step.takes {
                     best = Some(row);
                 }
                 matched = step.matched;
                 counts = step.counts;
-                cursor = rest;
+                cursor = event.rest;
             }
         }
     }
 }
 
 // How many parts a name has to be followed by: none where it is refused, or parts are left on a group.
-fn count_of(naming: Naming) -> usize
+fn count_of(naming: Result<Naming, Cause>) -> usize
     ensures { result ≡ count_of naming }
 {
     match naming {
-        Naming::Parts(count) => count,
-        Naming::Group => 0,
-        Naming::Refused(_) => 0,
+        Ok(Naming::Parts(count)) => count,
+        _ => 0,
     }
 }
 
 // The best row, where the name comes to its parts; or the name's refusal, at its part.
-fn settle(naming: Naming, best: Option<Row>) -> Result<Option<Row>, Cause>
+#[tactic(auto, using(crate::proofs::SeenLaws::name_settle_laws))]
+fn settle(naming: Result<Naming, Cause>, best: Option<Row>) -> Result<Option<Row>, Cause>
     ensures { result ≡ settled naming best }
 {
-    match naming {
+    match naming? {
         Naming::Parts(_) => Ok(best),
         Naming::Group => Ok(None),
-        Naming::Refused(cause) => Err(cause),
     }
 }
 
 // All rows of option bytes in the message at that place, followed.
+#[tactic(auto, using(crate::proofs::SeenLaws::see_rows_laws))]
 fn see_rows(
     sheet: &[u8],
     options_type: &[u8],
@@ -122,6 +122,7 @@ fn see_rows(
 }
 
 // The row that a name leads to, with room for the levels and for the keys.
+#[tactic(auto, using(crate::proofs::SeenLaws::query_over_laws))]
 fn query_over(
     sheet: &[u8],
     options_type: &[u8],
@@ -140,18 +141,9 @@ fn query_over(
         (message_of options_type.now place) bytes.now }
 {
     let naming = declare(sheet, name, &name[..0], options_type, place, 0, 0, keys);
-    match see_rows(
-        sheet,
-        options_type,
-        place,
-        bytes,
-        stack,
-        keys,
-        count_of(naming),
-    ) {
-        Err(cause) => Err(cause),
-        Ok(best) => settle(naming, best),
-    }
+    let count = count_of(naming);
+    let best = see_rows(sheet, options_type, place, bytes, stack, keys, count)?;
+    settle(naming, best)
 }
 
 // The row that a name leads to.
@@ -182,6 +174,7 @@ fn query_in(
 }
 
 // The eight words of a row, where there is room for them.
+#[tactic(auto, using(crate::proofs::CallLaws::give_row_laws))]
 fn give_row(row: Row, out: &mut [u32]) -> Answer
     ensures { Answered (give (words row)) out.old out.new result }
 {
@@ -193,21 +186,26 @@ fn give_row(row: Row, out: &mut [u32]) -> Answer
 }
 
 // The answer of what was seen.
+#[tactic(auto, using(crate::proofs::CallLaws::seen_answer_laws))]
 fn answer_of(seen: Result<Option<Row>, Cause>, out: &mut [u32]) -> Answer
     ensures { Answered (outcome_of seen) out.old out.new result }
 {
     match seen {
         Err(cause) => reply::refused_for(cause),
-        Ok(best) => match best {
-            None => reply::absent(),
-            Some(row) => give_row(row, out),
-        },
+        Ok(None) => reply::absent(),
+        Ok(Some(row)) => give_row(row, out),
     }
 }
 
 // The message that the options type is, or why there is none: that the sheet is too long, the first fault of the options type, the name
 // and the length of the option bytes, or its look-up. The form of the sheet was tested before.
-fn options_message(sheet: &[u8], options_type: &[u8], name: &[u8], bytes: &[u8]) -> Result<LookupScope, Refusal>
+#[tactic(auto, using(crate::proofs::CallLaws::query_message_laws))]
+fn options_message(
+    sheet: &[u8],
+    options_type: &[u8],
+    name: &[u8],
+    bytes: &[u8],
+) -> Result<LookupScope, Refusal>
     ensures { result ≡ admitted (judge_length sheet.now) sheet.now options_type.now name.now
         bytes.now }
 {
@@ -219,6 +217,7 @@ fn options_message(sheet: &[u8], options_type: &[u8], name: &[u8], bytes: &[u8])
 }
 
 // As `query`, of a sheet whose form was tested before, for whoever asks many times of one sheet: of that its length alone is tested here.
+#[tactic(auto, using(crate::proofs::CallLaws::query_tested_laws))]
 pub fn query_tested(
     sheet: &[u8],
     options_type: &[u8],
@@ -231,13 +230,12 @@ pub fn query_tested(
 {
     match options_message(sheet, options_type, name, bytes) {
         Err(why) => reply::refused(why),
-        Ok(place) => {
-            answer_of(query_in(sheet, options_type, place, name, bytes), out)
-        }
+        Ok(place) => answer_of(query_in(sheet, options_type, place, name, bytes), out),
     }
 }
 
 // The eight words of the record that a name leads to in option bytes, or Absent.
+#[tactic(auto, using(crate::proofs::CallLaws::query_laws))]
 pub fn query(
     sheet: &[u8],
     options_type: &[u8],

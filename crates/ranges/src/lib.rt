@@ -12,7 +12,7 @@ ghost use Rattle.emit.specs.inner.Puts.{Puts};
 use limits::MOST_WORDS;
 use reply::{Answer, Cause, Refusal};
 
-// The kind whose ends stay: an enum's reserved ranges include them.
+// The kind whose ends stay: an enum's reserved ranges include them. A number and no enum: C passes it (`opt_ranges`).
 const ENUM_RESERVED: u32 = 2;
 
 // A range of a descriptor ends before its end, but for an enum's; the largest word has no successor.

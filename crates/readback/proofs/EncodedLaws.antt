@@ -1,8 +1,8 @@
 -- Every listed reading has what the bytes are by Encoding alone: the records at each level, with their numbers, wire types and payloads.
 -- The statement stands at the end.
 -- Assumes nothing.
-use Rattle.std.specs.Prelude.{◌≡◌, refl, List, [], ◌∷◌, ◌++◌, ℕ, zero, suc, ◌+◌, ◌≤◌, length, take, drop}
-use Rattle.basis.specs.Kit.{sym, ap, ◌∙◌, some as is}
+use Rattle.std.specs.Prelude.{◌≡◌, refl, List, [], ◌∷◌, ◌++◌, ℕ, zero, suc, ◌+◌, ◌≤◌, length, take, drop, Some}
+use Rattle.basis.specs.Kit.{sym, ap, ◌∙◌}
 use Rattle.basis.proofs.Kit.{arith}
 use mathlib.Core.Path.{subst}
 use mathlib.Core.List.{append-nil}
@@ -22,6 +22,7 @@ use Rattle.readback.specs.Encoded.{raw_entry, raws, Encoded}
 use Rattle.readback.proofs.ReadingSteps.{Reads, reads_end, reads-leaves, reads_held, reading-reads}
 use Rattle.readback.proofs.ItemLaws.{Fronted, fronted-inside, Made, made-wrong, made-unknown, made_plain, made_held, item-made}
 use Rattle.readback.proofs.LyingLaws.{behind, inside, part-is}
+use Rattle.varint.specs.Varint.{read}
 
 -- ---- records one behind the other
 raw-behind : (k : ℕ) (xs : List ℕ) → raw_from k xs ≡ raw_of (drop k xs)
@@ -30,12 +31,12 @@ raw-behind zero xs = refl
 raw-behind (suc k) [] = refl
 raw-behind (suc k) (x ∷ xs) = raw-behind k xs
 
-raw-step : (xs : List ℕ) (f : Front) (k : ℕ) (rs : List Raw) → front_of xs ≡ is f → suc f.more ≡ k → k ≤ length xs
-    → raw_of (drop k xs) ≡ is rs → raw_of xs ≡ is (f.first ∷ rs)
+raw-step : (xs : List ℕ) (f : Front) (k : ℕ) (rs : List Raw) → front_of xs ≡ Some f → suc f.more ≡ k → k ≤ length xs
+    → raw_of (drop k xs) ≡ Some rs → raw_of xs ≡ Some (f.first ∷ rs)
 unfolding raw_from
 raw-step [] f k rs q e h r = absurd (omega arith)
 raw-step (x ∷ xs) f k rs q e h r =
-    let next : raw_from f.more xs ≡ is rs = raw-behind f.more xs ∙ ap (λ n. raw_of (drop n (x ∷ xs))) e ∙ r in
+    let next : raw_from f.more xs ≡ Some rs = raw-behind f.more xs ∙ ap (λ n. raw_of (drop n (x ∷ xs))) e ∙ r in
     rw (q, next)
 
 -- ---- the record at the front of xs, which stand at a place of bs
@@ -43,7 +44,7 @@ module _ (bs : List ℕ) (place : ℕ) (xs rest : List ℕ) (h : drop place bs �
   -- what the front of the bytes is, of which k are taken
   record Fronts (first : Raw) (k : ℕ) : Type 0 where
     pub front : Front
-    pub found : front_of xs ≡ is front
+    pub found : front_of xs ≡ Some front
     pub is-first : front.first ≡ first
     pub taken : suc front.more ≡ k
     pub room : k ≤ length xs
@@ -67,7 +68,7 @@ module _ (bs : List ℕ) (place : ℕ) (xs rest : List ℕ) (h : drop place bs �
       front = front_on (drop n xs) t n x;
       found = rw (f.tag, on_read, f.good, behind_tag, f.found);
       is-first = rw (part-front, drop-drop);
-      taken = omega (arith, read_some xs t n f.tag);
+      taken = omega (arith, read_some xs (read t n) f.tag);
       room = fronted-inside xs t n x f;
     }
 
@@ -91,7 +92,7 @@ module _ (bs : List ℕ) (L : Lookups) (s : List ℕ) where
       let front = here.2 in
       let later = reads-raw r rest (behind bs place xs rest h k front.room) in
       let q = raw-step xs front.front k (raws bs t) front.found front.taken front.room later.here in
-      rw here.1 record { here = q ∙ ap (λ x. is (x ∷ raws bs t)) front.is-first; inside = later.inside }
+      rw here.1 record { here = q ∙ ap (λ x. Some (x ∷ raws bs t)) front.is-first; inside = later.inside }
   reads-raw (reads_held {m} {place} {xs} {e} {n} {k} {size} {i} {t} g j r) rest h =
       let here = item-raw bs place xs rest h L s m (into e n k size) g in
       let front = here.0 in
@@ -100,7 +101,7 @@ module _ (bs : List ℕ) (L : Lookups) (s : List ℕ) where
       let within = reads-raw j (drop size (drop k xs) ++ rest) (inside bs place xs rest h k size room) in
       let q = raw-step xs front.front (k + size) (raws bs t) front.found front.taken front.room later.here in
       record {
-        here = q ∙ ap (λ x. is (x ∷ raws bs t)) front.is-first;
+        here = q ∙ ap (λ x. Some (x ∷ raws bs t)) front.is-first;
         inside = (ap raw_of here.1 ∙ within.here, within.inside, later.inside);
       }
 

@@ -10,11 +10,11 @@ use Rattle.entries.specs.Tree.{Tree, end, one, held, row}
 use Rattle.entries.proofs.Either.{either}
 use Rattle.following.specs.Reached.{is_by, listed_by, inside_after, last_after, last_row, reached}
 use Rattle.following.specs.Reached as following
-use Rattle.readback.specs.Follows.{None, Last, last_one, last-held, behind-one, behind-held}
+use Rattle.readback.specs.Follows.{Unlisted, Last, last_one, last-held, behind-one, behind-held}
 use Rattle.readback.specs.Follows.{Follows, follows-last, follows-inside}
 
 module _ (d : Declaration) where
-  none-listed : (t : Tree) → None d t → listed_by d t ≡ end
+  none-listed : (t : Tree) → Unlisted d t → listed_by d t ≡ end
   none-listed end n = refl
   none-listed (one e t) n = rw (n.0, listed_by) (none-listed t n.1)
   none-listed (held e i t) n = rw (n.0, listed_by) (none-listed t n.1)
@@ -41,7 +41,7 @@ module _ (d : Declaration) where
   -- there is a last one, or none
   data Sought (t : Tree) : Type 0 where
     found : {e : Entry} {i : Tree} → Last d t e i → Sought t
-    nowhere : None d t → Sought t
+    nowhere : Unlisted d t → Sought t
 
   sought : (t : Tree) → Sought t
   sought end = nowhere tt

@@ -2,7 +2,7 @@
 -- declares its number.
 -- Assumes nothing.
 use Rattle.std.specs.Prelude.{◌≡◌, refl, true, List, [], ◌∷◌, ◌++◌, ℕ, ◌+◌, ◌^◌, ◌≤◌, ◌<◌, length, take, drop, None, Ok, Some}
-use Rattle.basis.specs.Kit.{sym, ap, ◌∙◌, some as is}
+use Rattle.basis.specs.Kit.{sym, ap, ◌∙◌}
 use Rattle.basis.proofs.Kit.{arith, eq-eqb, ne_eqb}
 use mathlib.Core.Path.{ap₂}
 use mathlib.Core.List.{append_assoc}
@@ -37,7 +37,7 @@ head_size n w lead = length (varint (tag_of n w)) + length lead
 pub record Front (n w : ℕ) (lead body ys : List ℕ) : Type 0 where
   pub range : (1 ≤ n) × (n ≤ most_number)
   pub good : wire_read w ≡ true
-  pub found : payload_at w (lead ++ (body ++ ys)) ≡ is (record { before = length lead; size = length body })
+  pub found : payload_at w (lead ++ (body ++ ys)) ≡ Some (record { before = length lead; size = length body })
 
 module _ {n w : ℕ} {lead body ys : List ℕ} (f : Front n w lead body ys) where
   abbrev v : List ℕ
@@ -72,24 +72,24 @@ module _ {n w : ℕ} {lead body ys : List ℕ} (f : Front n w lead body ys) wher
     abbrev at : ℕ
     at = place + head_size n w lead
 
-    item-is : item L s m place all ≡ by_declaration L s m place all (declared s m n) (tag_of n w) (length v) (is extent)
+    item-is : item L s m place all ≡ by_declaration L s m place all (declared s m n) (tag_of n w) (length v) (Some extent)
     unfolding item
     item-is =
         let low = wire-read-lt w f.good in
-        let here : payload_at (wire_type_of (tag_of n w)) (drop (length v) all) ≡ is extent =
+        let here : payload_at (wire_type_of (tag_of n w)) (drop (length v) all) ≡ Some extent =
         ap₂ payload_at (wire-type-of-tag-of n w low) behind-tag ∙ f.found in
         rw (tag_read, tag-of-good n w f.range.0 f.range.1 f.good, by_tag)
         (ap₂ (λ k x. by_declaration L s m place all (declared s m k) (tag_of n w) (length v) x) (number-of-tag-of n w low) here)
 
     module _ (d : Declaration) where
-      entry-is : entry L s m place all d (tag_of n w) (length v) extent ≡ entry_by (is d) n w at body
+      entry-is : entry L s m place all d (tag_of n w) (length v) extent ≡ entry_by (Some d) n w at body
       entry-is =
           let low = wire-read-lt w f.good in
           rw (body-is, number-of-tag-of n w low, wire-type-of-tag-of n w low) refl
 
       plain_is : wire_of d.shape.typ ≡ w
-          → by_declaration L s m place all (is d) (tag_of n w) (length v) (is extent)
-          ≡ plain L s m place all d (tag_of n w) (length v) (is extent)
+          → by_declaration L s m place all (Some d) (tag_of n w) (length v) (Some extent)
+          ≡ plain L s m place all d (tag_of n w) (length v) (Some extent)
       plain_is e =
           let same : wire_of d.shape.typ ≡ wire_type_of (tag_of n w) = e ∙ sym (wire-type-of-tag-of n w (wire-read-lt w f.good)) in
           rw (known, eq-eqb _ _ same)
@@ -100,14 +100,14 @@ module _ {n w : ℕ} {lead body ys : List ℕ} (f : Front n w lead body ys) wher
         let low = wire-read-lt w f.good in
         item-is ∙ rw (q, number-of-tag-of n w low, wire-type-of-tag-of n w low, size_is) refl
 
-    module _ (d : Declaration) (q : declared s m n ≡ is d) (e : wire_of d.shape.typ ≡ w) where
+    module _ (d : Declaration) (q : declared s m n ≡ Some d) (e : wire_of d.shape.typ ≡ w) where
       item-plain : (d.shape.typ ≡ TYPE_MESSAGE → ⊥)
-          → item L s m place all ≡ some (entry_by (is d) n w at body ∷ []) (length (record_bytes n w lead body))
+          → item L s m place all ≡ some (entry_by (Some d) n w at body ∷ []) (length (record_bytes n w lead body))
       item-plain h =
           item-is ∙ rw q (plain_is d e ∙ rw (plain, ne_eqb _ _ h, entry-is d, size_is))
 
       item-message : d.shape.typ ≡ TYPE_MESSAGE → (p : LookupScope) → L.message (path_of s d) ≡ Ok p
-          → item L s m place all ≡ into (entry_by (is d) n w at body) (reached_by s d p) (head_size n w lead) (length body)
+          → item L s m place all ≡ into (entry_by (Some d) n w at body) (reached_by s d p) (head_size n w lead) (length body)
       item-message h p g = item-is ∙ rw q (plain_is d e ∙ rw (plain, eq-eqb _ _ h, entry-is d, g))
 
     -- ---- the reading step, and what is left behind the record
@@ -134,16 +134,16 @@ module _ {n w : ℕ} {lead body ys : List ℕ} (f : Front n w lead body ys) wher
       undeclared-read q = leaf-read (entry_by None n w at body) (item-undeclared q)
 
       -- a declared number on its own wire type: no message, or a message that is found
-      module _ (d : Declaration) (q : declared s m n ≡ is d) (e : wire_of d.shape.typ ≡ w) where
+      module _ (d : Declaration) (q : declared s m n ≡ Some d) (e : wire_of d.shape.typ ≡ w) where
         pub declared-read : (d.shape.typ ≡ TYPE_MESSAGE → ⊥)
             → records_from L s inner m place 0 (record_bytes n w lead body ++ ys)
-            ≡ onward (one (entry_by (is d) n w (place + head_size n w lead) body))
+            ≡ onward (one (entry_by (Some d) n w (place + head_size n w lead) body))
             (records_from L s inner m (place + length (record_bytes n w lead body)) 0 ys)
-        declared-read h = leaf-read (entry_by (is d) n w at body) (item-plain d q e h)
+        declared-read h = leaf-read (entry_by (Some d) n w at body) (item-plain d q e h)
 
         pub message-read : d.shape.typ ≡ TYPE_MESSAGE → (p : LookupScope) → L.message (path_of s d) ≡ Ok p
             → records_from L s inner m place 0 (record_bytes n w lead body ++ ys)
-            ≡ enclosed (entry_by (is d) n w (place + head_size n w lead) body) (inner (reached_by s d p) (place + head_size n w lead) body)
+            ≡ enclosed (entry_by (Some d) n w (place + head_size n w lead) body) (inner (reached_by s d p) (place + head_size n w lead) body)
             (records_from L s inner m (place + length (record_bytes n w lead body)) 0 ys)
         message-read h p g =
             step_is _ (item-message d q e h p g) ∙ rw (body-is, size_is, drop-append_seam (record_bytes n w lead body) ys)

@@ -1,7 +1,6 @@
 -- What the item at the front of bytes is made of, where it is none that is refused: a tag, a payload, and what declares the number.
 -- Assumes nothing.
 use Rattle.std.specs.Prelude.{◌≡◌, refl, Bool, true, false, List, [], ◌∷◌, ℕ, ◌+◌, ◌≤◌, eqb, length, drop, Option, None, Err, Some, Ok, Result}
-use Rattle.basis.specs.Kit.{some as is}
 use Rattle.basis.proofs.Kit.{arith}
 use borrow.Author.Tests.{eqb-true, eqb-false}
 use lib.ListN.{length-drop}
@@ -24,20 +23,20 @@ use Rattle.varint.specs.declared.Read.{Read}
 pub record Fronted (xs : List ℕ) (t n : ℕ) (x : Extent) : Type 0 where
   pub tag : read_varint xs ≡ Some (read t n)
   pub good : tag_good t ≡ true
-  pub found : payload_at (wire_type_of t) (drop n xs) ≡ is x
+  pub found : payload_at (wire_type_of t) (drop n xs) ≡ Some x
 
 pub fronted-inside : (xs : List ℕ) (t n : ℕ) (x : Extent) → Fronted xs t n x → n + x.before + x.size ≤ length xs
 fronted-inside xs t n x f =
-    omega (arith, read-inside xs t n f.tag, extent-inside (wire_type_of t) (drop n xs) x f.found, length-drop n xs)
+    omega (arith, read-inside xs (read t n) f.tag, extent-inside (wire_type_of t) (drop n xs) x f.found, length-drop n xs)
 
 module _ (L : Lookups) (s : List ℕ) (m : Message) (place : ℕ) (xs : List ℕ) where
   pub data Made : Item → Type 0 where
     made-wrong : {w : Refusal} → Made (wrong w)
-    made-unknown : {t n : ℕ} {x : Extent} → Fronted xs t n x → declared s m (number_of t) ≡ None → Made (unknown L s m place xs t n (is x))
-    made_plain : {t n : ℕ} {x : Extent} {d : Declaration} → Fronted xs t n x → declared s m (number_of t) ≡ is d
+    made-unknown : {t n : ℕ} {x : Extent} → Fronted xs t n x → declared s m (number_of t) ≡ None → Made (unknown L s m place xs t n (Some x))
+    made_plain : {t n : ℕ} {x : Extent} {d : Declaration} → Fronted xs t n x → declared s m (number_of t) ≡ Some d
         → wire_of d.shape.typ ≡ wire_type_of t → (d.shape.typ ≡ TYPE_MESSAGE → ⊥)
         → Made (some (entry L s m place xs d t n x ∷ []) (n + x.before + x.size))
-    made_held : {t n : ℕ} {x : Extent} {d : Declaration} {p : LookupScope} → Fronted xs t n x → declared s m (number_of t) ≡ is d
+    made_held : {t n : ℕ} {x : Extent} {d : Declaration} {p : LookupScope} → Fronted xs t n x → declared s m (number_of t) ≡ Some d
         → wire_of d.shape.typ ≡ wire_type_of t → d.shape.typ ≡ TYPE_MESSAGE → L.message (path_of s d) ≡ Ok p
         → Made (into (entry L s m place xs d t n x) (reached_by s d p) (n + x.before) x.size)
 
@@ -48,9 +47,9 @@ module _ (L : Lookups) (s : List ℕ) (m : Message) (place : ℕ) (xs : List ℕ
     unknown-made : declared s m (number_of y.value) ≡ None → (o : Option Extent) → payload_at (wire_type_of y.value) (drop y.next xs) ≡ o
         → Made (unknown L s m place xs y.value y.next o)
     unknown-made q None e = made-wrong
-    unknown-made q (is x) e = made-unknown (record { tag = tag; good = good; found = e }) q
+    unknown-made q (Some x) e = made-unknown (record { tag = tag; good = good; found = e }) q
 
-    module _ (d : Declaration) (q : declared s m (number_of y.value) ≡ is d) (w : wire_of d.shape.typ ≡ wire_type_of y.value) where
+    module _ (d : Declaration) (q : declared s m (number_of y.value) ≡ Some d) (w : wire_of d.shape.typ ≡ wire_type_of y.value) where
       message-made : d.shape.typ ≡ TYPE_MESSAGE → (x : Extent) → Fronted xs y.value y.next x → (u : Result LookupScope Refusal) → L.message (path_of s d) ≡ u
           → Made (entered (entry L s m place xs d y.value y.next x) (path_of s d) (y.next + x.before) x.size u)
       message-made h x f (Err r) g = made-wrong
@@ -65,27 +64,27 @@ module _ (L : Lookups) (s : List ℕ) (m : Message) (place : ℕ) (xs : List ℕ
 
       plain-made : (o : Option Extent) → payload_at (wire_type_of y.value) (drop y.next xs) ≡ o → Made (plain L s m place xs d y.value y.next o)
       plain-made None e = made-wrong
-      plain-made (is x) e = extent-made x (record { tag = tag; good = good; found = e }) (eqb d.shape.typ TYPE_MESSAGE) refl
+      plain-made (Some x) e = extent-made x (record { tag = tag; good = good; found = e }) (eqb d.shape.typ TYPE_MESSAGE) refl
 
-    known-made : (d : Declaration) → declared s m (number_of y.value) ≡ is d → (b : Bool) → eqb (wire_of d.shape.typ) (wire_type_of y.value) ≡ b
+    known-made : (d : Declaration) → declared s m (number_of y.value) ≡ Some d → (b : Bool) → eqb (wire_of d.shape.typ) (wire_type_of y.value) ≡ b
         → Made (elim b [ true ↦ plain L s m place xs d y.value y.next extent | false ↦ other_wire L s m place xs d y.value y.next extent ])
     known-made d q true g = plain-made d q (eqb-true _ _ g) extent refl
     known-made d q false g = made-wrong
 
     declared-made : (o : Option Declaration) → declared s m (number_of y.value) ≡ o → Made (by_declaration L s m place xs o y.value y.next extent)
     declared-made None q = unknown-made q extent refl
-    declared-made (is d) q = known-made d q (eqb (wire_of d.shape.typ) (wire_type_of y.value)) refl
+    declared-made (Some d) q = known-made d q (eqb (wire_of d.shape.typ) (wire_type_of y.value)) refl
 
   good-made : (x : Read) → read_varint xs ≡ Some x → (b : Bool) → tag_good x.value ≡ b → Made (elim b [
     | true ↦ by_declaration L s m place xs (declared s m (number_of x.value)) x.value x.next (payload_at (wire_type_of x.value) (drop x.next xs))
     | false ↦ wrong BadBytes
   ])
-  good-made t n e true g = declared-made t n e g (declared s m (number_of t)) refl
-  good-made t n e false g = made-wrong
+  good-made x e true g = declared-made x e g (declared s m (number_of x.value)) refl
+  good-made x e false g = made-wrong
 
   tag-made : (r : Option Read) → read_varint xs ≡ r → Made (by_tag L s m place xs r)
   tag-made None e = made-wrong
-  tag-made (Some it) e = good-made it.value it.next e (tag_good it.value) refl
+  tag-made (Some it) e = good-made it e (tag_good it.value) refl
 
   pub item-made : Made (item L s m place xs)
   unfolding item

@@ -1,7 +1,6 @@
 -- Which records of every listed reading are known, by what, and which are entered. The statement stands at the end.
 -- Assumes nothing.
 use Rattle.std.specs.Prelude.{◌≡◌, refl, List, [], ◌∷◌, ℕ, None, Some, Ok}
-use Rattle.basis.specs.Kit.{some as is}
 use Rattle.basis.proofs.Kit.{arith}
 use Rattle.basis.proofs.Never.{never}
 use mathlib.Core.Path.{subst}
@@ -24,7 +23,7 @@ module _ (s : List ℕ) (m : Message) (e : Entry) where
   known-none : declared s m e.number ≡ None → e.by ≡ None → e.typ ≡ 0 → KnownBy s m e
   known-none q b t = record { by = rw q b; typ = rw q t; wire = λ d g. never cc }
 
-  known_some : (d : Declaration) → declared s m e.number ≡ is d → e.by ≡ Some d → e.typ ≡ d.shape.typ
+  known_some : (d : Declaration) → declared s m e.number ≡ Some d → e.by ≡ Some d → e.typ ≡ d.shape.typ
       → wire_of d.shape.typ ≡ e.wire → KnownBy s m e
   known_some d q b t w = record {
     by = rw q b;

@@ -1,8 +1,8 @@
 -- The bytes of typed records, read under any sheet that does not contradict them, are those records as that sheet sees them. The statement
 -- stands at the end. Its proof meets the reading step through the laws of a declared and of an undeclared number alone.
 -- Assumes nothing.
-use Rattle.std.specs.Prelude.{◌≡◌, refl, true, List, [], ◌∷◌, ◌++◌, ℕ, zero, suc, ◌+◌, ◌^◌, ◌≤◌, ◌<◌, length, Option, None}
-use Rattle.basis.specs.Kit.{sym, ap, ◌∙◌, some as is}
+use Rattle.std.specs.Prelude.{◌≡◌, refl, true, List, [], ◌∷◌, ◌++◌, ℕ, zero, suc, ◌+◌, ◌^◌, ◌≤◌, ◌<◌, length, Option, None, Some}
+use Rattle.basis.specs.Kit.{sym, ap, ◌∙◌}
 use Rattle.basis.proofs.Kit.{arith}
 use mathlib.Core.Bool.{false≢true}
 use mathlib.Core.List.{append_assoc}
@@ -74,21 +74,21 @@ module _ (L : Lookups) (s : List ℕ) (m : Message) (place : ℕ) {n w : ℕ} {l
 
   -- a record that holds nothing, whatever declares its number
   leaf-case : (o : Option Declaration) → declared s m n ≡ o
-      → ((d : Declaration) → declared s m n ≡ is d → wire_of d.shape.typ ≡ w)
-      → ((d : Declaration) → declared s m n ≡ is d → d.shape.typ ≡ TYPE_MESSAGE → ⊥)
+      → ((d : Declaration) → declared s m n ≡ Some d → wire_of d.shape.typ ≡ w)
+      → ((d : Declaration) → declared s m n ≡ Some d → d.shape.typ ≡ TYPE_MESSAGE → ⊥)
       → (t : Tree) → records_from L s inner m next 0 ys ≡ listed t
       → records_from L s inner m place 0 all ≡ listed (one (entry_by o n w at body) t)
   leaf-case None q e h t rest = undeclared-read f L s m place inner q ∙ ap (onward (one (entry_by None n w at body))) rest
-  leaf-case (is d) q e h t rest =
-      declared-read f L s m place inner d q (e d q) (h d q) ∙ ap (onward (one (entry_by (is d) n w at body))) rest
+  leaf-case (Some d) q e h t rest =
+      declared-read f L s m place inner d q (e d q) (h d q) ∙ ap (onward (one (entry_by (Some d) n w at body))) rest
 
   message-case : (o : Option Declaration) → declared s m n ≡ o → w ≡ LEN → (inside : Message → Tree)
-      → ((d : Declaration) → declared s m n ≡ is d
+      → ((d : Declaration) → declared s m n ≡ Some d
       → (d.shape.typ ≡ TYPE_MESSAGE) × Names L s d (λ p. inner p at body ≡ listed (inside p)))
       → (t : Tree) → records_from L s inner m next 0 ys ≡ listed t
       → records_from L s inner m place 0 all ≡ listed (holds L s o (entry_by o n w at body) inside t)
   message-case None q e inside h t rest = undeclared-read f L s m place inner q ∙ ap (onward (one (entry_by None n w at body))) rest
-  message-case (is d) q e inside h t rest =
+  message-case (Some d) q e inside h t rest =
       let g = (h d q).0 in
       let x = (h d q).1 in
       message-read f L s m place inner d q (message-wire d.shape.typ g ∙ sym e) g x.place x.found
@@ -101,14 +101,14 @@ module _ (L : Lookups) (s : List ℕ) (m : Message) (place n : ℕ) (range : (1 
   abbrev begins : ℕ
   begins = place + length (head_of n (length bs))
 
-  sized-leaf : ((d : Declaration) → declared s m n ≡ is d → wire_of d.shape.typ ≡ LEN) → Plain s m n
+  sized-leaf : ((d : Declaration) → declared s m n ≡ Some d → wire_of d.shape.typ ≡ LEN) → Plain s m n
       → records_from L s inner m place 0 (sized n bs ++ ys) ≡ listed (one (entry_by (declared s m n) n LEN begins bs) t)
   sized-leaf e h =
       rw (sized-is n bs, head-is n bs)
       (leaf-case L s m place (sized-front n range ys bs small) inner (declared s m n) refl e h t (rw (sized-is n bs) at rest))
 
   sized-message : (inside : Message → Tree)
-      → ((d : Declaration) → declared s m n ≡ is d
+      → ((d : Declaration) → declared s m n ≡ Some d
       → (d.shape.typ ≡ TYPE_MESSAGE) × Names L s d (λ p. inner p begins bs ≡ listed (inside p)))
       → records_from L s inner m place 0 (sized n bs ++ ys)
       ≡ listed (holds L s (declared s m n) (entry_by (declared s m n) n LEN begins bs) inside t)

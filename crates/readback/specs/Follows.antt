@@ -1,7 +1,7 @@
 -- What a value query follows, from 01's "Listing and lowering": "A record listed by another declaration than the part's counts as none. At
 -- each part the last record of that number is followed."
 --
---                   None d t <-> no record at the level of t is listed by d
+--               Unlisted d t <-> no record at the level of t is listed by d
 --               Last d t e i <-> e, which holds i, is the last record at the level of t that d lists; one that is not entered holds nothing
 --           Follows l ds t x <-> x is the row that ds lead to, at each of them by the last record that it lists, t standing at the level l
 --         parts_named L s q m ==  what the parts of the name q come to, from the message m on
@@ -26,14 +26,14 @@ use Rattle.listing.specs.Listing.{listing}
 use Rattle.following.specs.Reached.{is_by, reached}
 use Rattle.naming.specs.Name.{Named, names, group, declarations}
 
-abbrev pub None : Declaration → Tree → Type 0
-None d end = Unit {0}
-None d (one e t) = (is_by d e.by ≡ false) × None d t
-None d (held e i t) = (is_by d e.by ≡ false) × None d t
+abbrev pub Unlisted : Declaration → Tree → Type 0
+Unlisted d end = Unit {0}
+Unlisted d (one e t) = (is_by d e.by ≡ false) × Unlisted d t
+Unlisted d (held e i t) = (is_by d e.by ≡ false) × Unlisted d t
 
 pub data Last (d : Declaration) : Tree → Entry → Tree → Type 0 where
-  last_one : {e : Entry} {t : Tree} → is_by d e.by ≡ true → None d t → Last d (one e t) e end
-  last-held : {e : Entry} {i t : Tree} → is_by d e.by ≡ true → None d t → Last d (held e i t) e i
+  last_one : {e : Entry} {t : Tree} → is_by d e.by ≡ true → Unlisted d t → Last d (one e t) e end
+  last-held : {e : Entry} {i t : Tree} → is_by d e.by ≡ true → Unlisted d t → Last d (held e i t) e i
   behind-one : {f e : Entry} {i t : Tree} → Last d t e i → Last d (one f t) e i
   behind-held : {f e : Entry} {j i t : Tree} → Last d t e i → Last d (held f j t) e i
 

@@ -51,7 +51,7 @@ pub struct Cause {
     pub place: Where,
 }
 
-// Stands for a position where there is none.
+// Stands for a position where there is none. A number and no None: C reads it (`option` and `part` of its record).
 pub const NOWHERE: u32 = 65_535;
 
 // The two numbers of a place.

@@ -1,4 +1,5 @@
-// The tags of 01's table and of its constants, those of a request.
+// The tags of 01's table and of its constants, those of a request. Numbers and no enum: a tag is any byte, and the readers take every byte
+// string (`field_at`).
 pub const OPTION: u8 = 0x08;
 
 pub const SCOPE: u8 = 0x18;

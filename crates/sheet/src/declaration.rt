@@ -69,12 +69,12 @@ fn shape_at(s: &[u8], at: usize, end: usize) -> Option<Shape>
     let kind = sized_at(s, number.to, end, table::TYPE, 1)?;
     let label = sized_at(s, kind.to, end, table::LABEL, 1)?;
     let typ = s[kind.from];
-    let place = type_path_at(s, label.to, end, typ)?;
+    let path = type_path_at(s, label.to, end, typ)?;
     Some(Shape {
         number: octets::u32_at(s, number.from),
         typ: typ,
         label: s[label.from],
-        path: place,
+        path,
     })
 }
 

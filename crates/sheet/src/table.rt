@@ -1,4 +1,4 @@
-// The tags of 01's table, those of a sheet.
+// The tags of 01's table, those of a sheet. Numbers and no enum: a tag is any byte, and the readers take every byte string (`field_at`).
 pub const FILE: u8 = 0x01;
 
 pub const MESSAGE: u8 = 0x02;

@@ -7,6 +7,7 @@ ghost use Rattle.types.specs.Types.{wire_of};
 use limits::MOST_TYPE;
 
 // The types, by descriptor.proto's numbers; specs/Types.antt names the same ones for the definitions.
+// Numbers and no enum: a sheet's type is any byte, and the readers take every byte string (`shape_at` of `sheet`).
 pub const TYPE_DOUBLE: usize = 1;
 
 pub const TYPE_FLOAT: usize = 2;
@@ -43,7 +44,7 @@ pub const TYPE_SINT32: usize = 17;
 
 pub const TYPE_SINT64: usize = 18;
 
-// The wire types.
+// The wire types. Numbers and no enum: a tag may name any of eight (`wire_type_of` of `wire`).
 pub const VARINT: u8 = 0;
 
 pub const I64: u8 = 1;

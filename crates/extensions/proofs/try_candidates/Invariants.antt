@@ -1,6 +1,5 @@
 -- `extensions::try_candidates` meets its contract.
 -- Assumes nothing.
-use Rattle.std.specs.Prelude.{◌-◌}
 use Rattle.candidates.specs.Candidates.{candidates}
 use Rattle.search.specs.Lookup.{tried}
 use Rattle.extensions.proofs.ExtensionLaws.{Trying}
@@ -8,6 +7,3 @@ use Rattle.extensions.proofs.try_candidates.Given as goal
 
 abbrev pub invariant-loop-i : goal.invariant-loop-i
 invariant-loop-i l = Trying (tried l.s l.scope l.path) l.s (candidates l.scope l.path) l.initial.room l.room l.i
-
-abbrev pub decreases-loop-i : goal.decreases-loop-i
-decreases-loop-i l = l.count - l.i

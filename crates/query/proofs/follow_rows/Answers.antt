@@ -1,25 +1,11 @@
--- `query::follow_rows` meets its contract, by its loop's invariant and laws.
+-- `query::follow_rows` meets its contract.
 -- Assumes nothing.
 use Rattle.query.proofs.SeenLaws.{seeing_laws}
 use Rattle.query.proofs.follow_rows.Goals as goal
+use Rattle.query.proofs.follow_rows.Goals.{then-step, else-step}
 
-pub returns-then-counts : goal.returns-then-counts
-returns-then-counts c = search seeing_laws
+pub loop-event-preserved : goal.loop-event-preserved
+loop-event-preserved c = elim c.if-step.branch [ then-step w ↦ rw w.best-is (search (seeing_laws, rw c.in-Ok-Some.field-0-is at c.in-Ok-Some.is, w.if-step.true)) | else-step w ↦ rw w.best-is (search (seeing_laws, rw c.in-Ok-Some.field-0-is at c.in-Ok-Some.is, w.if-step.false)) ]
 
-pub returns-in-End : goal.returns-in-End
-returns-in-End c = search seeing_laws
-
-pub returns-in-Wrong : goal.returns-in-Wrong
-returns-in-Wrong c = search seeing_laws
-
-pub loop-why-smaller-then-step : goal.loop-why-smaller-then-step
-loop-why-smaller-then-step c = search seeing_laws
-
-pub loop-why-preserved-then-step : goal.loop-why-preserved-then-step
-loop-why-preserved-then-step c = search seeing_laws
-
-pub loop-why-smaller : goal.loop-why-smaller
-loop-why-smaller c = search seeing_laws
-
-pub loop-why-preserved : goal.loop-why-preserved
-loop-why-preserved c = search seeing_laws
+pub returns-in-Err : goal.returns-in-Err
+returns-in-Err c = search seeing_laws

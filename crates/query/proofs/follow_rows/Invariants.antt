@@ -6,11 +6,11 @@ use Rattle.levels.specs.inner.Left.{left}
 use Rattle.query.proofs.SeenLaws.{Seeing}
 use Rattle.query.proofs.follow_rows.Given as goal
 
-abbrev pub invariant-loop-why : goal.invariant-loop-why
-invariant-loop-why l =
+abbrev pub invariant-loop-event : goal.invariant-loop-event
+invariant-loop-event l =
     Seeing l.sheet l.options_type l.bytes l.keys l.count (left (walking l.sheet) l.sheet l.options_type l.bytes l.initial.stack l.initial.cursor.depth l.initial.cursor.at)
     l.stack l.cursor l.matched l.counts l.best
 
-abbrev pub decreases-loop-why : goal.decreases-loop-why
-decreases-loop-why l =
+abbrev pub decreases-loop-event : goal.decreases-loop-event
+decreases-loop-event l =
     length l.bytes - l.cursor.at

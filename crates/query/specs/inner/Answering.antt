@@ -22,7 +22,7 @@ use Rattle.entries.specs.declared.Row.{Row}
 use Rattle.entries.specs.Tree.{Tree, words}
 use Rattle.entries.specs.Reading.{Listed, listed, refused, reading}
 use Rattle.naming.specs.declared.Naming.{Naming}
-use Rattle.naming.specs.declared.Naming.TheVariants.{Parts, Group, Err as RefusedName}
+use Rattle.naming.specs.declared.Naming.TheVariants.{Parts, Group}
 use Rattle.naming.specs.Name.{Named, names, group, refused_at, of_part, declarations}
 use Rattle.following.specs.Reached.{never, reached}
 use Rattle.query.specs.Query.{judge_inputs}
@@ -37,15 +37,15 @@ seen_in ks n f (give xs) = Ok (followed ks n f xs).best
 seen_in ks n f nothing = Ok None
 seen_in ks n f (refused_for c) = Err c
 
-abbrev pub count_of : Naming → ℕ
-count_of (Parts n) = n
-count_of Group = 0
-count_of (RefusedName c) = 0
+abbrev pub count_of : Result Naming Cause → ℕ
+count_of (Ok (Parts n)) = n
+count_of (Ok Group) = 0
+count_of (Err c) = 0
 
-abbrev pub settled : Naming → Option Row → Result (Option Row) Cause
-settled (Parts n) b = Ok b
-settled Group b = Ok None
-settled (RefusedName c) b = Err c
+abbrev pub settled : Result Naming Cause → Option Row → Result (Option Row) Cause
+settled (Ok (Parts n)) b = Ok b
+settled (Ok Group) b = Ok None
+settled (Err c) b = Err c
 
 abbrev pub of_named : Named → Tree → Result (Option Row) Cause
 of_named (names ds) t = Ok (best_of (reached never 0 ds t))
