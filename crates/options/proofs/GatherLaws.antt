@@ -17,7 +17,7 @@ use Rattle.octets.specs.inner.Laid.{Laid}
 use Rattle.octets.proofs.Overlay.{laid-append, laid-length}
 use Rattle.field.specs.Field.{field_at}
 use Rattle.field.specs.Leaf.{text}
-use Rattle.field.proofs.FieldLaws.{field-ordered, field_place_laws}
+use Rattle.field.proofs.FieldLaws.{field-ordered}
 use Rattle.request.specs.Request.{RequestOption}
 use Rattle.records.specs.Records.{Recs, nil, append, encode}
 use Rattle.records.specs.inner.Emits.{bytes_most, Emits, Roomy}
@@ -40,6 +40,10 @@ use Rattle.options.proofs.ReachedLaws.{Reached, reached-start, reached-end, reac
 use Rattle.options.proofs.ReachedLaws.{reached-first, reached-made, reached-next, reached-size}
 use Rattle.options.proofs.SetLaws.{set-few}
 use Rattle.field.specs.declared.Field.{Field}
+use Rattle.field.specs.declared.fields.Fields.{Fields}
+use Rattle.field.specs.Fields.{Goes}
+use Rattle.field.proofs.InFields.{Over, over-start, over-before, over-read, over-next, over-at}
+use Rattle.basis.proofs.Kit.{w64, Fits}
 
 abbrev gather_from : Lookups → (s r : List ℕ) → Start → (option : ℕ) → List Known → Recs → List RequestOption → Gathered
 gather_from L s r h = gather L s r (text r h.scope) (message_of r h)
@@ -55,7 +59,7 @@ pub record Gathering (L : Lookups) (s r : List ℕ) (h : Start) (l m ns₀ ns : 
   pub whole : gathered_by L s r h ≡ gather_from L s r h n knowns rest (drop n (options_of r h))
   pub few : length (encode rest) + length (encode (known_recs knowns)) + bytes_most h.options ≤ bytes_most i
 
-pub gathering-start : (L : Lookups) (s r : List ℕ) (h : Start) → FineFrom r h → (l ns : List ℕ) → most_options ≤ length ns → (at : ℕ)
+gathering-start : (L : Lookups) (s r : List ℕ) (h : Start) → FineFrom r h → (l ns : List ℕ) → most_options ≤ length ns → (at : ℕ)
     → Gathering L s r h l l ns ns at at 0 h.options
 unfolding encode gathered_by
 gathering-start L s r h f l ns k at = record {
@@ -79,26 +83,26 @@ pub append-size : (x y : Recs) → length (encode (append x y)) ≡ length (enco
 append-size x y = ap length (encode-append x y) ∙ length-append (encode x) (encode y)
 
 module _ (L : Lookups) (s r : List ℕ) (h : Start) (l m ns₀ ns : List ℕ) (at p n i : ℕ) (u : Gathering L s r h l m ns₀ ns at p n i) where
-  pub gathering-length : length m ≡ length l
+  gathering-length : length m ≡ length l
   gathering-length = laid-length (encode u.rest) u.laid
 
-  pub gathering-after : (m' : List ℕ) → length m' ≡ length m → length m' ≡ length l
+  gathering-after : (m' : List ℕ) → length m' ≡ length m → length m' ≡ length l
   gathering-after m' e = e ∙ gathering-length
 
-  pub gathering-notes : length ns ≡ length ns₀
+  gathering-notes : length ns ≡ length ns₀
   gathering-notes = u.kept
 
-  pub gathering-end : length r ≤ i → Gathers (made_at L s r h) (bytes_most (length r)) (gathered_by L s r h) at l m ns (Ok (tally n p))
+  gathering-end : length r ≤ i → Gathers (made_at L s r h) (bytes_most (length r)) (gathered_by L s r h) at l m ns (Ok (tally n p))
   gathering-end e =
       rw (u.whole, reached-end r h n i u.reached e)
       (gives u.laid u.noted u.reached.count
       (omega (arith, u.few, u.reached.inside, append-size (known_recs u.knowns) u.rest)))
 
-  pub gathering-noted : i < length r → n < length ns
+  gathering-noted : i < length r → n < length ns
   gathering-noted o = omega (arith, reached-few r h n i u.reached o, u.kept, u.places)
 
   module _ (o : i < length r) (f : Option Field) (q : f ≡ field_at r i (length r)) where
-    pub gathering-cut : f ≡ None → Gathers (made_at L s r h) (bytes_most (length r)) (gathered_by L s r h) at l m ns (Ok (tally n p))
+    gathering-cut : f ≡ None → Gathers (made_at L s r h) (bytes_most (length r)) (gathered_by L s r h) at l m ns (Ok (tally n p))
     gathering-cut g = reached-cut r h n i u.reached o f q g
 
     module _ (here : Field) (g : f ≡ Some here) where
@@ -107,7 +111,7 @@ module _ (L : Lookups) (s r : List ℕ) (h : Start) (l m ns₀ ns : List ℕ) (a
           let x = reached-next r h n i u.reached o f q here g in
           record { room = omega (arith, k.room, u.few, u.laid.next, x.inside, reached-size r h n i u.reached o f q here g) }
 
-      pub gathering-settleable : Started s r h → Roomy at (length r) r → Settleable s r h n here.from here.to p
+      gathering-settleable : Started s r h → Roomy at (length r) r → Settleable s r h n here.from here.to p
       gathering-settleable y k = record {
         started = y;
         count = u.reached.count;
@@ -179,11 +183,11 @@ module _ (L : Lookups) (s r : List ℕ) (h : Start) (l m ns₀ ns : List ℕ) (a
 
         module _ (b : Emits (settling_of n (note_in (settled_at L s r h here.from here.to))) (others_of (settled_at L s r h here.from here.to)) (bytes_most (here.to - here.from)) m p m' y)
           where
-            pub gathering-refused : (stop : Cause) → y ≡ Err stop
+            gathering-refused : (stop : Cause) → y ≡ Err stop
                 → Gathers (made_at L s r h) (bytes_most (length r)) (gathered_by L s r h) at l m' ns (Err stop)
             gathering-refused stop z = rw (refused-by (settled_at L s r h here.from here.to) refl stop b z) stops
 
-            pub gathering-next : (t : Settling) → y ≡ Ok t → (ns' : List ℕ) → ns' ≡ noted n t.note ns
+            gathering-next : (t : Settling) → y ≡ Ok t → (ns' : List ℕ) → ns' ≡ noted n t.note ns
                 → Gathering L s r h l m' ns₀ ns' at t.next (n + 1) here.to
             gathering-next t d ns' j = next-by (settled_at L s r h here.from here.to) refl t ns' b d j
 
@@ -193,17 +197,71 @@ pub stopped-on : {made : ℕ → Recs} {k : ℕ} {g : Gathered} {at : ℕ} {l l'
 stopped-on {y = Ok t} h u = elim h [ ]
 stopped-on {y = Err e} h u = rw h u
 
+-- ---- the same, where the walk `it` over the options stands
+pub record GatheringIn (L : Lookups) (s r : List ℕ) (h : Start) (l m ns₀ ns : List ℕ) (at p n : ℕ) (it : Fields) : Type 0 where
+  pub over : Over it r (length r)
+  pub here : Gathering L s r h l m ns₀ ns at p n it.at
+
+pub gather-start : (L : Lookups) (s r : List ℕ) (h : Start) (it : Fields) → it.bytes.now ≡ r → it.at ≡ h.options → it.end ≡ length r
+    → FineFrom r h → (l ns : List ℕ) → most_options ≤ length ns → (at : ℕ) → GatheringIn L s r h l l ns ns at at 0 it
+gather-start L s r h it b a e f l ns k at = record { over = over-start it r (length r) b e; here = rw a (gathering-start L s r h f l ns k at) }
+
+module _ (L : Lookups) (s r : List ℕ) (h : Start) (l m ns₀ ns : List ℕ) (at p n : ℕ) (it : Fields)
+    (u : GatheringIn L s r h l m ns₀ ns at p n it) where
+  pub gather-length : length m ≡ length l
+  gather-length = gathering-length L s r h l m ns₀ ns at p n it.at u.here
+
+  pub gather-after : (m' : List ℕ) → length m' ≡ length m → length m' ≡ length l
+  gather-after m' e = e ∙ gather-length
+
+  pub gather-notes : length ns ≡ length ns₀
+  gather-notes = u.here.kept
+
+  pub gather-end : it.end ≤ it.at → Gathers (made_at L s r h) (bytes_most (length r)) (gathered_by L s r h) at l m ns (Ok (tally n p))
+  gather-end e = gathering-end L s r h l m ns₀ ns at p n it.at u.here (rw (← u.over.end) e)
+
+  module _ (it' : Fields) (f : Option Field) (x : Goes it it' f) where
+    pub gather-noted : n < length ns
+    gather-noted = gathering-noted L s r h l m ns₀ ns at p n it.at u.here (over-before u.over it' f x)
+
+    pub gather-fits : Fits w64 (n + 1)
+    gather-fits = reached-fits r h n it.at u.here.reached (over-before u.over it' f x)
+
+    pub gather-cut : f ≡ None → Gathers (made_at L s r h) (bytes_most (length r)) (gathered_by L s r h) at l m ns (Ok (tally n p))
+    gather-cut = gathering-cut L s r h l m ns₀ ns at p n it.at u.here (over-before u.over it' f x) f (over-read u.over it' f x)
+
+    module _ (w : Field) (g : f ≡ Some w) where
+      pub gather-settleable : Started s r h → Roomy at (length r) r → Settleable s r h n w.from w.to p
+      gather-settleable =
+          gathering-settleable L s r h l m ns₀ ns at p n it.at u.here (over-before u.over it' f x) f (over-read u.over it' f x) w g
+
+      module _ (m' : List ℕ) (y : Result Settling Cause)
+          (b : Emits (settling_of n (note_in (settled_at L s r h w.from w.to))) (others_of (settled_at L s r h w.from w.to))
+          (bytes_most (w.to - w.from)) m p m' y) where
+        pub gather-refused : (stop : Cause) → y ≡ Err stop
+            → Gathers (made_at L s r h) (bytes_most (length r)) (gathered_by L s r h) at l m' ns (Err stop)
+        gather-refused =
+            gathering-refused L s r h l m ns₀ ns at p n it.at u.here (over-before u.over it' f x) f (over-read u.over it' f x) w g m' y b
+
+        pub gather-next : (t : Settling) → y ≡ Ok t → (ns' : List ℕ) → ns' ≡ noted n t.note ns
+            → GatheringIn L s r h l m' ns₀ ns' at t.next (n + 1) it'
+        gather-next t e ns' j = record {
+          over = over-next u.over it' f x;
+          here = rw (over-at u.over it' f x w g)
+              (gathering-next L s r h l m ns₀ ns at p n it.at u.here (over-before u.over it' f x) f (over-read u.over it' f x) w g m' y b t e
+              ns' j);
+        }
+
 pub ruleset gather_laws = (
-  gathering-start,
-  gathering-length,
-  gathering-after,
-  gathering-notes,
-  gathering-end,
-  gathering-cut,
-  gathering-settleable,
-  gathering-noted,
-  gathering-refused,
-  gathering-next,
-  reached-fits,
-  field_place_laws,
+  gather-start,
+  gather-length,
+  gather-after,
+  gather-notes,
+  gather-end,
+  gather-noted,
+  gather-fits,
+  gather-cut,
+  gather-settleable,
+  gather-refused,
+  gather-next,
 )
