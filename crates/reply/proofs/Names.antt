@@ -6,6 +6,7 @@ use Rattle.basis.proofs.Kit.{arith, eq-eqb}
 use mathlib.Core.Path.{subst}
 use borrow.Author.Tests.{eqb-true}
 use lib.Dec.{T, eqb→eq, leb→le}
+use lib.ListN.{length-take, length-drop}
 use Rattle.basis.proofs.Never.{never}
 use Rattle.reply.specs.declared.Refusal.{Refusal}
 use Rattle.reply.specs.Reply.{number, second, name, most_name, NameOf}
@@ -113,6 +114,9 @@ module _ (rows : List ℕ) (n s at : ℕ) (u : Passed rows n s at) where
         pub text-inside : at + 3 + m ≤ length rows
         text-inside = omega (arith, row_inside, row_here.short)
 
+        pub text-short : length (take (at + 3 + m - (at + 3)) (drop (at + 3) rows)) ≤ most_name
+        text-short = simp (length-take, length-drop) (omega (arith, text-inside, row_here.short))
+
         pub name-found : (l : List ℕ) → l ≡ take (at + 3 + m - (at + 3)) (drop (at + 3) rows)
             → (a b : ℕ) → a ≡ get_or rows at 0 → b ≡ get_or rows (at + 1) 0 → eqb a n && eqb b s ≡ true → NameOf n s l
         name-found l g a b ea eb e =
@@ -127,4 +131,4 @@ module _ (rows : List ℕ) (n s at : ℕ) (u : Passed rows n s at) where
               none = λ no. absurd (no v p q);
             }
 
-pub ruleset look_up_laws = (passed_start, passed-next, name-none, second-inside, size-inside, text-inside, name-found)
+pub ruleset look_up_laws = (passed_start, passed-next, name-none, second-inside, size-inside, text-inside, text-short, name-found)

@@ -4,7 +4,7 @@
 ghost use Rattle.std.specs.Prelude.{◌≡◌, ◌≤◌, length};
 ghost use Rattle.reply.specs.Reply.{positions as positions_of, bare as bare_of, refused_for, refused_by};
 ghost use Rattle.reply.specs.Reply.{done_with, absent_answer, decided as decided_of};
-ghost use Rattle.reply.specs.Reply.{NameOf};
+ghost use Rattle.reply.specs.Reply.{NameOf, most_name};
 ghost use Rattle.reply.specs.inner.Table.{code_of, Tabled};
 ghost use Rattle.reply.specs.Verdicts.{judged, answer_for};
 
@@ -203,7 +203,8 @@ const ROW: usize = 43;
 // The name that a table has for this number and this second word, empty where it has none.
 fn look_up(rows: &[u8], reply: u32, second: u32) -> &[u8]
     requires { Tabled rows.now }
-    ensures { NameOf reply second result.now }
+    ensures is { NameOf reply second result.now }
+    ensures within { length result.now ≤ most_name }
 {
     let mut at = 0;
     while at < rows.len() {
@@ -220,7 +221,8 @@ fn look_up(rows: &[u8], reply: u32, second: u32) -> &[u8]
 // The name of the refusal that has this number and this second word, empty where there is none: 01's table, a row for each refusal.
 #[tactic(auto, using(crate::proofs::Names::rows_tabled))]
 pub fn name_of(reply: u32, second: u32) -> &'static [u8]
-    ensures { NameOf reply second result.now }
+    ensures is { NameOf reply second result.now }
+    ensures within { length result.now ≤ most_name }
 {
     look_up(
         b"\

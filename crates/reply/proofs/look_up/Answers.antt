@@ -1,5 +1,6 @@
 -- `reply::look_up` meets its contract, by its loop's invariant and laws.
 -- Assumes nothing.
+use Rattle.basis.proofs.Kit.{arith}
 use Rattle.reply.proofs.Names.{look_up_laws}
 use Rattle.reply.proofs.look_up.Goals as goal
 
@@ -16,4 +17,4 @@ pub loop-at-preserved : goal.loop-at-preserved
 loop-at-preserved c = search (look_up_laws, c.if-wide-reply.false)
 
 pub returns : goal.returns
-returns c = search look_up_laws
+returns c = record { is = search look_up_laws; within = omega arith }
