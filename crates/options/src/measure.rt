@@ -15,7 +15,7 @@ ghost use Rattle.reply.specs.Verdicts.{fine};
 
 use crate::settle::Start;
 use crate::{Tally, gather, put_known};
-use reply::{Cause, bare};
+use reply::Cause;
 use request::heading::heading_of;
 
 // What there is to write: how many options there are, and how many bytes they come to.
@@ -41,15 +41,13 @@ fn open(sheet: &[u8], request: &[u8]) -> Result<Option<Start>, Cause>
     let options_type = heading.options_type;
     let from = options_type.from;
     let to = options_type.to;
-    match lookups::message(sheet, &request[from..to]) {
-        Err(why) => Err(bare(why)),
-        Ok(place) => Ok(Some(Start {
-            scope: heading.scope,
-            options_type,
-            options: heading.options,
-            place,
-        })),
-    }
+    let place = lookups::message(sheet, &request[from..to])?;
+    Ok(Some(Start {
+        scope: heading.scope,
+        options_type,
+        options: heading.options,
+        place,
+    }))
 }
 
 // What the options come to, and how many bytes the others have: they are gathered in no room to speak of.
@@ -131,12 +129,8 @@ pub fn measure_tested(
     ensures { Measures sheet.now request.now (resolving_tested sheet.now request.now)
         notes.new result }
 {
-    if let Err(why) = sheetform::check_length(sheet) {
-        return Err(bare(why));
-    }
-    if let Err(why) = requestform::check_request(request) {
-        return Err(bare(why));
-    }
+    sheetform::check_length(sheet)?;
+    requestform::check_request(request)?;
     measure_all(sheet, request, notes)
 }
 

@@ -118,6 +118,15 @@ pub fn bare(why: Refusal) -> Cause
     }
 }
 
+// So `?` makes a refusal one that is nowhere.
+impl From<Refusal> for Cause {
+    ghost from_gives = { λ why cause. cause ≡ bare_of why };
+
+    fn from(why: Refusal) -> Cause {
+        bare(why)
+    }
+}
+
 // The answer of a refusal: nothing was written.
 #[tactic(auto, using(crate::proofs::Rows::row_laws))]
 pub fn refused_for(cause: Cause) -> Answer

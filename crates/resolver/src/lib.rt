@@ -16,7 +16,7 @@ ghost use Rattle.resolver.specs.inner.Judging.{judged_by};
 use judged::answer_in;
 use limits::MOST_OPTIONS;
 use options::measure::{Measured, measure_tested, put_records};
-use reply::{Answer, Cause, bare};
+use reply::{Answer, Cause};
 
 // What was measured, written to as much of the lent memory as the answer says: to none of it where there is no room for all.
 #[tactic(auto, using(crate::proofs::WriteLaws::write_laws))]
@@ -96,8 +96,6 @@ pub fn verdict_tested(sheet: &[u8], request: &[u8]) -> Result<Option<u32>, Cause
 pub fn verdict(sheet: &[u8], request: &[u8]) -> Result<Option<u32>, Cause>
     ensures { result ≡ judged_of (resolving sheet.now request.now) }
 {
-    if let Err(why) = sheetform::check_sheet(sheet) {
-        return Err(bare(why));
-    }
+    sheetform::check_sheet(sheet)?;
     verdict_tested(sheet, request)
 }
