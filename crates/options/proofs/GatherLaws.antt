@@ -6,7 +6,6 @@
 --
 -- Assumes nothing.
 use Rattle.std.specs.Prelude.{◌≡◌, refl, List, [], ℕ, ◌+◌, ◌-◌, ◌≤◌, ◌<◌, length, drop, None, Some, Option, Err, Ok, Result}
-use Rattle.std.specs.Result.{IsErrAnd}
 use Rattle.basis.specs.Kit.{sym, ap, ◌∙◌}
 use Rattle.basis.proofs.Kit.{arith}
 use native.Mathlib.Nat.{add-zero}
@@ -31,7 +30,6 @@ use Rattle.known.proofs.NotedLaws.{noted-start, noted-none, noted-set}
 use Rattle.options.specs.declared.settle.Start.{Start}
 use Rattle.reply.specs.declared.Cause.{Cause}
 use Rattle.options.specs.declared.settle.Settling.{Settling}
-use Rattle.options.specs.declared.Tally.{Tally}
 use Rattle.options.specs.Settle.{Settled, known, others, fails}
 use Rattle.options.specs.inner.Settling.{message_of, settled_at, others_of, note_in, set_recs, settling, settling_of, Started, Settleable}
 use Rattle.options.specs.Options.{Gathered, stopped, next, gather}
@@ -190,12 +188,6 @@ module _ (L : Lookups) (s r : List ℕ) (h : Start) (l m ns₀ ns : List ℕ) (a
             gathering-next : (t : Settling) → y ≡ Ok t → (ns' : List ℕ) → ns' ≡ noted n t.note ns
                 → Gathering L s r h l m' ns₀ ns' at t.next (n + 1) here.to
             gathering-next t d ns' j = next-by (settled_at L s r h here.from here.to) refl t ns' b d j
-
--- what `?` hands on
-pub stopped-on : {made : ℕ → Recs} {k : ℕ} {g : Gathered} {at : ℕ} {l l' ns : List ℕ} {y : Result Tally Cause} {e : Cause}
-    → IsErrAnd y (λ x. x ≡ e) → Gathers made k g at l l' ns (Err e) → Gathers made k g at l l' ns y
-stopped-on {y = Ok t} h u = elim h [ ]
-stopped-on {y = Err e} h u = rw h u
 
 -- ---- the same, where the walk `it` over the options stands
 pub record GatheringIn (L : Lookups) (s r : List ℕ) (h : Start) (l m ns₀ ns : List ℕ) (at p n : ℕ) (it : Fields) : Type 0 where
