@@ -9,6 +9,7 @@ use native.Mathlib.Nat.{add-zero}
 use mir.Val.{bool_byte}
 use Rattle.basis.specs.First.{only_if}
 use Rattle.limits.specs.Figures.{most_levels}
+use lib.ListN.{set}
 use Rattle.octets.proofs.Overlay.{get_or-sets_before, get_or-sets-at}
 use Rattle.octets.proofs.Halfway.{Laying, laying-start, laying-next, laying-inside, laying-room, laying-length, laying-end}
 use Rattle.field.specs.Leaf.{span}
@@ -23,7 +24,11 @@ words-start l at ws h =
 pub words-end : (l : List ℕ) (at : ℕ) (ws m : List ℕ) (i : ℕ) → Laying l at ws m (length ws) i → length ws ≤ i → m ≡ sets l at ws
 words-end l at ws m i k h = (laying-end l at ws m (length ws) i k h).left
 
-pub ruleset words_laws = (words-start, words-end, laying-next, laying-inside, laying-room, laying-length)
+pub words-next : (l : List ℕ) (at : ℕ) (ws m : List ℕ) (i : ℕ) → Laying l at ws m (length ws) i → i < length ws
+    → Laying l at ws (set m (at + i) (get_or ws i 0)) (length ws) (i + 1)
+words-next l at ws m i k h = laying-next l at ws m (length ws) i k (get_or ws i 0) 0 refl h
+
+pub ruleset words_laws = (words-start, words-end, words-next, laying-inside, laying-room, laying-length)
 
 -- ---- levels
 pub level_said : (st : List ℕ) (l : ℕ)
