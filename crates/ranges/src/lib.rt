@@ -10,6 +10,7 @@ ghost use Rattle.ranges.specs.Ranges.{end_of, pairs, lower_ranges};
 ghost use Rattle.emit.specs.inner.Puts.{Puts};
 
 use limits::MOST_WORDS;
+use octets::put;
 use reply::{Answer, Cause, Refusal};
 
 // The kind whose ends stay: an enum's reserved ranges include them. A number and no enum: C passes it (`opt_ranges`).
@@ -35,7 +36,8 @@ fn put_range(out: &mut [i32], at: usize, start: i32, end: i32)
     requires { at < 2 ^ 63 }
     ensures { out.new ≡ sets out.old at (start ∷ end ∷ []) }
 {
-    octets::put_all(out, at, &[start, end]);
+    put(out, at, start);
+    put(out, at + 1, end);
 }
 
 // The lowered ranges from the front on, as far as there is room.
