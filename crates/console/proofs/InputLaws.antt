@@ -12,6 +12,7 @@ use Rattle.inputs.proofs.DueLaws.{due-leaf}
 use Rattle.inputs.proofs.WordLaws.{words_count}
 use Rattle.console.specs.Input.{Fills}
 use Rattle.console.proofs.OutputLaws.{front_laws}
+use Rattle.console.proofs.CaseLaws.{answers_same}
 use Rattle.field.specs.declared.Span.{Span}
 
 -- ---- the ways through `has_size` and `has_words`
@@ -39,4 +40,4 @@ payload-holds k s at end r q u g size b p t =
 pub input-within : (r : Option ℕ) (room : ℕ) → Fills r room → (n : ℕ) → r ≡ Some n → n ≤ room
 input-within r room f n e = rw e at f
 
-pub ruleset input_laws = (leaf-ordered, leaf_inside, payload-holds, input-within, words_count, not-true, not-false, front_laws)
+pub ruleset input_laws = (leaf-ordered, leaf_inside, payload-holds, input-within, words_count, not-true, not-false, front_laws, answers_same)

@@ -1,8 +1,8 @@
 // The fields that a program is given. Where the input is not what the program names, one line that begins `input: ` says what is
 // wrong and where, and nothing after that place is answered.
-ghost use Rattle.std.specs.Prelude.{◌≡◌, ℕ, ◌-◌, ◌%◌, ◌≤◌, eqb, length, Option, IfSome};
+ghost use Rattle.std.specs.Prelude.{◌≡◌, ◌-◌, ◌%◌, ◌≤◌, eqb, length};
 ghost use Rattle.field.specs.Leaf.{any_bytes, leaf_at};
-ghost use Rattle.console.specs.Input.{Fills};
+ghost use Rattle.console.specs.Input.{AnswersCases, Fills};
 
 use crate::output::{hex_byte, number, text};
 use field::Span;
@@ -37,10 +37,10 @@ fn read_by(buffer: &mut [u8], out: &mut [u8]) -> Option<usize>
 }
 
 // Answers the cases of an input of `end` bytes one after the other, of which there has to be one: each says where the next one starts, none
-// where it is no such fields.
-pub fn each_case<F: Fn(usize) -> Option<usize>>(end: usize, answer: F)
-    requires callable { (at : ℕ) → at ≤ end → F.pre answer at }
-    requires inside { (at : ℕ) (next : Option ℕ) → F.post answer at next → IfSome next (λ place. place ≤ end) }
+// where it is no such fields. The closure may hold room that is lent to each case in its turn.
+#[tactic(auto, using(crate::proofs::CaseLaws::each_case_laws))]
+pub fn each_case<F: FnMut(usize) -> Option<usize>>(end: usize, mut answer: F)
+    requires { AnswersCases F.FnMut end answer }
 {
     let mut at = 0;
     while let Some(next) = answer(at) {

@@ -25,40 +25,36 @@ fn answer_over(sheet: &[u8], options_type: &[u8], bytes: &[u8], words: &mut [u32
     }
 }
 
-// The answer for these, with room for its words.
-fn answer_case(sheet: &[u8], options_type: &[u8], bytes: &[u8]) {
-    let mut words = [0u32; ROOM];
-    answer_over(sheet, options_type, bytes, &mut words);
-}
-
 // The case at a place, and where the next one starts, none where the input is no such fields.
 #[tactic(auto, using(crate::proofs::CaseLaws::case_laws))]
-fn list_case(s: &[u8], at: usize) -> Option<usize>
+fn list_case(s: &[u8], at: usize, words: &mut [u32]) -> Option<usize>
     requires { at ≤ length s.now }
     ensures { IfSome result (λ next. next ≤ length s.now) }
 {
     let sheet = field_of(s, at, SHEET)?;
     let options_type = field_of(s, sheet.to, OPTIONS_TYPE)?;
     let bytes = field_of(s, options_type.to, OPTION_BYTES)?;
-    answer_case(
+    answer_over(
         &s[sheet.from..sheet.to],
         &s[options_type.from..options_type.to],
         &s[bytes.from..bytes.to],
+        words,
     );
     Some(bytes.to)
 }
 
 // Standard input, read into a lent buffer.
 #[tactic(auto, using(crate::proofs::CaseLaws::case_laws))]
-fn run_over(buffer: &mut [u8]) {
+fn run_over(buffer: &mut [u8], words: &mut [u32]) {
     let Some(n) = console::input::read(buffer) else {
         return;
     };
     let s = &buffer[..n];
-    each_case(s.len(), |at| list_case(s, at));
+    each_case(s.len(), |at| list_case(s, at, words));
 }
 
 fn main() {
     let mut buffer = [0u8; MOST_BYTES];
-    run_over(&mut buffer);
+    let mut words = [0u32; ROOM];
+    run_over(&mut buffer, &mut words);
 }

@@ -14,40 +14,36 @@ const REQUEST: u8 = 0x41;
 // The room that is lent for the option bytes of a case.
 const ROOM: usize = 65_536;
 
-// The answer for these, with room for its option bytes.
-fn answer_case(sheet: &[u8], request: &[u8]) {
-    let mut out = [0u8; ROOM];
-    answer_over(sheet, request, &mut out);
-}
-
-fn answer_over(sheet: &[u8], request: &[u8], out: &mut [u8]) {
+// One case, its option bytes in lent room.
+fn answer_case(sheet: &[u8], request: &[u8], out: &mut [u8]) {
     let answer = resolver::resolve(sheet, request, out);
     option_bytes(answer, out);
 }
 
 // The case at a place, and where the next one starts, none where the input is no such fields.
 #[tactic(auto, using(crate::proofs::CaseLaws::case_laws))]
-fn resolve_case(s: &[u8], at: usize) -> Option<usize>
+fn resolve_case(s: &[u8], at: usize, out: &mut [u8]) -> Option<usize>
     requires { at ≤ length s.now }
     ensures { IfSome result (λ next. next ≤ length s.now) }
 {
     let sheet = field_of(s, at, SHEET)?;
     let request = field_of(s, sheet.to, REQUEST)?;
-    answer_case(&s[sheet.from..sheet.to], &s[request.from..request.to]);
+    answer_case(&s[sheet.from..sheet.to], &s[request.from..request.to], out);
     Some(request.to)
 }
 
 // Standard input, read into a lent buffer.
 #[tactic(auto, using(crate::proofs::CaseLaws::case_laws))]
-fn run_over(buffer: &mut [u8]) {
+fn run_over(buffer: &mut [u8], out: &mut [u8]) {
     let Some(n) = console::input::read(buffer) else {
         return;
     };
     let s = &buffer[..n];
-    each_case(s.len(), |at| resolve_case(s, at));
+    each_case(s.len(), |at| resolve_case(s, at, out));
 }
 
 fn main() {
     let mut buffer = [0u8; MOST_BYTES];
-    run_over(&mut buffer);
+    let mut out = [0u8; ROOM];
+    run_over(&mut buffer, &mut out);
 }

@@ -7,3 +7,6 @@ use Rattle.optlist.proofs.main.Goals as goal
 
 pub slice_bounds-run_over-end : goal.slice_bounds-run_over-end
 slice_bounds-run_over-end c = sym (length-replicate {A = ℕ} 131076 0)
+
+pub slice_bounds-run_over-end-2 : goal.slice_bounds-run_over-end-2
+slice_bounds-run_over-end-2 c = sym (length-replicate {A = ℕ} 524288 0)

@@ -1,9 +1,0 @@
--- `optlist::answer_case` meets its contract. The room's length is a law and not computed: its words take antt seconds.
--- Assumes nothing.
-use Rattle.std.specs.Prelude.{ℕ}
-use Rattle.basis.specs.Kit.{sym}
-use lib.ListN.{length-replicate}
-use Rattle.optlist.proofs.answer_case.Goals as goal
-
-pub slice_bounds-answer_over-end : goal.slice_bounds-answer_over-end
-slice_bounds-answer_over-end c = sym (length-replicate {A = ℕ} 524288 0)
