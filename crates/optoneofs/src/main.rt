@@ -23,7 +23,7 @@ fn lower(numbering: u32, payload: &[u8]) {
     }
 }
 
-// The words at a place, in a numbering, and where the next case starts; 0 where the input is no such field.
+// The words at a place, in a numbering, and where the next case starts; none where the input is no such field.
 #[tactic(auto, using(console::proofs::InputLaws::input_laws))]
 fn lower_words(numbering: u32, s: &[u8], at: usize) -> Option<usize>
     requires { at ≤ length s.now }
