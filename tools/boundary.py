@@ -5,10 +5,11 @@ usage: boundary.py
 
 Run it from the root of the repository. No proof reaches a declaration in C or Rust, so this compares them as texts. Each function has to
 have the same slices and numbers, by name, type and order, in crates/optc/src/lib.rt, in the header and in bindings/rust/src/sys.rs, and
-the archive, where `rt lib` in crates/optc has written it, has to define these functions and no others; the answer's six numbers are those
-of crates/reply. Numbers, second words and names of the replies have to be those of crates/reply in the header, in include/opt_words.h, in
-bindings/rust and in README.md, and the words of the last three the same. The headers are compiled as C and as C++, without a warning.
-Prints what differs, and a line that says what was compared; the exit code is 1 where something differs.
+the archive, where `rt lib` in crates/optc has written it, has to define these functions and no others, and to need nothing but `memcpy`
+and `memset`; the answer's six numbers are those of crates/reply. Numbers, second words and names of the replies have to be those of
+crates/reply in the header, in include/opt_words.h, in bindings/rust and in README.md, and the words of the last three the same. The
+headers are compiled as C and as C++, without a warning. Prints what differs, and a line that says what was compared; the exit code is 1
+where something differs.
 """
 import os
 import re
@@ -18,6 +19,7 @@ import sys
 EXPORT = r'#\[unsafe\(no_mangle\)\]\npub extern "C" fn (\w+)\(([^)]*)\) -> Answer'
 C_TYPES = {"u8": "uint8_t", "u32": "uint32_t", "i32": "int32_t", "u64": "uint64_t"}
 ARCHIVE = "crates/optc/out/liboptc.a"
+NEEDED = ["memcpy", "memset"]
 
 
 def text(path):
@@ -77,6 +79,7 @@ def functions(differ):
     if os.path.exists(ARCHIVE):
         listed = subprocess.run(["nm", ARCHIVE], stdout=subprocess.PIPE, encoding="ascii", check=True).stdout
         differ("functions of " + ARCHIVE, sorted(re.findall(r" T (\w+)", listed)), sorted(ours))
+        differ("what %s needs" % ARCHIVE, sorted(set(re.findall(r" U (\w+)", listed))), NEEDED)
     return "%d functions%s" % (len(ours), "" if os.path.exists(ARCHIVE) else " (no archive there, not compared)")
 
 
