@@ -5,7 +5,7 @@
  * no elements; with any other count the pointer has to lead to that many elements, which `words` want aligned as uint32_t is. Inputs are
  * only read. `out` is lent memory: it may not overlap an input, a refusal and Absent leave it as it was, and on OPT_DONE the elements from
  * its start on, `length` of them, are written, and no others. No call keeps a pointer, allocates, or holds anything between calls, so any
- * number of threads may call at once. Leave 64 KB of stack: 42 KB were measured of opt_clean, 15 KB of opt_resolve, less of the others.
+ * number of threads may call at once. Leave 64 KB of stack: 42 KB were measured of opt_clean, 18 KB of opt_resolve, less of the others.
  *
  * Every input has an answer: nothing is asked of sheets, requests, names or bytes, well-formed or not. What each call answers is proved of
  * the code behind it (docs/PROMISES.md); that the declarations below are those of the code is tested by runs, and not proved. */
